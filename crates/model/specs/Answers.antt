@@ -1,0 +1,78 @@
+-- What each answer says in document 01's numbers: the refusal's number and place, or 0 and 0; and the values of an answer in order.
+use Prim.Native.Nat.{ℕ}
+use mathlib.Core.Bool.{Bool, true, false}
+use mathlib.Core.List.{List, [], _∷_}
+use Rattle.model.specs.declared.Refusal.{Refusal}
+use Rattle.model.specs.declared.Verdict.{Verdict}
+use Rattle.model.specs.declared.Verdict.the-variants.{Accepted, Refused}
+use Rattle.model.specs.declared.ReadAnswer.{ReadAnswer}
+use Rattle.model.specs.declared.ReadAnswer.the-variants.{Read, Refused as ReadRefused}
+use Rattle.model.specs.declared.WriteAnswer.{WriteAnswer}
+use Rattle.model.specs.declared.WriteAnswer.the-variants.{Written, Refused as WriteRefused}
+use Rattle.model.specs.declared.CountAnswer.{CountAnswer}
+use Rattle.model.specs.declared.CountAnswer.the-variants.{Cues, Refused as CountRefused}
+use Rattle.model.specs.declared.LocateAnswer.{LocateAnswer}
+use Rattle.model.specs.declared.LocateAnswer.the-variants.{Found, Refused as LocateRefused}
+use Rattle.model.specs.declared.NumberAnswer.{NumberAnswer}
+use Rattle.model.specs.declared.NumberAnswer.the-variants.{Number, Refused as NumberRefused}
+use Rattle.model.specs.declared.ListAnswer.{ListAnswer}
+use Rattle.model.specs.declared.ListAnswer.the-variants.{Page, Refused as ListRefused}
+use Rattle.model.specs.declared.FewestAnswer.{FewestAnswer}
+use Rattle.model.specs.declared.FewestAnswer.the-variants.{Steps, None, Refused as FewestRefused}
+
+pub record Returned : Type 0 where
+  pub number : ℕ
+  pub place : ℕ
+  pub values : List ℕ
+
+-- "returned (number, place)": a refusal has no values.
+unfoldable pub returned : Refusal → Returned
+returned r = record { number = r .number; place = r .place; values = [] }
+
+-- An answer is no refusal.
+unfoldable pub given : List ℕ → Returned
+given vs = record { number = 0; place = 0; values = vs }
+
+unfoldable pub flag : Bool → ℕ
+flag true = 1
+flag false = 0
+
+unfoldable pub ofVerdict : Verdict → Returned
+ofVerdict Accepted = given []
+ofVerdict (Refused r) = returned r
+
+-- "Read a file to rows, giving rows, blocks and cues".
+unfoldable pub ofRead : ReadAnswer → Returned
+ofRead (Read rows blocks cues) = given (rows ∷ blocks ∷ cues ∷ [])
+ofRead (ReadRefused r) = returned r
+
+-- "write rows as a file, giving its length".
+unfoldable pub ofWrite : WriteAnswer → Returned
+ofWrite (Written bytes) = given (bytes ∷ [])
+ofWrite (WriteRefused r) = returned r
+
+-- "Count: the total of the show."
+unfoldable pub ofCount : CountAnswer → Returned
+ofCount (Cues n) = given (n ∷ [])
+ofCount (CountRefused r) = returned r
+
+-- "Locate n: depth, block and own cue".
+unfoldable pub ofLocate : LocateAnswer → Returned
+ofLocate (Found depth block own) = given (depth ∷ block ∷ own ∷ [])
+ofLocate (LocateRefused r) = returned r
+
+-- "Number of a path and an own cue: the number."
+unfoldable pub ofNumber : NumberAnswer → Returned
+ofNumber (Number n) = given (n ∷ [])
+ofNumber (NumberRefused r) = returned r
+
+-- "how many were written; "more" exactly if a further one exists".
+unfoldable pub ofList : ListAnswer → Returned
+ofList (Page written more) = given (written ∷ flag more ∷ [])
+ofList (ListRefused r) = returned r
+
+-- "Fewest from s to t: a number, or none": whether there is one, and the number, 0 where there is none.
+unfoldable pub ofFewest : FewestAnswer → Returned
+ofFewest (Steps n) = given (1 ∷ n ∷ [])
+ofFewest None = given (0 ∷ 0 ∷ [])
+ofFewest (FewestRefused r) = returned r

@@ -1,0 +1,40 @@
+-- Chains and the fewest follow-ons. Document 01, "Unfolding". In the field's terms: walks and the distance from s to t.
+use Prim.Native.Nat.{ℕ, zero, suc}
+use mathlib.Core.Bool.{Bool, true, false}
+use mathlib.Core.List.{List, [], _∷_, List·Memᴰ}
+use lib.Dec.{eqb}
+use Rattle.model.specs.Blocks.{Link}
+
+-- The links that a chain may have: all of them. "All labels count as follow-ons."
+abbrev pub followed : List Link → List Link
+followed E = E
+
+-- Chain E t s n is a chain of n of the links E from s to t: the empty one from t to itself, or a link that starts at s and then a
+-- chain from where it ended.
+pub data Chain (E : List Link) (t : ℕ) : ℕ → ℕ → Type 0 where
+  here : Chain E t t 0
+  link : {n : ℕ} (l : Link) → List·Memᴰ l E → Chain E t (l .to) n → Chain E t (l .from) (suc n)
+
+-- "Fewest from s to t: a number, or none."
+pub data Distance : Type 0 where
+  Far : ℕ → Distance
+  Unreachable : Distance
+
+unfoldable pub isIn : ℕ → List ℕ → Bool
+isIn v [] = false
+isIn v (x ∷ xs) = elim (eqb v x) [ true ↦ true | false ↦ isIn v xs ]
+
+-- Where the links lead that start at one of some cues.
+unfoldable pub spread : List Link → List ℕ → List ℕ
+spread [] cs = []
+spread (l ∷ E) cs = elim (isIn (l .from) cs) [ true ↦ l .to ∷ spread E cs | false ↦ spread E cs ]
+
+-- The least of the lengths n, n + 1, .. that a chain to t has, where cs are the cues that chains of length n lead to.
+unfoldable pub searchFrom : List Link → ℕ → ℕ → ℕ → List ℕ → Distance
+searchFrom E t zero n cs = Unreachable
+searchFrom E t (suc many) n cs = elim (isIn t cs) [ true ↦ Far n | false ↦ searchFrom E t many (suc n) (spread E cs) ]
+
+-- The length of the shortest chain from s to t among so many cues. A chain that repeats no cue has fewer links than there are cues,
+-- so longer ones need no search.
+unfoldable pub fewest : List Link → ℕ → ℕ → ℕ → Distance
+fewest E cues s t = searchFrom (followed E) t cues 0 (s ∷ [])
