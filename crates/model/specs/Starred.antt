@@ -7,12 +7,14 @@ use lib.ListN.{replicate, drop}
 use Rattle.model.specs.Limits.{maxDepth, workSize, noChain}
 use Rattle.model.specs.Blocks.{Link, blocksOf, total}
 use Rattle.model.specs.Unfolding.{showLinks}
-use Rattle.model.specs.Rows.{rowsOf, fileText}
 use Rattle.model.specs.Verdicts.{refusal}
-use Rattle.model.specs.Questions.{Outcome, readAsked, countAsked, locateAsked, numberAsked, outAsked, fewestAsked}
-use Rattle.model.specs.Ring.{ring, opening}
+use Rattle.model.specs.Summaries.{summary}
+use Rattle.model.specs.Questions.{Outcome, readAsked, writeAsked, countAsked, locateAsked, numberAsked, outAsked, fewestAsked}
+use Rattle.model.specs.Ring.{ring, ringFile, opening}
+use Rattle.model.specs.declared.ReadAnswer.the-variants.{Read}
+use Rattle.model.specs.declared.WriteAnswer.the-variants.{Written}
 use Rattle.model.specs.declared.CountAnswer.the-variants.{Cues, Refused as CountRefused}
-use Rattle.model.specs.declared.LocateAnswer.the-variants.{Found}
+use Rattle.model.specs.declared.LocateAnswer.the-variants.{Found, Refused as LocateRefused}
 use Rattle.model.specs.declared.NumberAnswer.the-variants.{Number}
 use Rattle.model.specs.declared.ListAnswer.the-variants.{Page}
 use Rattle.model.specs.declared.FewestAnswer.the-variants.{Steps}
@@ -20,6 +22,9 @@ use Rattle.model.specs.declared.FewestAnswer.the-variants.{Steps}
 -- Lent lists hold 7s before the call, so that a place which must not change is seen.
 abbrev pub lentPath : List ℕ
 lentPath = replicate maxDepth 7
+
+abbrev pub arrow : ℕ → ℕ → ℕ → Link
+arrow from to label = record { from = from; to = to; label = label }
 
 pub record Starred : Type 0 where
   -- "totals 1, 3, 5 for blocks 0, 1, 2"
@@ -46,3 +51,16 @@ pub record Starred : Type 0 where
   -- "a single opening row 0,0,0,1,... has one cue; with own 0: refusal 9 at row 1"
   pub single : countAsked (opening 1) ≡ Cues 1
   pub empty : countAsked (opening 0) ≡ CountRefused (refusal 9 1)
+  -- Beside the starred ones: "For the ring show it prints all of this"; "cue 6 and cue 0: refusal 12"; the summaries of blocks 0, 1
+  -- and 2; the file, read and written.
+  pub follow-ons : showLinks (blocksOf ring) ≡ arrow 2 1 2 ∷ arrow 4 2 1 ∷ arrow 3 4 1 ∷ arrow 5 3 1 ∷ arrow 1 5 1 ∷ []
+  pub cue-6 : locateAsked ring 6 lentPath ≡ record { answer = LocateRefused (refusal 12 0); after = lentPath }
+  pub cue-0 : locateAsked ring 0 lentPath ≡ record { answer = LocateRefused (refusal 12 0); after = lentPath }
+  pub through-0 : summary (blocksOf ring) 0 1 2 ≡ 2
+  pub through-1 : summary (blocksOf ring) 1 1 2 ≡ 4
+  pub back-1 : summary (blocksOf ring) 1 2 1 ≡ noChain
+  pub itself-1 : summary (blocksOf ring) 1 2 2 ≡ 0
+  pub lacking-1 : summary (blocksOf ring) 1 3 3 ≡ noChain
+  pub show-2 : summary (blocksOf ring) 2 1 1 ≡ noChain
+  pub read : readAsked ringFile (replicate 100 7) ≡ record { answer = Read 9 3 5; after = ring ++ (7 ∷ []) }
+  pub write : writeAsked ring (replicate 232 7) ≡ record { answer = Written 231; after = ringFile ++ (7 ∷ []) }

@@ -1,0 +1,2 @@
+-- What the laws are stated with.
+pub mod WellFormed

@@ -1,0 +1,1 @@
+// Laws of the model: no function, only proofs.
