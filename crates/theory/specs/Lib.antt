@@ -1,2 +1,3 @@
 -- What the laws are stated with.
 pub mod WellFormed
+pub mod Accepted
