@@ -1,10 +1,10 @@
 -- What each answer says in document 01's numbers: the refusal's number and place, or 0 and 0; and the values of an answer in order.
+-- "If an answer is an enum, a definition gives this paper's number and values for every case of the enum, and the promises use that
+-- definition."
 use Prim.Native.Nat.{ℕ}
 use mathlib.Core.Bool.{Bool, true, false}
 use mathlib.Core.List.{List, [], _∷_}
 use Rattle.model.specs.declared.Refusal.{Refusal}
-use Rattle.model.specs.declared.Verdict.{Verdict}
-use Rattle.model.specs.declared.Verdict.the-variants.{Accepted, Refused}
 use Rattle.model.specs.declared.ReadAnswer.{ReadAnswer}
 use Rattle.model.specs.declared.ReadAnswer.the-variants.{Read, Refused as ReadRefused}
 use Rattle.model.specs.declared.WriteAnswer.{WriteAnswer}
@@ -36,10 +36,6 @@ given vs = record { number = 0; place = 0; values = vs }
 unfoldable pub flag : Bool → ℕ
 flag true = 1
 flag false = 0
-
-unfoldable pub ofVerdict : Verdict → Returned
-ofVerdict Accepted = given []
-ofVerdict (Refused r) = returned r
 
 -- "Read a file to rows, giving rows, blocks and cues".
 unfoldable pub ofRead : ReadAnswer → Returned

@@ -1,6 +1,7 @@
 -- Blocks, links and uses, and totals. Document 01, "The show file" and "Unfolding".
 -- In the field's terms a show is a straight-line hyperedge replacement grammar: a block is a rule, its joins are the external
--- nodes of the rule's right-hand side, a link is a terminal edge and a use is a nonterminal edge. The last block is the start graph.
+-- nodes of the rule's right-hand side and its own cues the internal ones, a link is a terminal edge and a use is a nonterminal edge.
+-- The last block is the start graph.
 use Prim.Native.Nat.{ℕ, zero, suc, _+_, _-_}
 use mathlib.Core.Bool.{Bool, true, false}
 use mathlib.Core.List.{List, [], _∷_, _++_}
@@ -29,13 +30,18 @@ pub record Block : Type 0 where
 
 -- A show is its blocks, the last one first, so that what a block means follows from the blocks behind it in the list.
 -- Block k of a list is the one with k blocks behind it.
+unfoldable pub noBlock : Block
+noBlock = record { joins = 0; own = 0; links = []; uses = [] }
+
+unfoldable pub blockAt : List Block → ℕ → Block
+blockAt [] k = noBlock
+blockAt (b ∷ earlier) k = elim (eqb k (length earlier)) [ true ↦ b | false ↦ blockAt earlier k ]
+
 unfoldable pub joinsOf : List Block → ℕ → ℕ
-joinsOf [] k = 0
-joinsOf (b ∷ earlier) k = elim (eqb k (length earlier)) [ true ↦ b .joins | false ↦ joinsOf earlier k ]
+joinsOf bs k = blockAt bs k .joins
 
 unfoldable pub ownOf : List Block → ℕ → ℕ
-ownOf [] k = 0
-ownOf (b ∷ earlier) k = elim (eqb k (length earlier)) [ true ↦ b .own | false ↦ ownOf earlier k ]
+ownOf bs k = blockAt bs k .own
 
 -- What a row adds: a block, or a link or a use of the current block.
 unfoldable pub addLink : Link → List Block → List Block

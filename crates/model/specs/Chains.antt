@@ -9,8 +9,9 @@ use Rattle.model.specs.Blocks.{Link}
 abbrev pub followed : List Link → List Link
 followed E = E
 
--- Chain E t s n is a chain of n of the links E from s to t: the empty one from t to itself, or a link that starts at s and then a
--- chain from where it ended.
+-- Chain E t s n is a chain from s to t that has n of the links E. "A chain from s to t in an unfolding is a list of its links: the
+-- first starts at s, each next one where the one before ended, and the last ends at t. Its length is how many links the list has. The
+-- empty list is a chain from each cue to itself, and never from one cue to a different one."
 pub data Chain (E : List Link) (t : ℕ) : ℕ → ℕ → Type 0 where
   here : Chain E t t 0
   link : {n : ℕ} (l : Link) → List·Memᴰ l E → Chain E t (l .to) n → Chain E t (l .from) (suc n)
@@ -24,17 +25,17 @@ unfoldable pub isIn : ℕ → List ℕ → Bool
 isIn v [] = false
 isIn v (x ∷ xs) = elim (eqb v x) [ true ↦ true | false ↦ isIn v xs ]
 
--- Where the links lead that start at one of some cues.
-unfoldable pub spread : List Link → List ℕ → List ℕ
-spread [] cs = []
-spread (l ∷ E) cs = elim (isIn (l .from) cs) [ true ↦ l .to ∷ spread E cs | false ↦ spread E cs ]
+-- The cues that links lead to from some cues.
+unfoldable pub successors : List Link → List ℕ → List ℕ
+successors [] cs = []
+successors (l ∷ E) cs = elim (isIn (l .from) cs) [ true ↦ l .to ∷ successors E cs | false ↦ successors E cs ]
 
--- The least of the lengths n, n + 1, .. that a chain to t has, where cs are the cues that chains of length n lead to.
+-- The least of the lengths n, n + 1, .. (so many are tried) that a chain to t has, where cs are the cues that chains of length n lead to.
 unfoldable pub searchFrom : List Link → ℕ → ℕ → ℕ → List ℕ → Distance
 searchFrom E t zero n cs = Unreachable
-searchFrom E t (suc many) n cs = elim (isIn t cs) [ true ↦ Far n | false ↦ searchFrom E t many (suc n) (spread E cs) ]
+searchFrom E t (suc many) n cs = elim (isIn t cs) [ true ↦ Far n | false ↦ searchFrom E t many (suc n) (successors E cs) ]
 
 -- The length of the shortest chain from s to t among so many cues. A chain that repeats no cue has fewer links than there are cues,
--- so longer ones need no search.
+-- so longer ones need no search. That it is the length of a chain, and none is shorter, is a theorem (crates/theory).
 unfoldable pub fewest : List Link → ℕ → ℕ → ℕ → Distance
 fewest E cues s t = searchFrom (followed E) t cues 0 (s ∷ [])

@@ -1,4 +1,5 @@
--- Choice by a test. Every case of a definition is picked by one of these, so that a proof can take the cases one at a time.
+-- Choice by a test. A definition whose cases code takes one after another is written with these: they stay as they stand until a
+-- proof opens them, so it can take one case at a time. (A recursion stops by a case split of its own.)
 use Prim.Native.Nat.{ℕ}
 use mathlib.Core.Bool.{Bool, cond}
 use lib.Dec.{eqb, ltb}

@@ -1,4 +1,5 @@
--- What a reader must believe, in the order of document 01. Each definition names the sentence that it stands for.
+-- What a reader must believe, in the order in which document 01 is best followed: the file, the rows and their checks, blocks, the
+-- unfolding, numbers, lists, chains, and the questions. Quotations in comments are from document 01.
 pub mod Choice
 pub mod Limits
 pub mod Text
@@ -13,5 +14,6 @@ pub mod Chains
 pub mod Summaries
 pub mod Answers
 pub mod Questions
+pub mod Printed
 pub mod Ring
 pub mod Starred

@@ -45,7 +45,7 @@ abbrev pub workSize : ℕ
 workSize = 16384
 
 -- "its first 64 × blocks numbers hold the summaries", "at place 64 × k + 8 × (i − 1) + (j − 1)": how many numbers a block's summary has,
--- and how many of them each join.
+-- and how many of them belong to each join.
 abbrev pub summarySize : ℕ
 summarySize = 64
 

@@ -21,13 +21,17 @@ unfoldable pub keep : (ℕ → Bool) → List ℕ → List ℕ
 keep test [] = []
 keep test (x ∷ xs) = ifTrue (test x) (x ∷ keep test xs) (keep test xs)
 
--- "List out, or in, of cue v after n": those of the numbers n + 1 to the count that are linked to v.
-unfoldable pub outAfter : List Link → ℕ → ℕ → ℕ → List ℕ
-outAfter E cues v n = keep (λ u. isLinked E v u) (range (suc n) (cues - n))
+-- "the smallest linked cues greater than n, each once, rising": those of the numbers n + 1 to the count that pass a test.
+unfoldable pub cuesAfter : (ℕ → Bool) → ℕ → ℕ → List ℕ
+cuesAfter test cues n = keep test (range (suc n) (cues - n))
 
-unfoldable pub inAfter : List Link → ℕ → ℕ → ℕ → List ℕ
-inAfter E cues v n = keep (λ u. isLinked E u v) (range (suc n) (cues - n))
+-- "List out, or in, of cue v": the cues that a link leads to from v, or from to v. In the field's terms: successors and predecessors.
+unfoldable pub isOut : List Link → ℕ → ℕ → Bool
+isOut E v u = isLinked E v u
+
+unfoldable pub isInto : List Link → ℕ → ℕ → Bool
+isInto E v u = isLinked E u v
 
 -- "Only the needed beginning of the lent output changes"; "the rest unchanged".
-unfoldable pub laid : List ℕ → List ℕ → List ℕ
-laid xs lent = xs ++ drop (length xs) lent
+unfoldable pub overwrite : List ℕ → List ℕ → List ℕ
+overwrite xs lent = xs ++ drop (length xs) lent

@@ -8,7 +8,8 @@ use lib.Dec.{eqb}
 use Rattle.model.specs.Choice.{ifLt, ifEq}
 use Rattle.model.specs.Blocks.{Use, Block, total}
 
--- "Number of a path and an own cue: the number." 0 stands for none, since numbers begin at 1.
+-- "Number of a path and an own cue: the number." 0 stands for none, since numbers begin at 1. "001's formula for the vertex number
+-- decides": base is what 001 calls first, the numbers given before the copy.
 
 -- Own cue c of a copy whose own cues follow base.
 unfoldable pub ownNumber : ℕ → ℕ → ℕ → ℕ
@@ -42,16 +43,18 @@ pub record Place : Type 0 where
 unfoldable pub nowhere : Place
 nowhere = record { path = []; block = 0; own = 0 }
 
-unfoldable pub behind : ℕ → Place → Place
-behind p q = record { path = p ∷ q .path; block = q .block; own = q .own }
+-- One step more in front of a path.
+unfoldable pub stepThen : ℕ → Place → Place
+stepThen p q = record { path = p ∷ q .path; block = q .block; own = q .own }
 
 -- Cue n of the copies of some uses, the first of which is the p-th of its block.
 unfoldable pub usesPlace : (ℕ → ℕ) → (ℕ → ℕ → Place) → ℕ → ℕ → List Use → Place
 usesPlace size below p n [] = nowhere
 usesPlace size below p n (u ∷ us) =
-    ifLt (size (u .block)) n (usesPlace size below (suc p) (n - size (u .block)) us) (behind p (below (u .block) n))
+    ifLt (size (u .block)) n (usesPlace size below (suc p) (n - size (u .block)) us) (stepThen p (below (u .block) n))
 
--- Where cue n of a copy of block k is, n counted from 1 in the copy: among its own cues, which come first, or in one of its uses.
+-- Where cue n of a copy of block k is, n counted from 1 in the copy: among its own cues, which come first, or in one of its uses. (The
+-- last own cue is one too: "less than" in Algorithm 2 of source document 000 loses it.)
 unfoldable pub placeIn : List Block → ℕ → ℕ → Place
 placeIn [] k n = nowhere
 placeIn (b ∷ earlier) k n =

@@ -1,5 +1,5 @@
 -- Checks 5 to 8 of one row. Document 01, "The show file" and "Refusals by number".
-use Prim.Native.Nat.{ℕ, zero, suc, _+_, _-_}
+use Prim.Native.Nat.{ℕ, _+_, _-_}
 use mathlib.Core.Bool.{Bool, true, false, not}
 use mathlib.Core.List.{List, [], _∷_, _++_}
 use lib.ListN.{length, getD, take, drop}
@@ -14,6 +14,7 @@ pub record Seen : Type 0 where
   pub own : ℕ
   pub before : Row
 
+-- Before the first row. What stands for the row before it is looked at by no check that the first row can reach.
 unfoldable pub start : Seen
 start = record { joins = []; own = 0; before = record { block = 0; kind = 0; label = 0; columns = [] } }
 
@@ -21,7 +22,7 @@ start = record { joins = []; own = 0; before = record { block = 0; kind = 0; lab
 unfoldable pub cuesIn : Seen → ℕ
 cuesIn s = s .own + getD (s .joins) (length (s .joins) - 1) 0
 
--- Check 5: "block number or kind isn't one that may follow here". "Blocks run 0, 1, 2 and on without a gap, at most 128."
+-- "Blocks run 0, 1, 2 and on without a gap, at most 128."
 unfoldable pub mayOpen : Seen → Row → Bool
 mayOpen s w = ifEq (w .block) (length (s .joins)) (ifLt (length (s .joins)) maxBlocks true false) false
 
@@ -29,7 +30,7 @@ mayOpen s w = ifEq (w .block) (length (s .joins)) (ifLt (length (s .joins)) maxB
 unfoldable pub goesOn : Seen → Row → Bool
 goesOn s w = ifEq (w .block + 1) (length (s .joins)) true false
 
--- "A block's rows are its opening, its links, its uses."
+-- Check 5: "block number or kind isn't one that may follow here". "A block's rows are its opening, its links, its uses."
 unfoldable pub mayFollow : Seen → Row → Bool
 mayFollow s w =
     ifEq (w .kind) 0 (mayOpen s w)
@@ -37,12 +38,13 @@ mayFollow s w =
     (ifEq (w .kind) 2 (goesOn s w) false))
 
 -- How many columns carry a value: a of an opening, a and b of a link, of a use "as many as that block has joins". The others are idle.
-unfoldable pub busy : Seen → Row → ℕ
-busy s w = ifEq (w .kind) 0 1 (ifEq (w .kind) 1 2 (getD (s .joins) (w .label) 0))
+-- (From here on a kind is 0, 1 or 2: check 5 lets no other through.)
+unfoldable pub columnsUsed : Seen → Row → ℕ
+columnsUsed s w = ifEq (w .kind) 0 1 (ifEq (w .kind) 1 2 (getD (s .joins) (w .label) 0))
 
 -- The cues that a link or a use names.
 unfoldable pub named : Seen → Row → List ℕ
-named s w = ifEq (w .kind) 0 [] (take (busy s w) (w .columns))
+named s w = ifEq (w .kind) 0 [] (take (columnsUsed s w) (w .columns))
 
 -- Every number of a list passes a test.
 unfoldable pub every : (ℕ → Bool) → List ℕ → Bool
@@ -72,14 +74,14 @@ unfoldable pub inRange : Seen → Row → Bool
 inRange s w =
     ifTrue (labelFits w)
     (ifTrue (ownFits w)
-    (ifTrue (every (isCue (cuesIn s)) (named s w)) (every isZero (drop (busy s w) (w .columns))) false)
+    (ifTrue (every (isCue (cuesIn s)) (named s w)) (every isZero (drop (columnsUsed s w) (w .columns))) false)
     false)
     false
 
--- Check 7: "a cue named twice in a link or use".
 unfoldable pub differs : ℕ → ℕ → Bool
 differs x y = ifEq x y false true
 
+-- Check 7: "a cue named twice in a link or use". Condition C1 of source document 000.
 unfoldable pub distinct : List ℕ → Bool
 distinct [] = true
 distinct (x ∷ xs) = ifTrue (every (differs x) xs) (distinct xs) false

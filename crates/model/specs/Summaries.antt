@@ -1,12 +1,13 @@
--- Summaries and the work area. Document 01, "Questions", on fewest.
+-- Summaries and the work area. Document 01, "Questions", on fewest. In the field's terms: the distances between the external nodes of
+-- each rule.
 use Prim.Native.Nat.{ℕ, suc, _+_, _*_, _-_}
 use mathlib.Core.List.{List, _++_, map, flatMap}
-use lib.ListN.{length, drop, replicate}
+use lib.ListN.{length, replicate}
 use Rattle.model.specs.Choice.{ifLt}
 use Rattle.model.specs.Limits.{summarySize, summaryWidth, workSize, noChain}
 use Rattle.model.specs.Blocks.{Link, Block, joinsOf, total}
 use Rattle.model.specs.Unfolding.{links}
-use Rattle.model.specs.Lists.{range}
+use Rattle.model.specs.Lists.{range, overwrite}
 use Rattle.model.specs.Chains.{Distance, Far, Unreachable, fewest}
 
 -- "that block's own unfolding": its links when it stands alone. Its own cues and those of its uses have the numbers 1 to its total,
@@ -36,5 +37,4 @@ summaries bs = flatMap (λ k. summaryOf bs k) (range 0 (length bs))
 
 -- "The others up to 16,384 are 0; beyond that nothing changes."
 unfoldable pub workAfter : List Block → List ℕ → List ℕ
-workAfter bs work =
-    summaries bs ++ replicate (workSize - summarySize * length bs) 0 ++ drop workSize work
+workAfter bs work = overwrite (summaries bs ++ replicate (workSize - summarySize * length bs) 0) work

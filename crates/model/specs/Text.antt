@@ -1,5 +1,5 @@
 -- The show file as bytes: values, lines, the line of names; read and written. Document 01, "The show file".
-use Prim.Native.Nat.{ℕ, zero, suc, _+_, _*_, _-_, _/_, _%_}
+use Prim.Native.Nat.{ℕ, _+_, _*_, _-_, _/_, _%_}
 use mathlib.Core.Bool.{Bool, true, false}
 use mathlib.Core.List.{List, [], _∷_, _++_}
 use lib.ListN.{length}
@@ -42,15 +42,15 @@ unfoldable pub afterRun : List ℕ → List ℕ
 afterRun [] = []
 afterRun (b ∷ bs) = elim (isDigit b) [ true ↦ afterRun bs | false ↦ b ∷ bs ]
 
--- What a run of digits is worth in base ten, where v is what the digits before it are worth.
-unfoldable pub worth : ℕ → List ℕ → ℕ
-worth v [] = v
-worth v (d ∷ ds) = worth (v * 10 + d) ds
+-- "Figures are in base ten": the number that a run of digits stands for, where v is that of the digits before it.
+unfoldable pub decimal : ℕ → List ℕ → ℕ
+decimal v [] = v
+decimal v (d ∷ ds) = decimal (v * 10 + d) ds
 
 -- "A value is 0 to 65,535 with no sign, space or leading zero": a run of digits is a value.
 unfoldable pub isValue : List ℕ → Bool
 isValue [] = false
-isValue (d ∷ ds) = ifLt maxValue (worth d ds) false (ifEq d 0 (ifLt 0 (length ds) false true) true)
+isValue (d ∷ ds) = ifLt maxValue (decimal d ds) false (ifEq d 0 (ifLt 0 (length ds) false true) true)
 
 -- What a line says: its values, or nothing where it is malformed.
 pub data LineValues : Type 0 where
@@ -71,13 +71,14 @@ endedBy e (b ∷ bs) k = ifEq b e (k bs) Malformed
 unfoldable pub valuesOf : List ℕ → List ℕ → LineValues
 valuesOf [] bs = ifEq (length bs) 0 (Values []) Malformed
 valuesOf (e ∷ es) bs =
-    ifTrue (isValue (run bs)) (valueThen (worth 0 (run bs)) (endedBy e (afterRun bs) (valuesOf es))) Malformed
+    ifTrue (isValue (run bs)) (valueThen (decimal 0 (run bs)) (endedBy e (afterRun bs) (valuesOf es))) Malformed
 
--- "The file is read line by line": its lines, each with its line feed. Only the last can lack one.
+-- A byte in front of the first of some lines.
 unfoldable pub intoFirst : ℕ → List (List ℕ) → List (List ℕ)
 intoFirst b [] = (b ∷ []) ∷ []
 intoFirst b (l ∷ ls) = (b ∷ l) ∷ ls
 
+-- "The file is read line by line": its lines, each with its line feed. Only the last can lack one.
 unfoldable pub linesOf : List ℕ → List (List ℕ)
 linesOf [] = []
 linesOf (b ∷ bs) = ifEq b lineFeed ((b ∷ []) ∷ linesOf bs) (intoFirst b (linesOf bs))

@@ -25,8 +25,8 @@ andThen Accepted v = v
 andThen (Refused r) v = Refused r
 
 -- 4: "no rows, over 1,024 rows, or lent rows not a multiple of 11 long".
-unfoldable pub checkCount : List ℕ → Verdict
-checkCount xs =
+unfoldable pub checkLength : List ℕ → Verdict
+checkLength xs =
     ifEq (length xs % rowSize) 0
     (ifLt (rowCount xs) 1 (refused 4 0) (ifLt maxRows (rowCount xs) (refused 4 0) Accepted))
     (refused 4 0)
@@ -47,8 +47,8 @@ checkBlocks number ok k [] = Accepted
 checkBlocks number ok k (r ∷ rs) = elim (ok k) [ true ↦ checkBlocks number ok (suc k) rs | false ↦ refused number r ]
 
 -- 9: "the last with joins or no own cue, an earlier one with no joins".
-unfoldable pub standsWell : List Block → ℕ → Bool
-standsWell bs k =
+unfoldable pub mayStand : List Block → ℕ → Bool
+mayStand bs k =
     ifEq (suc k) (length bs)
     (ifEq (joinsOf bs k) 0 (ifLt 0 (ownOf bs k) true false) false)
     (ifLt 0 (joinsOf bs k) true false)
@@ -60,9 +60,9 @@ totalFits bs k = ifLt maxTotal (total bs k) false true
 -- "A show is accepted when its rows meet none of refusals 4 to 10."
 unfoldable pub verdict : List ℕ → Verdict
 verdict xs =
-    andThen (checkCount xs)
+    andThen (checkLength xs)
     (andThen (checkRows start 1 (rowsOf xs))
-    (andThen (checkBlocks 9 (standsWell (blocksOf xs)) 0 (openingRows 1 (rowsOf xs)))
+    (andThen (checkBlocks 9 (mayStand (blocksOf xs)) 0 (openingRows 1 (rowsOf xs)))
     (checkBlocks 10 (totalFits (blocksOf xs)) 0 (openingRows 1 (rowsOf xs)))))
 
 -- What the lines of a file say: the numbers of its rows, or a refusal.
@@ -97,15 +97,20 @@ readFile f = ifLt maxBytes (length f) (Unread (refusal 1 0)) (readAll (linesOf f
 
 -- "Reading gives the line as place for 5 to 10."
 unfoldable pub byLine : Refusal → Refusal
-byLine r = ifEq (r .number) 4 r (refusal (r .number) (r .place + 1))
+byLine r = ifLt (r .number) 5 r (refusal (r .number) (r .place + 1))
 
-unfoldable pub rowsVerdict : Verdict → Verdict
-rowsVerdict Accepted = Accepted
-rowsVerdict (Refused r) = Refused (byLine r)
+unfoldable pub inLines : Verdict → Verdict
+inLines Accepted = Accepted
+inLines (Refused r) = Refused (byLine r)
+
+-- The numbers that were read.
+unfoldable pub numbersOf : Reading → List ℕ
+numbersOf (Numbers xs) = xs
+numbersOf (Unread r) = []
 
 -- Refusals 1 to 10 of a file.
 unfoldable pub readVerdict : Reading → Verdict
-readVerdict (Numbers xs) = rowsVerdict (verdict xs)
+readVerdict (Numbers xs) = inLines (verdict xs)
 readVerdict (Unread r) = Refused r
 
 unfoldable pub fileVerdict : List ℕ → Verdict

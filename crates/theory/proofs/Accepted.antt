@@ -11,16 +11,16 @@ use borrow.Author.Tests.{eq-eqb, ne-eqb}
 use Rattle.model.specs.Choice.{ifLt, ifEq, ifTrue}
 use Rattle.model.specs.Limits.{rowSize, maxRows, maxJoins, maxOwn, maxLabel, maxBlocks, maxTotal}
 use Rattle.model.specs.Rows.{Row, cell, rowAt, rowsFrom, rowCount, rowsOf, rowValues}
-use Rattle.model.specs.Rules.{Seen, start, cuesIn, busy, named, every, isCue, isZero, labelFits, ownFits, fault, after}
+use Rattle.model.specs.Rules.{Seen, start, cuesIn, columnsUsed, named, every, isCue, isZero, labelFits, ownFits, fault, after}
 use Rattle.model.specs.Blocks.{Link, Use, Block, joinsOf, ownOf, addLink, addUse, addRow, addRows, blocksOf, total, lastBlock}
 use Rattle.model.specs.Verdicts.{
   refused,
   andThen,
-  checkCount,
+  checkLength,
   checkRows,
   openingRows,
   checkBlocks,
-  standsWell,
+  mayStand,
   totalFits,
   verdict,
 }
@@ -43,8 +43,8 @@ both-accepted Accepted w e = (refl, e)
 both-accepted (Refused r) w e = absurd (let z : _≡_ {A = ℕ} 0 1 = cc in omega arith)
 
 -- Check 4.
-pub counted : (xs : List ℕ) → checkCount xs ≡ Accepted → (length xs % rowSize ≡ 0) × (1 ≤ rowCount xs) × (rowCount xs ≤ maxRows)
-unfolding checkCount
+pub counted : (xs : List ℕ) → checkLength xs ≡ Accepted → (length xs % rowSize ≡ 0) × (1 ≤ rowCount xs) × (rowCount xs ≤ maxRows)
+unfolding checkLength
 counted xs e =
     let (a, e₁) = eq-first (length xs % rowSize) 0 _ (refused 4 0) Accepted (not-accepted 4 0) e in
     let (b, e₂) = lt-second (rowCount xs) 1 (refused 4 0) _ Accepted (not-accepted 4 0) e₁ in
@@ -94,8 +94,8 @@ module _ (s : Seen) (w : Row) (bs : List Block) (t : Tracks s bs) (p : Passed s 
           passed-lt (w .label) (w .block) true (rw (eq-else (w .kind) 1 _ _ m) at (rw (eq-else (w .kind) 0 _ _ n) at (row-fits .label))) .0 in
           omega (arith, t .count, t .few)
 
-  front-small : (c : ℕ) → List·Memᴰ c (take (busy s w) (w .columns)) → c ≤ 999
-  unfolding row-fits named busy ownFits
+  front-small : (c : ℕ) → List·Memᴰ c (take (columnsUsed s w) (w .columns)) → c ≤ 999
+  unfolding row-fits named columnsUsed ownFits
   front-small c i = go (ℕ-discrete (w .kind) 0)
     where
       go : Dec (w .kind ≡ 0) → c ≤ 999
@@ -108,12 +108,12 @@ module _ (s : Seen) (w : Row) (bs : List Block) (t : Tracks s bs) (p : Passed s 
 
   column-small : (c : ℕ) → List·Memᴰ c (w .columns) → c ≤ 999
   unfolding row-fits
-  column-small c i = go (List·Memᴰ·append-cases (take (busy s w) (w .columns)) (rw (take-append-drop (busy s w) (w .columns)) i))
+  column-small c i = go (List·Memᴰ·append-cases (take (columnsUsed s w) (w .columns)) (rw (take-append-drop (columnsUsed s w) (w .columns)) i))
     where
-      go : List·Memᴰ c (take (busy s w) (w .columns)) ⊎ List·Memᴰ c (drop (busy s w) (w .columns)) → c ≤ 999
+      go : List·Memᴰ c (take (columnsUsed s w) (w .columns)) ⊎ List·Memᴰ c (drop (columnsUsed s w) (w .columns)) → c ≤ 999
       go (inl j) = front-small c j
       go (inr j) =
-          let e : c ≡ 0 = is-zero c (every-mem isZero (drop (busy s w) (w .columns)) (row-fits .idle) c j) in
+          let e : c ≡ 0 = is-zero c (every-mem isZero (drop (columnsUsed s w) (w .columns)) (row-fits .idle) c j) in
           omega arith
 
   kind-small : (w .kind ≤ 999) × (w .block ≤ 999)
@@ -245,14 +245,14 @@ total-beyond [] k h = refl
 total-beyond (b ∷ earlier) k h = rw (ne-eqb k (length earlier) (λ e. omega arith), total) (total-beyond earlier k (omega arith))
 
 -- Checks 9 and 10 of a block.
-pub last-stands : (bs : List Block) (k : ℕ) → suc k ≡ length bs → standsWell bs k ≡ true → (joinsOf bs k ≡ 0) × (1 ≤ ownOf bs k)
-unfolding standsWell
+pub last-stands : (bs : List Block) (k : ℕ) → suc k ≡ length bs → mayStand bs k ≡ true → (joinsOf bs k ≡ 0) × (1 ≤ ownOf bs k)
+unfolding mayStand
 last-stands bs k q e =
     let (a, b) = passed-eq (joinsOf bs k) 0 _ (rw (eq-then (suc k) (length bs) _ _ q) at e) in
     (a, passed-lt 0 (ownOf bs k) true b .0)
 
-pub other-stands : (bs : List Block) (k : ℕ) → (suc k ≡ length bs → ⊥) → standsWell bs k ≡ true → 1 ≤ joinsOf bs k
-unfolding standsWell
+pub other-stands : (bs : List Block) (k : ℕ) → (suc k ≡ length bs → ⊥) → mayStand bs k ≡ true → 1 ≤ joinsOf bs k
+unfolding mayStand
 other-stands bs k n e = passed-lt 0 (joinsOf bs k) true (rw (eq-else (suc k) (length bs) _ _ n) at e) .0
 
 pub total-small : (bs : List Block) (k : ℕ) → totalFits bs k ≡ true → total bs k ≤ maxTotal
@@ -280,17 +280,17 @@ some-block xs (suc n) h e = go (fault start (rowAt xs 0)) refl
 
 -- Accepted rows passed each check.
 pub record Passes (xs : List ℕ) : Type 0 where
-  pub count : checkCount xs ≡ Accepted
+  pub count : checkLength xs ≡ Accepted
   pub rows : checkRows start 1 (rowsOf xs) ≡ Accepted
-  pub ends : checkBlocks 9 (standsWell (blocksOf xs)) 0 (openingRows 1 (rowsOf xs)) ≡ Accepted
+  pub ends : checkBlocks 9 (mayStand (blocksOf xs)) 0 (openingRows 1 (rowsOf xs)) ≡ Accepted
   pub totals : checkBlocks 10 (totalFits (blocksOf xs)) 0 (openingRows 1 (rowsOf xs)) ≡ Accepted
 
 pub passes : (xs : List ℕ) → verdict xs ≡ Accepted → Passes xs
 unfolding verdict
 passes xs e =
-    let (a, f) = both-accepted (checkCount xs) _ e in
+    let (a, f) = both-accepted (checkLength xs) _ e in
     let (b, g) = both-accepted (checkRows start 1 (rowsOf xs)) _ f in
-    let (c, d) = both-accepted (checkBlocks 9 (standsWell (blocksOf xs)) 0 (openingRows 1 (rowsOf xs))) _ g in
+    let (c, d) = both-accepted (checkBlocks 9 (mayStand (blocksOf xs)) 0 (openingRows 1 (rowsOf xs))) _ g in
     record { count = a; rows = b; ends = c; totals = d }
 
 module _ (xs : List ℕ) (p : Passes xs) where
@@ -308,8 +308,8 @@ module _ (xs : List ℕ) (p : Passes xs) where
   each-block number ok e k h =
       all-blocks number ok 0 (openingRows 1 (rowsOf xs)) e k (omega arith) (omega (arith, open-count 1 (rowsOf xs) []))
 
-  stands : (k : ℕ) → k < length (blocksOf xs) → standsWell (blocksOf xs) k ≡ true
-  stands = each-block 9 (standsWell (blocksOf xs)) (p .ends)
+  stands : (k : ℕ) → k < length (blocksOf xs) → mayStand (blocksOf xs) k ≡ true
+  stands = each-block 9 (mayStand (blocksOf xs)) (p .ends)
 
   last-block : (joinsOf (blocksOf xs) (lastBlock (blocksOf xs)) ≡ 0) × (1 ≤ ownOf (blocksOf xs) (lastBlock (blocksOf xs)))
   unfolding lastBlock

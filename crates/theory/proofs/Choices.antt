@@ -58,6 +58,15 @@ module _ {A : Type 0} where
   unfolding ifTrue
   true-else t x y h = rw h
 
+  -- A choice between equals.
+  pub lt-same : (a b : ℕ) (x y : A) → y ≡ x → ifLt a b x y ≡ y
+  unfolding ifLt
+  lt-same a b x y e = go (ltb a b)
+    where
+      go : (t : Bool) → cond t x y ≡ y
+      go true = sym e
+      go false = refl
+
   -- A choice came out as z, which one of its cases can't be: so the test went the other way.
   pub lt-first : (a b : ℕ) (x y z : A) → (y ≡ z → ⊥) → ifLt a b x y ≡ z → (a < b) × (x ≡ z)
   unfolding ifLt

@@ -1,5 +1,15 @@
 -- The laws.
 pub mod Choices
+pub mod AtBlock
 pub mod Passed
 pub mod Tracks
 pub mod Accepted
+pub mod Replacement
+pub mod Numbering
+pub mod Lists
+pub mod Every
+pub mod Digits
+pub mod Lines
+pub mod FlatRows
+pub mod Files
+pub mod RoundTrips

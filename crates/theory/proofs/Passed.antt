@@ -21,7 +21,7 @@ use Rattle.model.specs.Rules.{
   mayOpen,
   goesOn,
   mayFollow,
-  busy,
+  columnsUsed,
   named,
   every,
   isCue,
@@ -115,7 +115,7 @@ pub record Fits (s : Seen) (w : Row) : Type 0 where
   pub label : labelFits w ≡ true
   pub own : ownFits w ≡ true
   pub cues : every (isCue (cuesIn s)) (named s w) ≡ true
-  pub idle : every isZero (drop (busy s w) (w .columns)) ≡ true
+  pub idle : every isZero (drop (columnsUsed s w) (w .columns)) ≡ true
 
 pub fits-of : (s : Seen) (w : Row) → inRange s w ≡ true → Fits s w
 unfolding inRange

@@ -24,9 +24,10 @@ use borrow.Author.Tests.{eq-eqb, ne-eqb}
 use Rattle.model.specs.Choice.{ifLt, ifEq, ifTrue}
 use Rattle.model.specs.Limits.{maxJoins, maxOwn, maxLabel, maxBlocks}
 use Rattle.model.specs.Rows.{Row}
-use Rattle.model.specs.Rules.{Seen, start, cuesIn, busy, named, every, isCue, labelFits, ownFits, differs, distinct, fault, after}
-use Rattle.model.specs.Blocks.{Link, Use, Block, joinsOf, ownOf, addLink, addUse, addRow}
+use Rattle.model.specs.Rules.{Seen, start, cuesIn, columnsUsed, named, every, isCue, labelFits, ownFits, differs, distinct, fault, after}
+use Rattle.model.specs.Blocks.{Link, Use, Block, noBlock, blockAt, joinsOf, addLink, addUse, addRow}
 use Rattle.theory.specs.WellFormed.{Cue, GoodLink, GoodUse, GoodBlock, Good, none, more}
+use Rattle.theory.proofs.AtBlock.{joinsOf-hit, joinsOf-skip}
 use Rattle.theory.proofs.Choices.{eq-then, eq-else, passed, passed-lt, passed-not-lt, passed-not-eq}
 use Rattle.theory.proofs.Passed.{
   Passed,
@@ -45,23 +46,13 @@ use Rattle.theory.proofs.Passed.{
 -- Block k of a list is its first one, or one behind it.
 module _ (b : Block) (earlier : List Block) (k : ℕ) where
   pub joins-hit : k ≡ length earlier → joinsOf (b ∷ earlier) k ≡ b .joins
-  unfolding joinsOf
-  joins-hit e = rw (eq-eqb k (length earlier) e, joinsOf)
+  joins-hit e = joinsOf-hit b earlier k (eq-eqb k (length earlier) e)
 
   pub joins-skip : k ≢ length earlier → joinsOf (b ∷ earlier) k ≡ joinsOf earlier k
-  unfolding joinsOf
-  joins-skip n = rw (ne-eqb k (length earlier) n, joinsOf)
-
-  pub own-hit : k ≡ length earlier → ownOf (b ∷ earlier) k ≡ b .own
-  unfolding ownOf
-  own-hit e = rw (eq-eqb k (length earlier) e, ownOf)
-
-  pub own-skip : k ≢ length earlier → ownOf (b ∷ earlier) k ≡ ownOf earlier k
-  unfolding ownOf
-  own-skip n = rw (ne-eqb k (length earlier) n, ownOf)
+  joins-skip n = joinsOf-skip b earlier k (ne-eqb k (length earlier) n)
 
 pub joins-beyond : (bs : List Block) (k : ℕ) → length bs ≤ k → joinsOf bs k ≡ 0
-unfolding joinsOf
+unfolding joinsOf blockAt noBlock
 joins-beyond [] k h = refl
 joins-beyond (b ∷ earlier) k h = joins-skip b earlier k (λ e. omega arith) ∙ joins-beyond earlier k (omega arith)
 
@@ -111,8 +102,8 @@ pub record Tracks (s : Seen) (bs : List Block) : Type 0 where
   pub few : length bs ≤ maxBlocks
 
 pub tracks-start : Tracks start []
-unfolding start joinsOf
-tracks-start = record { count = refl; joins = λ k. List·getD-eq-default [] 0 {n = k} (omega arith); own = refl; good = none; few = omega arith }
+unfolding start
+tracks-start = record { count = refl; joins = λ k. sym (joins-beyond [] k (omega arith)); own = refl; good = none; few = omega arith }
 
 -- The cues of the current block.
 cues-now : (s : Seen) (b : Block) (earlier : List Block) → Tracks s (b ∷ earlier) → cuesIn s ≡ b .own + b .joins
@@ -222,7 +213,7 @@ module _ (s : Seen) (w : Row) (eight : length (w .columns) ≡ 8) (p : Passed s 
 
     -- A link row's cues and label.
     link-ok : w .kind ≡ 1 → GoodLink b (record { from = getD (w .columns) 0 0; to = getD (w .columns) 1 0; label = w .label })
-    unfolding fits named busy labelFits
+    unfolding fits named columnsUsed labelFits
     link-ok q =
         record {
           from = cue 0 (omega arith);
@@ -246,7 +237,7 @@ module _ (s : Seen) (w : Row) (eight : length (w .columns) ≡ 8) (p : Passed s 
     -- A use row's block and cues.
     use-ok : w .kind ≡ 2 → w .block + 1 ≡ length (s .joins) → Good earlier
         → GoodUse earlier b (record { block = w .label; at = take (joinsOf (b ∷ earlier) (w .label)) (w .columns) })
-    unfolding fits named busy labelFits
+    unfolding fits named columnsUsed labelFits
     use-ok q h gs =
         record {
           lower = low;
