@@ -121,7 +121,7 @@ module _ (xs : List ℕ) (p q n a b : ℕ) where
   key-turn : (i : ℕ) → KeyRest i → i < n
       → keyBelow xs p q n a b
       ≡ ifLt (getD xs (p + i) 0) (getD xs (q + i) 0) true
-        (ifEq (getD xs (p + i) 0) (getD xs (q + i) 0) (isBelow (rest xs (p + (i + 1)) (n - (i + 1)) a) (rest xs (q + (i + 1)) (n - (i + 1)) b)) false)
+      (ifEq (getD xs (p + i) 0) (getD xs (q + i) 0) (isBelow (rest xs (p + (i + 1)) (n - (i + 1)) a) (rest xs (q + (i + 1)) (n - (i + 1)) b)) false)
   unfolding isBelow
   key-turn i e h = e ∙ rw (cells-next xs p n i h, cells-next xs q n i h)
 

@@ -8,8 +8,11 @@ ghost use Rattle.row.specs.Faults.{namedFault, openFault, linkOrder, use
 
 // The limits of the model, by their names there.
 const MAX_JOINS: u32 = 8;
+
 const MAX_OWN: u32 = 255;
+
 const MAX_LABEL: u32 = 255;
+
 const MAX_BLOCKS: u32 = 128;
 
 // The n numbers from p on are all cues of a block that has so many.
@@ -194,7 +197,15 @@ fn link_fault(xs: &[u32], p: usize, q: usize, blocks: u32, cues: u32, before: u3
 }
 
 // many is how many joins the block has that the use names.
-fn use_fault(xs: &[u32], p: usize, q: usize, blocks: u32, cues: u32, before: u32, many: usize) -> u32
+fn use_fault(
+    xs: &[u32],
+    p: usize,
+    q: usize,
+    blocks: u32,
+    cues: u32,
+    before: u32,
+    many: usize,
+) -> u32
     requires { ⌜ (p + 11 ≤ length (now xs)) × (q + 11 ≤ length (now xs)) × (many ≤ 8) ⌝ }
     ensures { λ r. ⌜ r ≡ useFault (now (xs .entry)) p q blocks cues before many ⌝ }
 {
@@ -217,7 +228,15 @@ fn use_fault(xs: &[u32], p: usize, q: usize, blocks: u32, cues: u32, before: u32
 
 // The row at p where the rows before it open so many blocks, the current block has so many cues, and the row before, at q, has the kind
 // before: the number of the first of checks 5 to 8 that it fails, or 0.
-pub fn fault(xs: &[u32], p: usize, q: usize, blocks: u32, cues: u32, before: u32, many: usize) -> u32
+pub fn fault(
+    xs: &[u32],
+    p: usize,
+    q: usize,
+    blocks: u32,
+    cues: u32,
+    before: u32,
+    many: usize,
+) -> u32
     requires { ⌜ (p + 11 ≤ length (now xs)) × (q + 11 ≤ length (now xs)) × (many ≤ 8) ⌝ }
     ensures { λ r. ⌜ r ≡ faultOf (now (xs .entry)) p q blocks cues before many ⌝ }
 {

@@ -28,9 +28,11 @@ use Rattle.model.specs.declared.Verdict.{Verdict}
 use Rattle.model.specs.declared.Verdict.the-variants.{Accepted, Refused}
 use Rattle.theory.specs.WellFormed.{Cue, GoodBlock, Good, none, more}
 use Rattle.theory.specs.Accepted.{Show}
+use Rattle.theory.proofs.AtBlock.{joins-small}
+use Rattle.theory.proofs.Members.{every-mem}
 use Rattle.theory.proofs.Choices.{eq-then, eq-else, eq-first, lt-second, passed-lt, passed-not-lt, passed-eq}
-use Rattle.theory.proofs.Passed.{Passed, faultless, every-mem, is-cue, Kind, opens, links, uses, kind-of, Fits, fits-of}
-use Rattle.theory.proofs.Tracks.{Tracks, tracks-start, tracks-step, joins-small, ownNow}
+use Rattle.theory.proofs.Passed.{Passed, faultless, is-cue, Kind, opens, links, uses, kind-of, Fits, fits-of}
+use Rattle.theory.proofs.Tracks.{Tracks, tracks-start, tracks-step, ownNow}
 
 -- A refusal is no acceptance.
 pub not-accepted : (n r : ℕ) → refused n r ≡ Accepted → ⊥

@@ -1,15 +1,21 @@
 -- What each function over a list of blocks gives at the list's first block (hit) and at the blocks behind that (skip), so that no other
 -- file has to open its definition.
-use Prim.Native.Nat.{ℕ, _+_, _-_}
-use mathlib.Core.Path.{_≡_, ap}
+use Prim.Native.Nat.{ℕ, _+_, _-_, _≤_}
+use native.Mathlib.Omega.{arith}
+use native.Mathlib.Decide.{ℕ-discrete}
+use mathlib.Core.Path.{_≡_, refl, _∙_, ap}
+use mathlib.Core.Logic.{_≢_}
 use mathlib.Core.Bool.{true, false}
 use mathlib.Core.List.{List, [], _∷_, _++_, map}
 use lib.ListN.{length}
 use lib.Dec.{eqb}
+use borrow.Author.Tests.{eq-eqb, ne-eqb}
 use Rattle.model.specs.Choice.{ifLt}
-use Rattle.model.specs.Blocks.{Block, blockAt, joinsOf, ownOf, sumOver, total}
+use Rattle.model.specs.Limits.{maxJoins}
+use Rattle.model.specs.Blocks.{Block, noBlock, blockAt, joinsOf, ownOf, sumOver, total}
 use Rattle.model.specs.Unfolding.{cueAt, renamed, usesLinks, links}
 use Rattle.model.specs.Paths.{copyNumber, numberIn, usesPlace, placeIn}
+use Rattle.theory.specs.WellFormed.{Good, none, more}
 
 module _ (b : Block) (earlier : List Block) (k : ℕ) where
   pub blockAt-hit : eqb k (length earlier) ≡ true → blockAt (b ∷ earlier) k ≡ b
@@ -75,3 +81,25 @@ module _ (b : Block) (earlier : List Block) (k : ℕ) where
   pub placeIn-skip : (n : ℕ) → eqb k (length earlier) ≡ false → placeIn (b ∷ earlier) k n ≡ placeIn earlier k n
   unfolding placeIn
   placeIn-skip n e = rw (e, placeIn)
+
+-- The same by the number itself.
+module _ (b : Block) (earlier : List Block) (k : ℕ) where
+  pub joins-hit : k ≡ length earlier → joinsOf (b ∷ earlier) k ≡ b .joins
+  joins-hit e = joinsOf-hit b earlier k (eq-eqb k (length earlier) e)
+
+  pub joins-skip : k ≢ length earlier → joinsOf (b ∷ earlier) k ≡ joinsOf earlier k
+  joins-skip n = joinsOf-skip b earlier k (ne-eqb k (length earlier) n)
+
+-- A block that is not there has no joins; none has more than eight.
+pub joins-beyond : (bs : List Block) (k : ℕ) → length bs ≤ k → joinsOf bs k ≡ 0
+unfolding joinsOf blockAt noBlock
+joins-beyond [] k h = refl
+joins-beyond (b ∷ earlier) k h = joins-skip b earlier k (λ e. omega arith) ∙ joins-beyond earlier k (omega arith)
+
+pub joins-small : {bs : List Block} (k : ℕ) → Good bs → joinsOf bs k ≤ maxJoins
+joins-small k none = let e : joinsOf [] k ≡ 0 = joins-beyond [] k (omega arith) in omega arith
+joins-small k (more {b = b} {earlier = earlier} g gs) = go (joins-small k gs) (ℕ-discrete k (length earlier))
+  where
+    go : joinsOf earlier k ≤ maxJoins → Dec (k ≡ length earlier) → joinsOf (b ∷ earlier) k ≤ maxJoins
+    go below (yes e) = rw (joins-hit b earlier k e) (g .joins)
+    go below (no n) = rw (joins-skip b earlier k n) below

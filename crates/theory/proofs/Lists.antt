@@ -17,6 +17,7 @@ use Rattle.model.specs.Blocks.{Link}
 use Rattle.model.specs.Lists.{isLinked, range, keep, cuesAfter, isOut, isInto, overwrite}
 use Rattle.model.specs.Questions.{Outcome, answer, listed}
 use Rattle.theory.specs.Lists.{Leads, Rising, none, more, IsPage, GoesOn, pages}
+use Rattle.theory.proofs.Members.{getD-mem, range-bounds, range-mem}
 use Rattle.theory.proofs.Choices.{eq-then, eq-else}
 
 -- The test of a link finds just the links.
@@ -92,19 +93,7 @@ module _ (test : ℕ → Bool) where
 
 -- The numbers of a range.
 in-range : (a many t : ℕ) → List·Memᴰ t (range a many) ↔ ((a ≤ t) × (t < a + many))
-unfolding range
-in-range a zero t = (λ i. absurd (List·Memᴰ·not-nil i), λ p. absurd (omega arith))
-in-range a (suc many) t = (λ i. to (in-range (suc a) many t .0) (List·Memᴰ·cases-cons i), λ p. from (in-range (suc a) many t .1) p (ℕ-discrete t a))
-  where
-    to : (List·Memᴰ t (range (suc a) many) → (suc a ≤ t) × (t < suc a + many)) → (t ≡ a) ⊎ List·Memᴰ t (range (suc a) many)
-        → (a ≤ t) × (t < a + suc many)
-    to below (inl p) = omega arith
-    to below (inr j) = omega (arith, below j)
-
-    from : ((suc a ≤ t) × (t < suc a + many) → List·Memᴰ t (range (suc a) many)) → (a ≤ t) × (t < a + suc many) → Dec (t ≡ a)
-        → List·Memᴰ t (a ∷ range (suc a) many)
-    from below p (yes e) = List·Memᴰ·head e
-    from below p (no e) = List·Memᴰ·tail (below (omega arith))
+in-range a many t = (λ i. range-bounds a many t i, λ p. range-mem a many t (p .0) (p .1))
 
 -- A range rises.
 range-rising : (a many : ℕ) → Rising (range a many)
@@ -178,12 +167,7 @@ in-in E cues v n t = in-after (isInto E v) cues (λ u. Leads E u v) (λ u. linke
 pub rising-at : {xs : List ℕ} → Rising xs → (i j : ℕ) → i < j → j < length xs → getD xs i 0 < getD xs j 0
 rising-at none i j h l = absurd (omega arith)
 rising-at (more {x} {xs} low r) i zero h l = absurd (omega arith)
-rising-at (more {x} {xs} low r) zero (suc j) h l = low (getD xs j 0) (entry xs j (omega arith))
-  where
-    entry : (xs : List ℕ) (j : ℕ) → j < length xs → List·Memᴰ (getD xs j 0) xs
-    entry [] j l = absurd (omega arith)
-    entry (x ∷ xs) zero l = List·Memᴰ·head refl
-    entry (x ∷ xs) (suc j) l = List·Memᴰ·tail (entry xs j (omega arith))
+rising-at (more {x} {xs} low r) zero (suc j) h l = low (getD xs j 0) (getD-mem xs j (omega arith))
 rising-at (more {x} {xs} low r) (suc i) (suc j) h l = rising-at r i j (omega arith) (omega arith)
 
 -- As many as fit, or all.

@@ -69,16 +69,7 @@ faultless s w e =
     let (d, e₄) = true-first (inOrder (s .before) w) 0 8 0 (nonzero 7) e₃ in
     record { follows = a; fits = b; apart = c; rises = d }
 
--- every, as a statement.
-pub every-mem : (ok : ℕ → Bool) (xs : List ℕ) → every ok xs ≡ true → (x : ℕ) → List·Memᴰ x xs → ok x ≡ true
-unfolding every
-every-mem ok [] e x i = absurd (List·Memᴰ·not-nil i)
-every-mem ok (y ∷ ys) e x i = go (every-mem ok ys (passed (ok y) (every ok ys) e .1) x) (List·Memᴰ·cases-cons i)
-  where
-    go : (List·Memᴰ x ys → ok x ≡ true) → (x ≡ y) ⊎ List·Memᴰ x ys → ok x ≡ true
-    go below (inl q) = rw q (passed (ok y) (every ok ys) e .0)
-    go below (inr j) = below j
-
+-- The test of a cue.
 pub is-cue : (cues c : ℕ) → isCue cues c ≡ true → (1 ≤ c) × (c ≤ cues)
 unfolding isCue
 is-cue cues c e =

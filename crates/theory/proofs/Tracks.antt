@@ -27,12 +27,12 @@ use Rattle.model.specs.Rows.{Row}
 use Rattle.model.specs.Rules.{Seen, start, cuesIn, columnsUsed, named, every, isCue, labelFits, ownFits, differs, distinct, fault, after}
 use Rattle.model.specs.Blocks.{Link, Use, Block, noBlock, blockAt, joinsOf, addLink, addUse, addRow}
 use Rattle.theory.specs.WellFormed.{Cue, GoodLink, GoodUse, GoodBlock, Good, none, more}
-use Rattle.theory.proofs.AtBlock.{joinsOf-hit, joinsOf-skip}
+use Rattle.theory.proofs.Members.{getD-mem, every-mem}
+use Rattle.theory.proofs.AtBlock.{joins-hit, joins-skip, joins-beyond, joins-small}
 use Rattle.theory.proofs.Choices.{eq-then, eq-else, passed, passed-lt, passed-not-lt, passed-not-eq}
 use Rattle.theory.proofs.Passed.{
   Passed,
   faultless,
-  every-mem,
   is-cue,
   Kind,
   opens,
@@ -43,27 +43,6 @@ use Rattle.theory.proofs.Passed.{
   fits-of,
 }
 
--- Block k of a list is its first one, or one behind it.
-module _ (b : Block) (earlier : List Block) (k : ℕ) where
-  pub joins-hit : k ≡ length earlier → joinsOf (b ∷ earlier) k ≡ b .joins
-  joins-hit e = joinsOf-hit b earlier k (eq-eqb k (length earlier) e)
-
-  pub joins-skip : k ≢ length earlier → joinsOf (b ∷ earlier) k ≡ joinsOf earlier k
-  joins-skip n = joinsOf-skip b earlier k (ne-eqb k (length earlier) n)
-
-pub joins-beyond : (bs : List Block) (k : ℕ) → length bs ≤ k → joinsOf bs k ≡ 0
-unfolding joinsOf blockAt noBlock
-joins-beyond [] k h = refl
-joins-beyond (b ∷ earlier) k h = joins-skip b earlier k (λ e. omega arith) ∙ joins-beyond earlier k (omega arith)
-
-pub joins-small : {bs : List Block} (k : ℕ) → Good bs → joinsOf bs k ≤ maxJoins
-joins-small k none = let e : joinsOf [] k ≡ 0 = joins-beyond [] k (omega arith) in omega arith
-joins-small k (more {b = b} {earlier = earlier} g gs) = go (joins-small k gs) (ℕ-discrete k (length earlier))
-  where
-    go : joinsOf earlier k ≤ maxJoins → Dec (k ≡ length earlier) → joinsOf (b ∷ earlier) k ≤ maxJoins
-    go below (yes e) = rw (joins-hit b earlier k e) (g .joins)
-    go below (no n) = rw (joins-skip b earlier k n) below
-
 -- Lists.
 snoc-other : (xs : List ℕ) (y k : ℕ) → k ≢ length xs → getD (xs ++ (y ∷ [])) k 0 ≡ getD xs k 0
 snoc-other xs y k n = go (decLt k (length xs))
@@ -73,11 +52,6 @@ snoc-other xs y k n = go (decLt k (length xs))
     go (no h) =
         let long : length (xs ++ (y ∷ [])) ≤ k = rw (length-append xs (y ∷ [])) (omega arith) in
         List·getD-eq-default (xs ++ (y ∷ [])) 0 long ∙ sym (List·getD-eq-default xs 0 {n = k} (omega arith))
-
-getD-mem : (xs : List ℕ) (i : ℕ) → i < length xs → List·Memᴰ (getD xs i 0) xs
-getD-mem [] i h = absurd (omega arith)
-getD-mem (x ∷ xs) zero h = List·Memᴰ·head refl
-getD-mem (x ∷ xs) (suc i) h = List·Memᴰ·tail (getD-mem xs i (omega arith))
 
 taken : (n : ℕ) (xs : List ℕ) (i : ℕ) → i < n → n ≤ length xs → List·Memᴰ (getD xs i 0) (take n xs)
 taken n xs i h k =
