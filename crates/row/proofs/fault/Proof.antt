@@ -1,5 +1,7 @@
 use borrow.Author.Needs.{needs}
 use native.Mathlib.Omega.{arith}
+use Rattle.theory.proofs.Choices.{ifs}
+use Rattle.row.specs.Faults.{faultOf}
 use Rattle.row.proofs.fault.Statement.{statement}
 use Rattle.row.proofs.fault.Tie as tie
 use Rattle.row.proofs.fault.Reads as reads
@@ -26,7 +28,8 @@ open-fault-requires c κs = search needs
 
 -- src/lib.rt:226:9
 returns : tie.Need-returns
-returns c = search needs
+unfolding faultOf
+returns c = search (ifs, needs) depth 14
 
 -- src/lib.rt:229:9
 link-fault-requires : tie.Need-link-fault-requires
@@ -34,7 +37,8 @@ link-fault-requires c κs = search needs
 
 -- src/lib.rt:229:9
 returns-2 : tie.Need-returns-2
-returns-2 c = search needs
+unfolding faultOf
+returns-2 c = search (ifs, needs) depth 14
 
 -- src/lib.rt:232:9
 use-fault-requires : tie.Need-use-fault-requires
@@ -42,11 +46,13 @@ use-fault-requires c κs = search needs
 
 -- src/lib.rt:232:9
 returns-3 : tie.Need-returns-3
-returns-3 c = search needs
+unfolding faultOf
+returns-3 c = search (ifs, needs) depth 14
 
 -- src/lib.rt:220:1
 returns-4 : tie.Need-returns-4
-returns-4 c = search needs
+unfolding faultOf
+returns-4 c = search (ifs, needs) depth 14
 
 pub fault-spec : {M : Type 1} → statement M
 fault-spec =
