@@ -1,8 +1,183 @@
 // The check of lent rows, refusals 4 to 10 with their places, and the index of blocks that every question shares.
+//
+// The index is one table of four numbers for each block k, at 4 * k and on: the row that opens it, the first row behind its links, the
+// first row behind its uses, and its total. Rows are counted from 0 here. A total that is too large is kept as 2,147,483,648.
+ghost use mathlib.Core.Path.{_≡_};
+ghost use mathlib.Core.Bool.{true};
+ghost use Prim.Native.Nat.{ℕ, _+_, _*_, _-_, _≤_, _<_};
+ghost use lib.ListN.{length, getD};
+ghost use Rattle.rules.specs.Passing.{capped, joinsAt, manyOf, Many, cuesOf, putAt, notedOpen, notedUse, noted, nextState};
+use model::Refusal;
+use model::Verdict;
 
-// The index: how many blocks there are, and four numbers for each block k at 4 * k and on: the row that opens it, the first row behind
-// its links, the first row behind its uses, and its total. Rows are counted from 0 here.
+const ROW: usize = 11;
+const MAX_ROWS: usize = 1024;
+const MAX_TOTAL: u64 = 2147483647;
+
+// How many blocks the rows open, and the table.
 pub struct Index {
     pub blocks: u32,
     pub table: [u32; 512],
+}
+
+// The verdict on rows, and their index where they are accepted.
+pub struct Checked {
+    pub verdict: Verdict,
+    pub index: Index,
+}
+
+// What is carried from row to row: how many blocks are open, how many cues the last of them has, the kind of the last row.
+pub struct State {
+    pub blocks: u32,
+    pub cues: u32,
+    pub kind: u32,
+}
+
+// The first fault of 5 to 8 that was found, or 0, and its row, counted from 1.
+pub struct Scan {
+    pub fault: u32,
+    pub row: u32,
+    pub index: Index,
+}
+
+fn wide(x: u32) -> usize
+    ensures { λ r. ⌜ (r ≡ x) × (r < 4294967296) ⌝ }
+{
+    x as usize
+}
+
+fn long(x: u32) -> u64
+    ensures { λ r. ⌜ (r ≡ x) × (r < 4294967296) ⌝ }
+{
+    x as u64
+}
+
+// A number by its place, 0 past the end.
+pub fn get(xs: &[u32], i: usize) -> u32
+    ensures { λ r. ⌜ r ≡ getD (now (xs .entry)) i 0 ⌝ }
+{
+    if i < xs.len() {
+        xs[i]
+    } else {
+        0
+    }
+}
+
+// A number of the table put in at its place.
+fn put(t: &mut [u32; 512], i: usize, v: u32)
+    ensures { λ _. ⌜ now (t .exit) ≡ putAt (now (t .entry)) i v ⌝ }
+{
+    if i < 512 {
+        t[i] = v;
+    }
+}
+
+// The sum of two totals, held to one more than the largest.
+fn add_totals(a: u32, b: u32) -> u32
+    ensures { λ r. ⌜ r ≡ capped (a + b) ⌝ }
+{
+    let sum = long(a) + long(b);
+    if MAX_TOTAL < sum {
+        return 2147483648;
+    }
+    sum as u32
+}
+
+// The joins of block k, which the row that opens it has.
+fn joins_at(xs: &[u32], t: &[u32; 512], k: u32) -> usize
+    ensures { λ r. ⌜ r ≡ joinsAt (now (xs .entry)) (now (t .entry)) k ⌝ }
+{
+    let f = wide(get(t, wide(k) * 4));
+    wide(get(xs, f * ROW + 2))
+}
+
+// How many joins the block has that a use at p names.
+fn many_of(xs: &[u32], t: &[u32; 512], p: usize, blocks: u32) -> usize
+    requires { ⌜ p + 11 ≤ length (now xs) ⌝ }
+    ensures { λ r. ⌜ Many (manyOf (now (xs .entry)) (now (t .entry)) p blocks) r ⌝ }
+{
+    if xs[p + 1] != 2 {
+        return 0;
+    }
+    let label = xs[p + 2];
+    if label >= blocks {
+        return 0;
+    }
+    let j = joins_at(xs, t, label);
+    if 8 < j {
+        return 0;
+    }
+    j
+}
+
+// How many cues a block has.
+fn cues_of(own: u32, joins: u32) -> u32
+    ensures { λ r. ⌜ r ≡ cuesOf own joins ⌝ }
+{
+    if 255 < own {
+        return 0;
+    }
+    if 8 < joins {
+        return 0;
+    }
+    own + joins
+}
+
+// What an opening at row r puts into the table.
+fn note_open(t: &mut [u32; 512], at: usize, r: u32, own: u32)
+    requires { ⌜ (r < 1024) × (at < 17179869184) ⌝ }
+    ensures { λ _. ⌜ now (t .exit) ≡ notedOpen (now (t .entry)) at r own ⌝ }
+{
+    put(t, at, r);
+    put(t, at + 1, r + 1);
+    put(t, at + 2, r + 1);
+    put(t, at + 3, own);
+}
+
+// What a use of block k adds to the total.
+fn note_use(t: &mut [u32; 512], at: usize, k: usize)
+    requires { ⌜ (at < 17179869184) × (k < 4294967296) ⌝ }
+    ensures { λ _. ⌜ now (t .exit) ≡ notedUse (now (t .entry)) at k ⌝ }
+{
+    let used = get(t, k * 4 + 3);
+    let total = add_totals(get(t, at + 3), used);
+    put(t, at + 3, total);
+}
+
+// The table after row r, which has passed.
+fn note(t: &mut [u32; 512], block: u32, kind: u32, label: u32, own: u32, r: u32)
+    requires { ⌜ r < 1024 ⌝ }
+    ensures { λ _. ⌜ now (t .exit) ≡ noted (now (t .entry)) block kind label own r ⌝ }
+{
+    let at = block as usize * 4;
+    if kind == 0 {
+        note_open(t, at, r, own);
+        return;
+    }
+    put(t, at + 2, r + 1);
+    if kind == 1 {
+        put(t, at + 1, r + 1);
+        return;
+    }
+    note_use(t, at, label as usize);
+}
+
+// What is carried on after the row at p, which has passed.
+fn next_state(xs: &[u32], p: usize, s: State) -> State
+    requires { ⌜ (p + 11 ≤ length (now xs)) × (s .blocks ≤ 1024) ⌝ }
+    ensures { λ r. ⌜ r ≡ nextState (now (xs .entry)) p s ⌝ }
+{
+    let kind = xs[p + 1];
+    if kind == 0 {
+        return State {
+            blocks: s.blocks + 1,
+            cues: cues_of(xs[p + 3], xs[p + 2]),
+            kind: kind,
+        };
+    }
+    State {
+        blocks: s.blocks,
+        cues: s.cues,
+        kind: kind,
+    }
 }

@@ -1,0 +1,53 @@
+-- What the pass over the rows does at each row, as the code does it. Rows are counted from 0 here.
+use Prim.Native.Nat.{ℕ, zero, suc, _+_, _*_, _-_, _≤_, _<_}
+use mathlib.Core.Path.{_≡_}
+use mathlib.Core.List.{List, [], _∷_}
+use lib.ListN.{length, getD, set, replicate}
+use Rattle.model.specs.Choice.{ifLt, ifEq}
+use Rattle.model.specs.Limits.{maxTotal}
+use Rattle.rules.specs.declared.State.{State}
+
+-- A total, or one more than the largest where it is too large.
+unfoldable pub capped : ℕ → ℕ
+capped n = ifLt maxTotal n (maxTotal + 1) n
+
+-- The joins of block k, as the table and the rows have them.
+unfoldable pub joinsAt : List ℕ → List ℕ → ℕ → ℕ
+joinsAt xs t k = getD xs (getD t (k * 4) 0 * 11 + 2) 0
+
+-- Those of the block that a use at p names.
+unfoldable pub manyOf : List ℕ → List ℕ → ℕ → ℕ → ℕ
+manyOf xs t p blocks =
+    ifEq (getD xs (p + 1) 0) 2
+    (ifLt (getD xs (p + 2) 0) blocks (ifLt 8 (joinsAt xs t (getD xs (p + 2) 0)) 0 (joinsAt xs t (getD xs (p + 2) 0))) 0)
+    0
+
+pub record Many (many r : ℕ) : Type 0 where
+  pub same : r ≡ many
+  pub few : r ≤ 8
+
+unfoldable pub cuesOf : ℕ → ℕ → ℕ
+cuesOf own joins = ifLt 255 own 0 (ifLt 8 joins 0 (own + joins))
+
+-- A number put into the table, if it has the place.
+unfoldable pub putAt : List ℕ → ℕ → ℕ → List ℕ
+putAt t i v = ifLt i 512 (set t i v) t
+
+-- The table after row r: by what an opening, a link or a use puts in at its block.
+unfoldable pub notedOpen : List ℕ → ℕ → ℕ → ℕ → List ℕ
+notedOpen t at r own = putAt (putAt (putAt (putAt t at r) (at + 1) (r + 1)) (at + 2) (r + 1)) (at + 3) own
+
+unfoldable pub notedUse : List ℕ → ℕ → ℕ → List ℕ
+notedUse t at k = putAt t (at + 3) (capped (getD t (at + 3) 0 + getD t (k * 4 + 3) 0))
+
+unfoldable pub noted : List ℕ → ℕ → ℕ → ℕ → ℕ → ℕ → List ℕ
+noted t block kind label own r =
+    ifEq kind 0 (notedOpen t (block * 4) r own)
+    (ifEq kind 1 (putAt (putAt t (block * 4 + 2) (r + 1)) (block * 4 + 1) (r + 1))
+    (notedUse (putAt t (block * 4 + 2) (r + 1)) (block * 4) label))
+
+unfoldable pub nextState : List ℕ → ℕ → State → State
+nextState xs p s =
+    ifEq (getD xs (p + 1) 0) 0
+    (record { blocks = s .blocks + 1; cues = cuesOf (getD xs (p + 3) 0) (getD xs (p + 2) 0); kind = getD xs (p + 1) 0 })
+    (record { blocks = s .blocks; cues = s .cues; kind = getD xs (p + 1) 0 })
