@@ -12,8 +12,25 @@ use Rattle.model.specs.Choice.{ifLt, ifEq, ifTrue}
 use Rattle.model.specs.Limits.{maxJoins, maxOwn, maxLabel, maxBlocks}
 use Rattle.model.specs.Rows.{Row, cell, rowAt}
 use Rattle.model.specs.Rules.{
-  Seen, cuesIn, mayOpen, goesOn, mayFollow, columnsUsed, named, every, isCue, isZero, labelFits, ownFits, inRange, distinct, isBelow,
-  linkKey, useKey, inOrder, fault
+  Seen,
+  cuesIn,
+  mayOpen,
+  goesOn,
+  mayFollow,
+  columnsUsed,
+  named,
+  every,
+  isCue,
+  isZero,
+  labelFits,
+  ownFits,
+  inRange,
+  distinct,
+  isBelow,
+  linkKey,
+  useKey,
+  inOrder,
+  fault,
 }
 use Rattle.theory.proofs.Choices.{lt-then, lt-else, eq-then, eq-else, true-then, true-else}
 use Rattle.row.specs.Cells.{cells, keyBelow}
@@ -125,7 +142,7 @@ module _ (s : Seen) (xs : List ℕ) (r : ℕ) where
 
       go : Dec (w .kind ≡ v .kind)
           → ifEq (w .kind) (v .kind)
-            (ifEq (w .kind) 1 (isBelow (linkKey v) (linkKey w)) (ifEq (w .kind) 2 (not (isBelow (useKey w) (useKey v))) true)) true
+          (ifEq (w .kind) 1 (isBelow (linkKey v) (linkKey w)) (ifEq (w .kind) 2 (not (isBelow (useKey w) (useKey v))) true)) true
           ≡ true
       go (yes e) = eq-then _ _ _ _ e ∙ inner
       go (no n) = eq-else _ _ _ _ n
@@ -145,7 +162,7 @@ module _ (s : Seen) (xs : List ℕ) (r : ℕ) where
   open-range : w .kind ≡ 0
       → inRange s w
       ≡ ifTrue (ifLt maxJoins (w .label) false true)
-        (ifTrue (ifLt maxOwn (getD (w .columns) 0 0) false true) (ifTrue true (every isZero (cells xs (r * 11 + 3 + 1) (8 - 1))) false) false) false
+      (ifTrue (ifLt maxOwn (getD (w .columns) 0 0) false true) (ifTrue true (every isZero (cells xs (r * 11 + 3 + 1) (8 - 1))) false) false) false
   unfolding inRange labelFits ownFits every
   open-range q =
       rw (eq-then (w .kind) 0 (ifLt maxJoins (w .label) false true) _ q, eq-then (w .kind) 0 (ifLt maxOwn (getD (w .columns) 0 0) false true) true q, open-named q, idle-cells 1 (omega arith) (open-used q))

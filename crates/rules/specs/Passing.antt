@@ -5,7 +5,13 @@ use mathlib.Core.List.{List, [], _∷_}
 use lib.ListN.{length, getD, set, replicate}
 use Rattle.model.specs.Choice.{ifLt, ifEq}
 use Rattle.model.specs.Limits.{maxTotal}
+use Rattle.model.specs.Rows.{rowAt, rowsFrom}
+use Rattle.model.specs.Rules.{Seen, start, fault, after}
+use Rattle.model.specs.Blocks.{Block, addRow}
+use Rattle.model.specs.Verdicts.{refused, checkRows}
+use Rattle.model.specs.declared.Verdict.the-variants.{Accepted}
 use Rattle.rules.specs.declared.State.{State}
+use Rattle.rules.specs.declared.Scan.{Scan}
 
 -- A total, or one more than the largest where it is too large.
 unfoldable pub capped : ℕ → ℕ
@@ -51,3 +57,33 @@ nextState xs p s =
     ifEq (getD xs (p + 1) 0) 0
     (record { blocks = s .blocks + 1; cues = cuesOf (getD xs (p + 3) 0) (getD xs (p + 2) 0); kind = getD xs (p + 1) 0 })
     (record { blocks = s .blocks; cues = s .cues; kind = getD xs (p + 1) 0 })
+
+-- The pass over the first r rows: what the model's checks know, the state, the table and the blocks.
+unfoldable pub seenTo : List ℕ → ℕ → Seen
+seenTo xs zero = start
+seenTo xs (suc r) = after (seenTo xs r) (rowAt xs r)
+
+unfoldable pub stateTo : List ℕ → ℕ → State
+stateTo xs zero = record { blocks = 0; cues = 0; kind = 0 }
+stateTo xs (suc r) = nextState xs (r * 11) (stateTo xs r)
+
+unfoldable pub tableTo : List ℕ → ℕ → List ℕ
+tableTo xs zero = replicate 512 0
+tableTo xs (suc r) =
+    noted (tableTo xs r) (getD xs (r * 11) 0) (getD xs (r * 11 + 1) 0) (getD xs (r * 11 + 2) 0) (getD xs (r * 11 + 3) 0) r
+
+unfoldable pub blocksTo : List ℕ → ℕ → List Block
+blocksTo xs zero = []
+blocksTo xs (suc r) = addRow (blocksTo xs r) (rowAt xs r)
+
+-- The first r rows have no fault.
+abbrev pub Fine : List ℕ → ℕ → Type 0
+Fine xs r = (q : ℕ) → q < r → fault (seenTo xs q) (rowAt xs q) ≡ 0
+
+-- What the pass says of n rows.
+pub record Scanned (xs : List ℕ) (n : ℕ) (r : Scan) : Type 0 where
+  pub found : (r .fault ≡ 0 → ⊥) → checkRows start 1 (rowsFrom xs 0 n) ≡ refused (r .fault) (r .row)
+  pub passed : r .fault ≡ 0 → checkRows start 1 (rowsFrom xs 0 n) ≡ Accepted
+  pub fine : r .fault ≡ 0 → Fine xs n
+  pub table : r .fault ≡ 0 → r .index .table ≡ tableTo xs n
+  pub blocks : r .fault ≡ 0 → r .index .blocks ≡ stateTo xs n .blocks

@@ -6,12 +6,14 @@ ghost use mathlib.Core.Path.{_≡_};
 ghost use mathlib.Core.Bool.{true};
 ghost use Prim.Native.Nat.{ℕ, _+_, _*_, _-_, _≤_, _<_};
 ghost use lib.ListN.{length, getD};
-ghost use Rattle.rules.specs.Passing.{capped, joinsAt, manyOf, Many, cuesOf, putAt, notedOpen, notedUse, noted, nextState};
+ghost use Rattle.rules.specs.Passing.{capped, joinsAt, manyOf, Many, cuesOf, putAt, notedOpen, notedUse, noted, nextState, Scanned};
 use model::Refusal;
 use model::Verdict;
 
 const ROW: usize = 11;
+
 const MAX_ROWS: usize = 1024;
+
 const MAX_TOTAL: u64 = 2147483647;
 
 // How many blocks the rows open, and the table.
@@ -56,11 +58,7 @@ fn long(x: u32) -> u64
 pub fn get(xs: &[u32], i: usize) -> u32
     ensures { λ r. ⌜ r ≡ getD (now (xs .entry)) i 0 ⌝ }
 {
-    if i < xs.len() {
-        xs[i]
-    } else {
-        0
-    }
+    if i < xs.len() { xs[i] } else { 0 }
 }
 
 // A number of the table put in at its place.
@@ -179,5 +177,55 @@ fn next_state(xs: &[u32], p: usize, s: State) -> State
         blocks: s.blocks,
         cues: s.cues,
         kind: kind,
+    }
+}
+
+// The row before row r, or the first.
+fn row_before(r: usize) -> usize
+    ensures { λ p. ⌜ p ≡ r - 1 ⌝ }
+{
+    if r == 0 {
+        return 0;
+    }
+    r - 1
+}
+
+// Checks 5 to 8 of n rows in one pass, with the index of what was read.
+pub fn pass(xs: &[u32], n: usize) -> Scan
+    requires { ⌜ (n * 11 ≤ length (now xs)) × (n ≤ 1024) ⌝ }
+    ensures { λ r. ⌜ Scanned (now (xs .entry)) n r ⌝ }
+{
+    let mut t = [0u32; 512];
+    let mut s = State {
+        blocks: 0,
+        cues: 0,
+        kind: 0,
+    };
+    let mut r = 0;
+    while r < n {
+        let p = r * ROW;
+        let many = many_of(xs, &t, p, s.blocks);
+        let k = row::fault(xs, p, row_before(r) * ROW, s.blocks, s.cues, s.kind, many);
+        if k != 0 {
+            return Scan {
+                fault: k,
+                row: (r + 1) as u32,
+                index: Index {
+                    blocks: s.blocks,
+                    table: t,
+                },
+            };
+        }
+        note(&mut t, xs[p], xs[p + 1], xs[p + 2], xs[p + 3], r as u32);
+        s = next_state(xs, p, s);
+        r += 1;
+    }
+    Scan {
+        fault: 0,
+        row: 0,
+        index: Index {
+            blocks: s.blocks,
+            table: t,
+        },
     }
 }
