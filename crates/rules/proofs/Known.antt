@@ -58,10 +58,10 @@ head-small : {b : Block} {bs : List Block} → Good (b ∷ bs) → (b .own ≤ 2
 head-small (more g gs) = (g .own, g .joins)
 
 module _ (xs : List ℕ) (r : ℕ) (k : Known xs r) (ok : fault (seenTo xs r) (rowAt xs r) ≡ 0) where
-  abbrev s : Seen
+  abbrev pub s : Seen
   s = seenTo xs r
 
-  abbrev w : Row
+  abbrev pub w : Row
   w = rowAt xs r
 
   eight : length (w .columns) ≡ 8
@@ -87,7 +87,7 @@ module _ (xs : List ℕ) (r : ℕ) (k : Known xs r) (ok : fault (seenTo xs r) (r
   unfolding after
   after-other n = eq-else _ _ _ _ n
 
-  after-before : after s w .before ≡ w
+  pub after-before : after s w .before ≡ w
   after-before = go (ℕ-discrete (w .kind) 0)
     where
       go : Dec (w .kind ≡ 0) → after s w .before ≡ w

@@ -198,11 +198,11 @@ unfolding addUse
 use-length u [] = refl
 use-length u (b ∷ bs) = refl
 
-opening-length : (bs : List Block) (w : Row) → w .kind ≡ 0 → length (addRow bs w) ≡ suc (length bs)
+pub opening-length : (bs : List Block) (w : Row) → w .kind ≡ 0 → length (addRow bs w) ≡ suc (length bs)
 unfolding addRow
 opening-length bs w q = rw (eq-then (w .kind) 0 _ _ q)
 
-other-length : (bs : List Block) (w : Row) → (w .kind ≡ 0 → ⊥) → length (addRow bs w) ≡ length bs
+pub other-length : (bs : List Block) (w : Row) → (w .kind ≡ 0 → ⊥) → length (addRow bs w) ≡ length bs
 unfolding addRow
 other-length bs w n = rw (eq-else (w .kind) 0 _ _ n) (go (ℕ-discrete (w .kind) 1))
   where
