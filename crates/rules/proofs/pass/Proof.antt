@@ -1,5 +1,10 @@
 use borrow.Author.Needs.{needs}
 use native.Mathlib.Omega.{arith}
+use mathlib.Core.Path.{refl}
+use Rattle.rules.proofs.Going.{going-blocks}
+use Prim.Native.Nat.{_-_}
+use Rattle.rules.proofs.Going.{scanned-stop, scanned-done}
+use Rattle.rules.proofs.Going.{Going, going-begin, going-stop, going-on, going-done, blocks-few}
 use Rattle.rules.proofs.pass.Statement.{statement}
 use Rattle.rules.proofs.pass.Tie as tie
 use Rattle.rules.proofs.pass.Reads as reads
@@ -11,14 +16,14 @@ use Rattle.rules.proofs.note.Reads as note-reads
 use Rattle.rules.proofs.row_before.Reads as row-before-reads
 
 abbrev Inv-loop : tie.InvT-loop
-Inv-loop xs n t₀ s₀ r₀ t s r = ?
+Inv-loop xs n t₀ s₀ r₀ t s r = Going xs n t s r
 
 abbrev μ-loop : tie.MeasureT-loop
-μ-loop xs n t₀ s₀ r₀ t s r = ?
+μ-loop xs n t₀ s₀ r₀ t s r = n - r
 
 -- src/lib.rt:205:5
 loop-holds : tie.Need-loop-holds Inv-loop μ-loop
-loop-holds c = search needs
+loop-holds c = search (going-begin, needs)
 
 -- src/lib.rt:206:17
 mul-p : tie.Need-mul-p Inv-loop μ-loop
@@ -50,7 +55,7 @@ cast-t14 c = search needs
 
 -- src/lib.rt:210:13
 returns : tie.Need-returns Inv-loop μ-loop
-returns c = search needs
+returns c = scanned-stop _ _ _ _ _ (going-stop _ _ _ _ _ (c .before .before .before .before .before .before .loop .inv) _ _ _ _ (omega arith) (record { before = c .before .before .row-before .ensures; joins = c .before .before .before .many-of .ensures; number = c .before .fault .ensures }) (c .if1 .taken) refl) (c .if1 .taken)
 
 -- src/lib.rt:219:22
 mul-note : tie.Need-mul-note Inv-loop μ-loop
@@ -106,7 +111,7 @@ note-requires c κs = search needs
 
 -- src/lib.rt:220:9
 next-state-requires : tie.Need-next-state-requires Inv-loop μ-loop
-next-state-requires c κs = search needs
+next-state-requires c κs = (omega arith, going-blocks _ _ _ _ _ (c .before .before .before .before .before .before .before .before .before .before .before .before .loop .inv) (omega arith))
 
 -- src/lib.rt:221:9
 add-r : tie.Need-add-r Inv-loop μ-loop
@@ -118,11 +123,11 @@ loop-less c = search needs
 
 -- src/lib.rt:205:5
 loop-again : tie.Need-loop-again Inv-loop μ-loop
-loop-again c = search needs
+loop-again c = going-on _ _ _ _ _ (c .before .before .before .before .before .before .before .before .before .before .before .before .before .loop .inv) _ _ _ _ _ (omega arith) (record { before = c .before .before .before .before .before .before .before .before .before .row-before .ensures; joins = c .before .before .before .before .before .before .before .before .before .before .many-of .ensures; number = c .before .before .before .before .before .before .before .before .fault .ensures }) (c .before .before .before .before .before .before .before .if1 .left) (c .before .note .ensures) (c .next-state .ensures)
 
 -- src/lib.rt:194:1
 returns-2 : tie.Need-returns-2 Inv-loop μ-loop
-returns-2 c = search needs
+returns-2 c = scanned-done _ _ _ _ _ (c .before .loop .inv) (omega arith)
 
 pub pass-spec : {M : Type 1} → statement M
 pass-spec =
