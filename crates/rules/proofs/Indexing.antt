@@ -82,13 +82,13 @@ table-cast e f g x = rw (e, f, g) at x
 
 module _ (xs : List ℕ) (all : List Block) (r : ℕ) (k : Known xs r) (ok : fault (seenTo xs r) (rowAt xs r) ≡ 0)
     (same : (j : ℕ) → j < length (blocksTo xs r) → joinsOf all j ≡ joinsOf (blocksTo xs r) j) where
-  abbrev s : Seen
+  abbrev pub s : Seen
   s = seenTo xs r
 
-  abbrev w : Row
+  abbrev pub w : Row
   w = rowAt xs r
 
-  abbrev bs : List Block
+  abbrev pub bs : List Block
   bs = blocksTo xs r
 
   p : Passed s w
@@ -118,15 +118,15 @@ module _ (xs : List ℕ) (all : List Block) (r : ℕ) (k : Known xs r) (ok : fau
       passed-lt (s .before .kind) 2 true (passed (goesOn s w) _ e .1) .0
 
   -- What the table holds after the row, by its kind.
-  noted-open : w .kind ≡ 0 → tableTo xs (suc r) ≡ notedOpen (tableTo xs r) (w .block * 4) r (cell xs r 3)
+  pub noted-open : w .kind ≡ 0 → tableTo xs (suc r) ≡ notedOpen (tableTo xs r) (w .block * 4) r (cell xs r 3)
   unfolding tableTo noted rowAt cell
   noted-open q = rw block-is (eq-then _ _ _ _ q)
 
-  noted-link : w .kind ≡ 1 → tableTo xs (suc r) ≡ putAt (putAt (tableTo xs r) (w .block * 4 + 2) (r + 1)) (w .block * 4 + 1) (r + 1)
+  pub noted-link : w .kind ≡ 1 → tableTo xs (suc r) ≡ putAt (putAt (tableTo xs r) (w .block * 4 + 2) (r + 1)) (w .block * 4 + 1) (r + 1)
   unfolding tableTo noted rowAt cell
   noted-link q = rw block-is (eq-else _ _ _ _ (λ e. omega arith) ∙ eq-then _ _ _ _ q)
 
-  noted-use : w .kind ≡ 2 → tableTo xs (suc r) ≡ notedUse (putAt (tableTo xs r) (w .block * 4 + 2) (r + 1)) (w .block * 4) (w .label)
+  pub noted-use : w .kind ≡ 2 → tableTo xs (suc r) ≡ notedUse (putAt (tableTo xs r) (w .block * 4 + 2) (r + 1)) (w .block * 4) (w .label)
   unfolding tableTo noted rowAt cell
   noted-use q = rw block-is (eq-else _ _ _ _ (λ e. omega arith) ∙ eq-else _ _ _ _ (λ e. omega arith))
 

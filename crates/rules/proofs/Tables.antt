@@ -37,7 +37,7 @@ module _ (t : List ℕ) (i v : ℕ) where
   put-same : length t ≡ 512 → i < 512 → getD (putAt t i v) i 0 ≡ v
   put-same e h = rw (put-in h) (getD-set-same t i v 0 (omega arith))
 
-  put-other : (j : ℕ) → j ≢ i → getD (putAt t i v) j 0 ≡ getD t j 0
+  pub put-other : (j : ℕ) → j ≢ i → getD (putAt t i v) j 0 ≡ getD t j 0
   put-other j n = go (decLt i 512)
     where
       go : Dec (i < 512) → getD (putAt t i v) j 0 ≡ getD t j 0
@@ -49,7 +49,7 @@ pub capped-fit : (n : ℕ) → n ≤ maxTotal → capped n ≡ n
 unfolding capped
 capped-fit n h = lt-else _ _ _ _ h
 
-capped-over : (n : ℕ) → maxTotal < n → capped n ≡ 2147483648
+pub capped-over : (n : ℕ) → maxTotal < n → capped n ≡ 2147483648
 unfolding capped
 capped-over n h = lt-then _ _ _ _ h
 
@@ -140,7 +140,7 @@ module _ (t : List ℕ) (a r own : ℕ) (size : length t ≡ 512) (room : a + 3 
   unfolding notedOpen
   open-size = put-length t₃ (a + 3) own ∙ size₃
 
-  open-first : getD (notedOpen t a r own) a 0 ≡ r
+  pub open-first : getD (notedOpen t a r own) a 0 ≡ r
   unfolding notedOpen
   open-first =
       put-other t₃ (a + 3) own a (λ e. omega arith) ∙ put-other t₂ (a + 2) (r + 1) a (λ e. omega arith)
@@ -160,7 +160,7 @@ module _ (t : List ℕ) (a r own : ℕ) (size : length t ≡ 512) (room : a + 3 
   unfolding notedOpen
   open-total = put-same t₃ (a + 3) own size₃ room
 
-  open-other : (j : ℕ) → j < a → getD (notedOpen t a r own) j 0 ≡ getD t j 0
+  pub open-other : (j : ℕ) → j < a → getD (notedOpen t a r own) j 0 ≡ getD t j 0
   unfolding notedOpen
   open-other j h =
       put-other t₃ (a + 3) own j (λ e. omega arith) ∙ put-other t₂ (a + 2) (r + 1) j (λ e. omega arith)

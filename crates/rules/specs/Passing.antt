@@ -1,14 +1,16 @@
 -- What the pass over the rows does at each row, as the code does it. Rows are counted from 0 here.
 use Prim.Native.Nat.{ℕ, zero, suc, _+_, _*_, _-_, _≤_, _<_}
 use mathlib.Core.Path.{_≡_}
+use mathlib.Core.Bool.{Bool, true, false}
 use mathlib.Core.List.{List, [], _∷_}
 use lib.ListN.{length, getD, set, replicate}
-use Rattle.model.specs.Choice.{ifLt, ifEq}
+use Rattle.model.specs.Choice.{ifLt, ifEq, ifTrue}
 use Rattle.model.specs.Limits.{maxTotal}
 use Rattle.model.specs.Rows.{rowAt, rowsFrom}
 use Rattle.model.specs.Rules.{Seen, start, fault, after}
 use Rattle.model.specs.Blocks.{Block, addRow}
 use Rattle.model.specs.Verdicts.{refused, checkRows}
+use Rattle.model.specs.declared.Verdict.{Verdict}
 use Rattle.model.specs.declared.Verdict.the-variants.{Accepted}
 use Rattle.rules.specs.declared.State.{State}
 use Rattle.rules.specs.declared.Scan.{Scan}
@@ -87,3 +89,31 @@ pub record Scanned (xs : List ℕ) (n : ℕ) (r : Scan) : Type 0 where
   pub fine : r .fault ≡ 0 → Fine xs n
   pub table : r .fault ≡ 0 → r .index .table ≡ tableTo xs n
   pub blocks : r .fault ≡ 0 → r .index .blocks ≡ stateTo xs n .blocks
+
+-- Checks 9 and 10 of block k, by the table.
+unfoldable pub ownAt : List ℕ → List ℕ → ℕ → ℕ
+ownAt xs t k = getD xs (getD t (k * 4) 0 * 11 + 3) 0
+
+unfoldable pub standsAt : List ℕ → List ℕ → ℕ → ℕ → Bool
+standsAt xs t blocks k =
+    ifEq (k + 1) blocks
+    (ifEq (joinsAt xs t k) 0 (ifLt 0 (ownAt xs t k) true false) false)
+    (ifLt 0 (joinsAt xs t k) true false)
+
+unfoldable pub fitsAt : List ℕ → ℕ → Bool
+fitsAt t k = ifLt maxTotal (getD t (k * 4 + 3) 0) false true
+
+unfoldable pub passesAt : ℕ → List ℕ → List ℕ → ℕ → ℕ → Bool
+passesAt number xs t blocks k = ifEq number 9 (standsAt xs t blocks k) (fitsAt t k)
+
+-- The number of the row with so many rows before it.
+unfoldable pub rowNumber : ℕ → ℕ
+rowNumber r = ifLt r 1024 (r + 1) 0
+
+-- The opening row of the first of so many blocks from k on that fails a test, or 0.
+unfoldable pub placeFrom : (ℕ → Bool) → List ℕ → ℕ → ℕ → ℕ
+placeFrom ok t k zero = 0
+placeFrom ok t k (suc left) = ifTrue (ok k) (placeFrom ok t (k + 1) left) (rowNumber (getD t (k * 4) 0))
+
+unfoldable pub placed : ℕ → ℕ → Verdict
+placed number p = ifEq p 0 Accepted (refused number p)
