@@ -80,7 +80,7 @@ module _ (xs : List ℕ) (n : ℕ) (t : List ℕ) (s : State) (r : ℕ) (g : Goi
         table = rw (v, ← g .table) et;
         state = rw (v, ← g .state) es;
         fine = λ p l. at p l (ℕ-discrete p r) w;
-        rest = g .rest ∙ rw (rows-next xs n r h) (on w)
+        rest = g .rest ∙ rw (rows-next xs n r h) (on w);
       }
     where
       at : (p : ℕ) → p < r + 1 → Dec (p ≡ r) → fault (seenTo xs r) (rowAt xs r) ≡ 0 → fault (seenTo xs p) (rowAt xs p) ≡ 0
@@ -111,7 +111,7 @@ scanned-done xs n t s r g h =
       passed = λ z. going-done xs n t s r g h;
       fine = λ z. rw e at (g .fine);
       table = λ z. rw e at (g .table);
-      blocks = λ z. rw e at (ap (λ (x : State). x .blocks) (g .state))
+      blocks = λ z. rw e at (ap (λ (x : State). x .blocks) (g .state));
     }
 
 -- So many blocks can't be open before the last row.

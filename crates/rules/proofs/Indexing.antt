@@ -292,5 +292,5 @@ indexed xs f small = record { size = T .size; at = λ k h. entry k (T .each k (r
           links = rw x (e .links);
           ends = rw x (e .ends);
           block = rw (x, bs) (e .block);
-          total = rw (x, bs) (e .total ∙ capped-fit _ (rw bs at (small k)))
+          total = rw (x, bs) (e .total ∙ capped-fit _ (rw bs at (small k)));
         }

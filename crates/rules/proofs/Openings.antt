@@ -90,7 +90,7 @@ module _ (xs : List ℕ) (r : ℕ) (f : Fine xs r) (ok : fault (seenTo xs r) (ro
       let e = other-length (blocksTo xs r) w n in
       record {
         many = rw (other-openings n, e) (F .many);
-        each = λ j h. let l : j < length (blocksTo xs r) = rw e at h in rw (other-openings n, same j l) (F .each j l)
+        each = λ j h. let l : j < length (blocksTo xs r) = rw e at h in rw (other-openings n, same j l) (F .each j l);
       }
 
   open-firsts : w .kind ≡ 0 → w .block ≡ length (blocksTo xs r) → length (blocksTo xs r) < 128 → Firsts xs (suc r)

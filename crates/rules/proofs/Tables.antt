@@ -99,7 +99,7 @@ entry-same xs all t t′ r k b tot h e =
       links = rw (h 1 (omega arith), h 2 (omega arith)) (e .links);
       ends = rw (h 2 (omega arith)) (omega (arith, e .ends));
       block = rw (first, h 1 (omega arith), h 2 (omega arith)) (e .block);
-      total = rw (h 3 (omega arith)) (e .total)
+      total = rw (h 3 (omega arith)) (e .total);
     }
   where
     first : getD t′ (k * 4) 0 ≡ getD t (k * 4) 0
@@ -197,7 +197,7 @@ module _ (xs : List ℕ) (all : List Block) (t : List ℕ) (r : ℕ) (bs : List 
           links = rw (u, e) (omega arith);
           ends = rw e (omega arith);
           block = rw (f, u, e, blockAt-hit opened bs (length bs) (eq-eqb (length bs) (length bs) refl)) opened-from;
-          total = rw (o, opened-total) (sym (capped-fit _ (omega arith)))
+          total = rw (o, opened-total) (sym (capped-fit _ (omega arith)));
         }
 
     old-entry : (k : ℕ) → k < length bs → Entry xs all t′ (suc r) k (blockAt (opened ∷ bs) k) (total (opened ∷ bs) k)
@@ -212,7 +212,7 @@ module _ (xs : List ℕ) (all : List Block) (t : List ℕ) (r : ℕ) (bs : List 
           size = open-size t (length bs * 4) r (cell xs r 3) (T .size) fits;
           each = λ k h. at k h (ℕ-discrete k (length bs));
           last = λ m e. let q : m ≡ length bs = omega arith in rw q (open-uses t (length bs * 4) r (cell xs r 3) (T .size) fits ∙ omega arith);
-          unused = λ m e h. let q : m ≡ length bs = omega arith in rw q (open-links t (length bs * 4) r (cell xs r 3) (T .size) fits ∙ omega arith)
+          unused = λ m e h. let q : m ≡ length bs = omega arith in rw q (open-links t (length bs * 4) r (cell xs r 3) (T .size) fits ∙ omega arith);
         }
       where
         at : (k : ℕ) → k < suc (length bs) → Dec (k ≡ length bs) → Entry xs all t′ (suc r) k (blockAt (opened ∷ bs) k) (total (opened ∷ bs) k)
@@ -238,7 +238,7 @@ module _ (xs : List ℕ) (all : List Block) (t : List ℕ) (r : ℕ) (b : Block)
   behind b′ t′ h k l =
       let n = ne-eqb k c (λ e. omega arith) in
       let old : Entry xs all t r k (blockAt earlier k) (total earlier k) =
-            rw (blockAt-skip b earlier k n, total-skip b earlier k n) at (T .each k (omega arith)) in
+      rw (blockAt-skip b earlier k n, total-skip b earlier k n) at (T .each k (omega arith)) in
       rw (blockAt-skip b′ earlier k n, total-skip b′ earlier k n)
       (entry-same xs all t t′ r k _ _ (λ d x. h (k * 4 + d) (omega arith)) old)
 
@@ -306,7 +306,7 @@ module _ (xs : List ℕ) (all : List Block) (t : List ℕ) (r : ℕ) (b : Block)
           links = rw (l-links, l-ends) (omega arith);
           ends = rw l-ends (omega arith);
           block = rw (l-first, l-links, l-ends) (from-rows (getD t (c * 4) 0) f w);
-          total = l-total ∙ current .total
+          total = l-total ∙ current .total;
         }
 
     pub link-table : Table xs all l₂ (suc r) (linked ∷ earlier) 1
@@ -315,7 +315,7 @@ module _ (xs : List ℕ) (all : List Block) (t : List ℕ) (r : ℕ) (b : Block)
           size = put-length l₁ (c * 4 + 1) (r + 1) ∙ l-size;
           each = joined linked l₂ (total (b ∷ earlier) c) linked-total link-entry l-other;
           last = λ m e. let q : m ≡ c = omega arith in rw q (l-ends ∙ omega arith);
-          unused = λ m e h. let q : m ≡ c = omega arith in rw q (l-links ∙ omega arith)
+          unused = λ m e h. let q : m ≡ c = omega arith in rw q (l-links ∙ omega arith);
         }
 
   -- A use of a lower block, whose joins stay as they are.
@@ -375,7 +375,7 @@ module _ (xs : List ℕ) (all : List Block) (t : List ℕ) (r : ℕ) (b : Block)
           links = rw (u, u-ends) (omega (arith, current .links, ended));
           ends = rw u-ends (omega arith);
           block = rw (f, u, u-ends) (used-rows (getD t (c * 4) 0) (getD t (c * 4 + 1) 0) (omega (arith, current .links, ended)) w);
-          total = u-total
+          total = u-total;
         }
 
     pub use-table : Table xs all u₂ (suc r) (used ∷ earlier) 2
@@ -384,5 +384,5 @@ module _ (xs : List ℕ) (all : List Block) (t : List ℕ) (r : ℕ) (b : Block)
           size = put-length u₁ (c * 4 + 3) sum ∙ u-size;
           each = joined used u₂ (total (b ∷ earlier) c + total earlier label) used-total use-entry (λ j h. u-same j (λ e. omega arith) (λ e. omega arith));
           last = λ m e. let q : m ≡ c = omega arith in rw q (u-ends ∙ omega arith);
-          unused = λ m e h. absurd (omega arith)
+          unused = λ m e h. absurd (omega arith);
         }

@@ -1,5 +1,5 @@
 -- What the pass over the rows does at each row, as the code does it. Rows are counted from 0 here.
-use Prim.Native.Nat.{ℕ, zero, suc, _+_, _*_, _-_, _≤_, _<_}
+use Prim.Native.Nat.{ℕ, zero, suc, _+_, _*_, _/_, _%_, _≤_, _<_}
 use mathlib.Core.Path.{_≡_}
 use mathlib.Core.Bool.{Bool, true, false}
 use mathlib.Core.List.{List, [], _∷_}
@@ -8,12 +8,14 @@ use Rattle.model.specs.Choice.{ifLt, ifEq, ifTrue}
 use Rattle.model.specs.Limits.{maxTotal}
 use Rattle.model.specs.Rows.{rowAt, rowsFrom}
 use Rattle.model.specs.Rules.{Seen, start, fault, after}
-use Rattle.model.specs.Blocks.{Block, addRow}
-use Rattle.model.specs.Verdicts.{refused, checkRows}
+use Rattle.model.specs.Blocks.{Block, addRow, blocksOf}
+use Rattle.model.specs.Verdicts.{refused, checkRows, verdict}
 use Rattle.model.specs.declared.Verdict.{Verdict}
 use Rattle.model.specs.declared.Verdict.the-variants.{Accepted}
+use Rattle.rules.specs.Index.{Indexed}
 use Rattle.rules.specs.declared.State.{State}
 use Rattle.rules.specs.declared.Scan.{Scan}
+use Rattle.rules.specs.declared.Checked.{Checked}
 
 -- A total, or one more than the largest where it is too large.
 unfoldable pub capped : ℕ → ℕ
@@ -117,3 +119,23 @@ placeFrom ok t k (suc left) = ifTrue (ok k) (placeFrom ok t (k + 1) left) (rowNu
 
 unfoldable pub placed : ℕ → ℕ → Verdict
 placed number p = ifEq p 0 Accepted (refused number p)
+
+-- How many rows are lent: 0 if they meet refusal 4.
+unfoldable pub rowsIn : List ℕ → ℕ
+rowsIn xs = ifEq (length xs % 11) 0 (ifLt 1024 (length xs / 11) 0 (length xs / 11)) 0
+
+-- The verdict by what the pass found and the table it left.
+unfoldable pub judged : List ℕ → List ℕ → ℕ → ℕ → ℕ → ℕ → Verdict
+judged xs t n fault row blocks =
+    ifEq n 0 (refused 4 0)
+    (ifEq fault 0
+    (ifEq (placeFrom (passesAt 9 xs t blocks) t 0 blocks) 0
+    (ifEq (placeFrom (passesAt 10 xs t blocks) t 0 blocks) 0 Accepted (refused 10 (placeFrom (passesAt 10 xs t blocks) t 0 blocks)))
+    (refused 9 (placeFrom (passesAt 9 xs t blocks) t 0 blocks)))
+    (refused fault row))
+
+-- What the check promises: the model's verdict, and where the rows are accepted, the index of their blocks.
+pub record IsChecked (xs : List ℕ) (r : Checked) : Type 0 where
+  pub said : r .verdict ≡ verdict xs
+  pub blocks : verdict xs ≡ Accepted → r .index .blocks ≡ length (blocksOf xs)
+  pub table : verdict xs ≡ Accepted → Indexed xs (r .index .table)

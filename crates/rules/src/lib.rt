@@ -6,7 +6,8 @@ ghost use mathlib.Core.Path.{_≡_};
 ghost use mathlib.Core.Bool.{true};
 ghost use Prim.Native.Nat.{ℕ, _+_, _*_, _-_, _≤_, _<_};
 ghost use lib.ListN.{length, getD};
-ghost use Rattle.rules.specs.Passing.{capped, joinsAt, manyOf, Many, cuesOf, putAt, notedOpen, notedUse, noted, nextState, Scanned};
+ghost use Rattle.rules.specs.Passing.{capped, joinsAt, manyOf, Many, cuesOf, putAt, notedOpen, notedUse, noted, nextState, Scanned, ownAt, standsAt, passesAt, rowNumber, placeFrom, rowsIn, judged, IsChecked};
+ghost use Rattle.model.specs.Verdicts.{refused};
 use model::Refusal;
 use model::Verdict;
 
@@ -15,6 +16,8 @@ const ROW: usize = 11;
 const MAX_ROWS: usize = 1024;
 
 const MAX_TOTAL: u64 = 2147483647;
+
+const MAX_TOTAL_32: u32 = 2147483647;
 
 // How many blocks the rows open, and the table.
 pub struct Index {
@@ -87,6 +90,14 @@ fn joins_at(xs: &[u32], t: &[u32; 512], k: u32) -> usize
 {
     let f = wide(get(t, wide(k) * 4));
     wide(get(xs, f * ROW + 2))
+}
+
+// The own cues of block k.
+fn own_at(xs: &[u32], t: &[u32; 512], k: u32) -> u32
+    ensures { λ r. ⌜ r ≡ ownAt (now (xs .entry)) (now (t .entry)) k ⌝ }
+{
+    let f = wide(get(t, wide(k) * 4));
+    get(xs, f * ROW + 3)
 }
 
 // How many joins the block has that a use at p names.
@@ -227,5 +238,117 @@ pub fn pass(xs: &[u32], n: usize) -> Scan
             blocks: s.blocks,
             table: t,
         },
+    }
+}
+
+// Check 9 of block k.
+fn stands(xs: &[u32], t: &[u32; 512], blocks: u32, k: u32) -> bool
+    requires { ⌜ k < 4294967295 ⌝ }
+    ensures { λ r. ⌜ r ≡ standsAt (now (xs .entry)) (now (t .entry)) blocks k ⌝ }
+{
+    let joins = joins_at(xs, t, k);
+    if k + 1 != blocks {
+        return 0 < joins;
+    }
+    if joins != 0 {
+        return false;
+    }
+    0 < own_at(xs, t, k)
+}
+
+// Check 9 or 10 of block k.
+fn passes(xs: &[u32], t: &[u32; 512], blocks: u32, k: u32, number: u32) -> bool
+    requires { ⌜ k < 4294967295 ⌝ }
+    ensures { λ r. ⌜ r ≡ passesAt number (now (xs .entry)) (now (t .entry)) blocks k ⌝ }
+{
+    if number == 9 {
+        return stands(xs, t, blocks, k);
+    }
+    if MAX_TOTAL_32 < get(t, wide(k) * 4 + 3) {
+        return false;
+    }
+    true
+}
+
+// The number of a row that has so many rows before it.
+fn row_number(r: u32) -> u32
+    ensures { λ p. ⌜ p ≡ rowNumber r ⌝ }
+{
+    if r < 1024 {
+        return r + 1;
+    }
+    0
+}
+
+// The opening row of the first block that fails check 9 or 10, or 0.
+fn check_blocks(xs: &[u32], t: &[u32; 512], blocks: u32, number: u32) -> u32
+    ensures { λ p. ⌜ p ≡ placeFrom (passesAt number (now (xs .entry)) (now (t .entry)) blocks) (now (t .entry)) 0 blocks ⌝ }
+{
+    let mut k = 0;
+    while k < blocks {
+        let fine = passes(xs, t, blocks, k, number);
+        if !fine {
+            return row_number(get(t, wide(k) * 4));
+        }
+        k += 1;
+    }
+    0
+}
+
+// How many rows are lent: 0 if they meet refusal 4.
+fn rows_in(xs: &[u32]) -> usize
+    ensures { λ n. ⌜ n ≡ rowsIn (now (xs .entry)) ⌝ }
+{
+    if xs.len() % ROW != 0 {
+        return 0;
+    }
+    if MAX_ROWS < xs.len() / ROW {
+        return 0;
+    }
+    xs.len() / ROW
+}
+
+fn refuse(number: u32, place: u32) -> Verdict
+    ensures { λ v. ⌜ v ≡ refused number place ⌝ }
+{
+    Verdict::Refused(Refusal {
+        number: number,
+        place: place,
+    })
+}
+
+// The verdict on n rows, after the pass over them.
+fn judge(xs: &[u32], t: &[u32; 512], n: usize, fault: u32, row: u32, blocks: u32) -> Verdict
+    ensures { λ v. ⌜ v ≡ judged (now (xs .entry)) (now (t .entry)) n fault row blocks ⌝ }
+{
+    if n == 0 {
+        return refuse(4, 0);
+    }
+    if fault != 0 {
+        return refuse(fault, row);
+    }
+    let ends = check_blocks(xs, t, blocks, 9);
+    if ends != 0 {
+        return refuse(9, ends);
+    }
+    let totals = check_blocks(xs, t, blocks, 10);
+    if totals != 0 {
+        return refuse(10, totals);
+    }
+    Verdict::Accepted
+}
+
+// The verdict on lent rows, and the index of their blocks.
+pub fn check(xs: &[u32]) -> Checked
+    ensures { λ r. ⌜ IsChecked (now (xs .entry)) r ⌝ }
+{
+    let n = rows_in(xs);
+    let s = pass(xs, n);
+    let index = s.index;
+    let table = index.table;
+    let verdict = judge(xs, &table, n, s.fault, s.row, index.blocks);
+    Checked {
+        verdict: verdict,
+        index: index,
     }
 }
