@@ -11,7 +11,15 @@ use Rattle.model.specs.Rows.{rowsFrom, rowCount, rowsOf}
 use Rattle.model.specs.Rules.{start}
 use Rattle.model.specs.Blocks.{addRows, blocksOf, total}
 use Rattle.model.specs.Verdicts.{
-  refused, andThen, checkLength, checkRows, openingRows, checkBlocks, mayStand, totalFits, verdict
+  refused,
+  andThen,
+  checkLength,
+  checkRows,
+  openingRows,
+  checkBlocks,
+  mayStand,
+  totalFits,
+  verdict,
 }
 use Rattle.model.specs.declared.Verdict.{Verdict}
 use Rattle.model.specs.declared.Verdict.the-variants.{Accepted, Refused}
@@ -38,8 +46,8 @@ rows-fit xs = go (ℕ-discrete (length xs % 11) 0) (decLt 1024 (length xs / 11))
     Goal =
         (ifEq (length xs % 11) 0 (ifLt 1024 n 0 n) 0 ≡ 0 → ifEq (length xs % 11) 0 (ifLt n 1 (refused 4 0) (ifLt maxRows n (refused 4 0) Accepted)) (refused 4 0) ≡ refused 4 0)
         × ((ifEq (length xs % 11) 0 (ifLt 1024 n 0 n) 0 ≡ 0 → ⊥)
-            → (ifEq (length xs % 11) 0 (ifLt n 1 (refused 4 0) (ifLt maxRows n (refused 4 0) Accepted)) (refused 4 0) ≡ Accepted)
-            × (ifEq (length xs % 11) 0 (ifLt 1024 n 0 n) 0 ≡ n))
+        → (ifEq (length xs % 11) 0 (ifLt n 1 (refused 4 0) (ifLt maxRows n (refused 4 0) Accepted)) (refused 4 0) ≡ Accepted)
+        × (ifEq (length xs % 11) 0 (ifLt 1024 n 0 n) 0 ≡ n))
 
     go : Dec (length xs % 11 ≡ 0) → Dec (1024 < n) → Dec (n < 1) → Goal
     go (no a) b c = (λ e. eq-else _ _ _ _ a, λ m. absurd (m (eq-else _ _ _ _ a)))
@@ -47,9 +55,10 @@ rows-fit xs = go (ℕ-discrete (length xs % 11) 0) (decLt 1024 (length xs / 11))
     go (yes a) (yes b) (no c) = (λ e. eq-then _ _ _ _ a ∙ lt-else _ _ _ _ (omega arith) ∙ lt-then _ _ _ _ b, λ m. absurd (m (eq-then _ _ _ _ a ∙ lt-then _ _ _ _ b)))
     go (yes a) (no b) (yes c) =
         (λ e. eq-then _ _ _ _ a ∙ lt-then _ _ _ _ c, λ m. absurd (m (eq-then _ _ _ _ a ∙ lt-else _ _ _ _ (omega arith) ∙ omega arith)))
-    go (yes a) (no b) (no c) =
-        (λ e. absurd (omega (arith, sym (eq-then (length xs % 11) 0 (ifLt 1024 n 0 n) 0 a ∙ lt-else 1024 n 0 n (omega arith)) ∙ e)),
-          λ m. (eq-then _ _ _ _ a ∙ lt-else _ _ _ _ (omega arith) ∙ lt-else _ _ _ _ (omega arith), eq-then _ _ _ _ a ∙ lt-else _ _ _ _ (omega arith)))
+    go (yes a) (no b) (no c) = (
+      λ e. absurd (omega (arith, sym (eq-then (length xs % 11) 0 (ifLt 1024 n 0 n) 0 a ∙ lt-else 1024 n 0 n (omega arith)) ∙ e)),
+      λ m. (eq-then _ _ _ _ a ∙ lt-else _ _ _ _ (omega arith) ∙ lt-else _ _ _ _ (omega arith), eq-then _ _ _ _ a ∙ lt-else _ _ _ _ (omega arith)),
+    )
 
 pub rows-many : (xs : List ℕ) → (rowsIn xs * 11 ≤ length xs) × (rowsIn xs ≤ 1024)
 unfolding rowsIn
@@ -159,5 +168,13 @@ module _ (xs : List ℕ) (s : Scan) (S : Scanned xs (rowsIn xs) s) where
       record {
         said = e ∙ judged-law;
         blocks = λ a. blocks-are (accepted-some a) (accepted-fine a) ∙ ap length (blocks-of (accepted-some a));
-        table = λ a. table-is a
+        table = λ a. table-is a;
       }
+
+-- The same with the number of rows under another name.
+pub rows-many-of : (xs : List ℕ) (n : ℕ) → n ≡ rowsIn xs → (n * 11 ≤ length xs) × (n ≤ 1024)
+rows-many-of xs n e = rw e (rows-many xs)
+
+pub checked-of : (xs : List ℕ) (n : ℕ) (s : Scan) (v : Verdict) → n ≡ rowsIn xs → Scanned xs n s
+    → v ≡ judged xs (s .index .table) n (s .fault) (s .row) (s .index .blocks) → IsChecked xs (record { verdict = v; index = s .index })
+checked-of xs n s v e S j = is-checked xs s (rw e at S) v (rw e at j)
