@@ -9,7 +9,7 @@ use Rattle.model.specs.Choice.{ifEq, ifLt}
 use Rattle.model.specs.Limits.{maxRows, maxTotal}
 use Rattle.model.specs.Rows.{rowsFrom, rowCount, rowsOf}
 use Rattle.model.specs.Rules.{start}
-use Rattle.model.specs.Blocks.{addRows, blocksOf, total}
+use Rattle.model.specs.Blocks.{addRows, blocksOf, total, lastBlock, count}
 use Rattle.model.specs.Verdicts.{
   refused,
   andThen,
@@ -27,7 +27,7 @@ use Rattle.theory.specs.Accepted.{Show}
 use Rattle.theory.proofs.Choices.{eq-then, eq-else, lt-then, lt-else}
 use Rattle.theory.proofs.Accepted.{accepted-show, not-accepted, both-accepted}
 use Rattle.rules.specs.Index.{Indexed}
-use Rattle.rules.specs.Passing.{passesAt, placeFrom, placed, rowsIn, judged, Fine, stateTo, tableTo, blocksTo, Scanned, IsChecked}
+use Rattle.rules.specs.Passing.{passesAt, placeFrom, placed, rowsIn, judged, Fine, stateTo, tableTo, blocksTo, Scanned, IsChecked, cuesBy}
 use Rattle.rules.specs.declared.Scan.{Scan}
 use Rattle.rules.specs.declared.Checked.{Checked}
 use Rattle.rules.proofs.Known.{known, blocks-all}
@@ -178,3 +178,14 @@ rows-many-of xs n e = rw e (rows-many xs)
 pub checked-of : (xs : List ℕ) (n : ℕ) (s : Scan) (v : Verdict) → n ≡ rowsIn xs → Scanned xs n s
     → v ≡ judged xs (s .index .table) n (s .fault) (s .row) (s .index .blocks) → IsChecked xs (record { verdict = v; index = s .index })
 checked-of xs n s v e S j = is-checked xs s (rw e at S) v (rw e at j)
+
+-- The count by the index of accepted rows.
+pub cues-law : (xs : List ℕ) (r : Checked) → IsChecked xs r → verdict xs ≡ Accepted → cuesBy (r .index) ≡ count (blocksOf xs)
+unfolding cuesBy count lastBlock
+cues-law xs r c v =
+    let s : Show xs = accepted-show xs v in
+    let some : 1 ≤ length (blocksOf xs) = s .blocks .0 in
+    let e : r .index .blocks ≡ length (blocksOf xs) = c .blocks v in
+    let k : length (blocksOf xs) - 1 < length (blocksOf xs) = omega arith in
+    let f : 4 * (length (blocksOf xs) - 1) + 3 ≡ (r .index .blocks - 1) * 4 + 3 = omega arith in
+    eq-else _ _ _ _ (λ z. omega arith) ∙ rw f at (c .table v .at (length (blocksOf xs) - 1) k .total)

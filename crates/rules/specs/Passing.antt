@@ -1,5 +1,5 @@
 -- What the pass over the rows does at each row, as the code does it. Rows are counted from 0 here.
-use Prim.Native.Nat.{ℕ, zero, suc, _+_, _*_, _/_, _%_, _≤_, _<_}
+use Prim.Native.Nat.{ℕ, zero, suc, _+_, _*_, _-_, _/_, _%_, _≤_, _<_}
 use mathlib.Core.Path.{_≡_}
 use mathlib.Core.Bool.{Bool, true, false}
 use mathlib.Core.List.{List, [], _∷_}
@@ -15,6 +15,7 @@ use Rattle.model.specs.declared.Verdict.the-variants.{Accepted}
 use Rattle.rules.specs.Index.{Indexed}
 use Rattle.rules.specs.declared.State.{State}
 use Rattle.rules.specs.declared.Scan.{Scan}
+use Rattle.rules.specs.declared.Index.{Index}
 use Rattle.rules.specs.declared.Checked.{Checked}
 
 -- A total, or one more than the largest where it is too large.
@@ -139,3 +140,7 @@ pub record IsChecked (xs : List ℕ) (r : Checked) : Type 0 where
   pub said : r .verdict ≡ verdict xs
   pub blocks : verdict xs ≡ Accepted → r .index .blocks ≡ length (blocksOf xs)
   pub table : verdict xs ≡ Accepted → Indexed xs (r .index .table)
+
+-- The total of the last block, by the index.
+unfoldable pub cuesBy : Index → ℕ
+cuesBy i = ifEq (i .blocks) 0 0 (getD (i .table) ((i .blocks - 1) * 4 + 3) 0)

@@ -6,7 +6,7 @@ ghost use mathlib.Core.Path.{_≡_};
 ghost use mathlib.Core.Bool.{true};
 ghost use Prim.Native.Nat.{ℕ, _+_, _*_, _-_, _≤_, _<_};
 ghost use lib.ListN.{length, getD};
-ghost use Rattle.rules.specs.Passing.{capped, joinsAt, manyOf, Many, cuesOf, putAt, notedOpen, notedUse, noted, nextState, Scanned, ownAt, standsAt, passesAt, rowNumber, placeFrom, rowsIn, judged, IsChecked};
+ghost use Rattle.rules.specs.Passing.{capped, joinsAt, manyOf, Many, cuesOf, putAt, notedOpen, notedUse, noted, nextState, Scanned, ownAt, standsAt, passesAt, rowNumber, placeFrom, rowsIn, judged, IsChecked, cuesBy};
 ghost use Rattle.model.specs.Verdicts.{refused};
 use model::Refusal;
 use model::Verdict;
@@ -351,4 +351,16 @@ pub fn check(xs: &[u32]) -> Checked
         verdict: verdict,
         index: index,
     }
+}
+
+// The total of the last block, by the index.
+pub fn cues(index: Index) -> u32
+    ensures { λ r. ⌜ r ≡ cuesBy index ⌝ }
+{
+    let blocks = index.blocks;
+    if blocks == 0 {
+        return 0;
+    }
+    let table = index.table;
+    get(&table, wide(blocks - 1) * 4 + 3)
 }
