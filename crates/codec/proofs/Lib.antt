@@ -1,0 +1,9 @@
+-- Laws that tie the code's definitions to those of crates/model.
+pub mod Values
+pub mod Names
+pub mod LineScan
+pub mod FileScan
+pub mod Sofar
+pub mod Stores
+pub mod DigitStores
+pub mod RowStores

@@ -1,0 +1,178 @@
+-- The lines of rows, value by value.
+use Prim.Native.Nat.{ℕ, zero, suc, _+_, _*_, _-_, _≤_, _<_}
+use mathlib.Core.Path.{_≡_, refl, sym, _∙_, ap}
+use mathlib.Core.List.{List, [], _∷_, _++_, append-assoc}
+use native.Mathlib.Omega.{arith}
+use native.Mathlib.Numerals.{add-one}
+use lib.ListN.{length, getD, take, drop, set, length-append, length-drop, take-append-drop, drop-of-length-le}
+use lib.Seq.{length-take-le, drop-cons, drop-drop, take-add, take-all, take-suc, getD-take, getD-drop}
+use Rattle.model.specs.Text.{names, ends, digits, lineText}
+use Rattle.model.specs.Rows.{Row, cell, rowAt, rowsFrom, rowValues, rowLines, fileText}
+use Rattle.model.specs.Lists.{overwrite}
+use Rattle.theory.proofs.FlatRows.{first-values}
+use Rattle.codec.specs.Writing.{valueText, rowText, Puts}
+use Rattle.codec.proofs.Stores.{
+  puts-byte,
+  puts-both,
+  puts-over,
+  room-next,
+  Stored,
+  stored-begin,
+  stored-on,
+  stored-room,
+}
+
+-- A row's values are eleven of the lent numbers.
+moved : (xs : List ℕ) (r : ℕ) → rowAt (drop (r * 11) xs) 0 ≡ rowAt xs r
+unfolding rowAt cell
+moved xs r = simp getD-drop
+
+row-values : (xs : List ℕ) (r : ℕ) → r * 11 + 11 ≤ length xs → rowValues (rowAt xs r) ≡ take 11 (drop (r * 11) xs)
+row-values xs r h =
+    let ys = drop (r * 11) xs in
+    let long : length (take 11 ys) ≡ 11 = length-take-le 11 ys (rw (length-drop (r * 11) xs) (omega arith)) in
+    ap rowValues (sym (moved xs r))
+    ∙ rw (take-append-drop 11 ys) at (first-values (take 11 ys) (drop 11 ys) long)
+
+row-long : (xs : List ℕ) (r : ℕ) → length (rowValues (rowAt xs r)) ≡ 11
+unfolding rowValues rowAt
+row-long xs r = refl
+
+value-at : (xs : List ℕ) (r c : ℕ) → r * 11 + 11 ≤ length xs → c < 11
+    → getD (rowValues (rowAt xs r)) c 0 ≡ getD xs (r * 11 + c) 0
+value-at xs r c h k = rw (row-values xs r h) (getD-take 11 (drop (r * 11) xs) c 0 k ∙ getD-drop (r * 11) xs c 0)
+
+-- What is left of a row's line from value c on.
+unfoldable pub rowLeft : List ℕ → ℕ → ℕ → List ℕ
+rowLeft xs r c = lineText (drop c ends) (drop c (rowValues (rowAt xs r)))
+
+row-next : (xs : List ℕ) (r c : ℕ) → r * 11 + 11 ≤ length xs → c < 11
+    → rowLeft xs r c ≡ valueText (getD xs (r * 11 + c) 0) (getD ends c 10) ++ rowLeft xs r (c + 1)
+unfolding rowLeft valueText lineText ends
+row-next xs r c h k =
+    let vs = rowValues (rowAt xs r) in
+    let v : getD vs c 0 ≡ getD xs (r * 11 + c) 0 = value-at xs r c h k in
+    let long : c < length vs = omega (arith, row-long xs r) in
+    rw (add-one, drop-cons ends c 10 k, drop-cons vs c 0 long, v)
+    (sym (append-assoc (digits (getD xs (r * 11 + c) 0)) (getD ends c 10 ∷ []) (lineText (drop (suc c) ends) (drop (suc c) vs))))
+
+pub row-done : (xs : List ℕ) (r c : ℕ) → 11 ≤ c → rowLeft xs r c ≡ []
+unfolding rowLeft lineText ends
+row-done xs r c k = rw (drop-of-length-le ends {i = c} k)
+
+-- So a row's line is stored value by value.
+pub row-begin : (xs : List ℕ) (r from : ℕ) (o : List ℕ) → Stored (rowText xs r) (rowLeft xs r 0) o from from o
+unfolding rowText rowLeft
+row-begin xs r from o = stored-begin _ o from
+
+module _
+    (xs : List ℕ) (r c e from at : ℕ) (o p : List ℕ) (k : c < 11) (h : r * 11 + 11 ≤ length xs) (end : e ≡ getD ends c 10)
+    (s : Stored (rowText xs r) (rowLeft xs r c) o from at p)
+  where
+    left : rowLeft xs r c ≡ valueText (getD xs (r * 11 + c) 0) e ++ rowLeft xs r (c + 1)
+    left = rw end (row-next xs r c h k)
+
+    pub row-room : from + length (rowText xs r) ≤ length o → at + length (valueText (getD xs (r * 11 + c) 0) e) ≤ length p
+    row-room l = stored-room _ _ (valueText (getD xs (r * 11 + c) 0) e) (rowLeft xs r (c + 1)) o p from at left s l
+
+    pub row-on : (q : List ℕ) (next : ℕ) → Puts (valueText (getD xs (r * 11 + c) 0) e) p at next q
+        → Stored (rowText xs r) (rowLeft xs r (c + 1)) o from next q
+    row-on q next t = stored-on _ _ _ _ o p from at left s q next t
+
+-- Bytes that are copied from the start on.
+pub copy-turn : (bs o p : List ℕ) (i : ℕ) → i < length bs → Puts (take i bs) o 0 i p
+    → Puts (take (i + 1) bs) o 0 (i + 1) (set p i (getD bs i 0))
+copy-turn bs o p i h s = rw (add-one i, take-suc bs i 0 h, ← add-one i) (puts-both s (puts-byte p i (getD bs i 0)))
+
+pub copy-end : (bs o p : List ℕ) (i : ℕ) → length bs ≤ i → Puts (take i bs) o 0 i p → Puts bs o 0 i p
+copy-end bs o p i h s = rw (take-all i bs h) at s
+
+-- What is left of the lines of n rows from row r on.
+rows-next : (xs : List ℕ) (r n : ℕ) → r < n
+    → rowLines (rowsFrom xs r (n - r)) ≡ rowText xs r ++ rowLines (rowsFrom xs (r + 1) (n - (r + 1)))
+unfolding rowLines rowsFrom rowText
+rows-next xs r n h = let e : n - r ≡ suc (n - (r + 1)) = omega arith in rw e
+
+pub rows-done : (xs : List ℕ) (r n : ℕ) → n ≤ r → rowLines (rowsFrom xs r (n - r)) ≡ []
+unfolding rowLines rowsFrom
+rows-done xs r n h = let e : n - r ≡ 0 = omega arith in rw e
+
+module _
+    (xs : List ℕ) (r n from at : ℕ) (o p : List ℕ) (h : r < n)
+    (s : Stored (rowLines (rowsFrom xs 0 n)) (rowLines (rowsFrom xs r (n - r))) o from at p)
+  where
+    pub rows-room : from + length (rowLines (rowsFrom xs 0 n)) ≤ length o → at + length (rowText xs r) ≤ length p
+    rows-room l = stored-room _ _ (rowText xs r) (rowLines (rowsFrom xs (r + 1) (n - (r + 1)))) o p from at (rows-next xs r n h) s l
+
+    pub rows-on : (q : List ℕ) (next : ℕ) → Puts (rowText xs r) p at next q
+        → Stored (rowLines (rowsFrom xs 0 n)) (rowLines (rowsFrom xs (r + 1) (n - (r + 1)))) o from next q
+    rows-on q next t = stored-on _ _ _ _ o p from at (rows-next xs r n h) s q next t
+
+pub rows-begin : (xs : List ℕ) (n from : ℕ) (o : List ℕ)
+    → Stored (rowLines (rowsFrom xs 0 n)) (rowLines (rowsFrom xs 0 (n - 0))) o from from o
+rows-begin xs n from o = let e : n - 0 ≡ n = omega arith in rw e (stored-begin _ o from)
+
+-- The line of names and the lines of rows are the file.
+pub file-room : (xs : List ℕ) (n at : ℕ) (o p : List ℕ) → length (fileText (rowsFrom xs 0 n)) ≤ length o → Puts names o 0 at p
+    → at + length (rowLines (rowsFrom xs 0 n)) ≤ length p
+unfolding fileText
+file-room xs n at o p h s = room-next names (rowLines (rowsFrom xs 0 n)) _ o p 0 at refl (omega arith) s
+
+pub names-room : (ws : List Row) (m : ℕ) → length (fileText ws) ≤ m → 33 ≤ m
+unfolding fileText names
+names-room ws m h = omega (arith, length-append names (rowLines ws))
+
+pub file-written : (xs : List ℕ) (n at next : ℕ) (o p q : List ℕ) → length (fileText (rowsFrom xs 0 n)) ≤ length o
+    → Puts names o 0 at p → Puts (rowLines (rowsFrom xs 0 n)) p at next q → q ≡ overwrite (fileText (rowsFrom xs 0 n)) o
+unfolding fileText
+file-written xs n at next o p q h s t = puts-over _ o q next h (puts-both s t)
+
+-- How many bytes values are written to, with the byte behind each.
+unfoldable pub textWidth : List ℕ → ℕ
+textWidth [] = 0
+textWidth (v ∷ vs) = length (digits v) + 1 + textWidth vs
+
+width-both : (vs ws : List ℕ) → textWidth (vs ++ ws) ≡ textWidth vs + textWidth ws
+unfolding textWidth
+width-both [] ws = omega arith
+width-both (v ∷ vs) ws = omega (arith, width-both vs ws)
+
+line-width : (es vs : List ℕ) → length vs ≡ length es → length (lineText es vs) ≡ textWidth vs
+unfolding lineText textWidth
+line-width [] [] e = refl
+line-width [] (v ∷ vs) e = absurd (omega arith)
+line-width (c ∷ es) [] e = absurd (omega arith)
+line-width (c ∷ es) (v ∷ vs) e = rw (length-append (digits v) (c ∷ lineText es vs)) (omega (arith, line-width es vs (omega arith)))
+
+rows-width : (xs : List ℕ) (r n : ℕ) → (r + n) * 11 ≤ length xs
+    → length (rowLines (rowsFrom xs r n)) ≡ textWidth (take (n * 11) (drop (r * 11) xs))
+unfolding rowLines rowsFrom textWidth ends
+rows-width xs r zero h = refl
+rows-width xs r (suc n) h =
+    let ys = drop (r * 11) xs in
+    let e : suc n * 11 ≡ 11 + n * 11 = omega arith in
+    let k : r * 11 + 11 ≡ (r + 1) * 11 = omega arith in
+    let t : take (suc n * 11) ys ≡ take 11 ys ++ take (n * 11) (drop ((r + 1) * 11) xs) =
+    rw e (take-add 11 (n * 11) ys ∙ rw (drop-drop 11 (r * 11) xs, k)) in
+    let a : length (lineText ends (rowValues (rowAt xs r))) ≡ textWidth (take 11 ys) =
+    line-width ends (rowValues (rowAt xs r)) (row-long xs r) ∙ ap textWidth (row-values xs r (omega arith)) in
+    length-append (lineText ends (rowValues (rowAt xs r))) (rowLines (rowsFrom xs (r + 1) n))
+    ∙ rw (t, width-both (take 11 ys) (take (n * 11) (drop ((r + 1) * 11) xs)), a, rows-width xs (r + 1) n (omega arith))
+
+pub width-begin : (xs : List ℕ) → 33 ≡ 33 + textWidth (take 0 xs)
+unfolding textWidth
+width-begin xs = refl
+
+pub width-turn : (xs : List ℕ) (sum i w m : ℕ) → sum ≡ 33 + textWidth (take i xs) → i < m → m ≤ length xs → w ≡ length (digits (getD xs i 0))
+    → sum + w + 1 ≡ 33 + textWidth (take (i + 1) xs)
+unfolding textWidth
+width-turn xs sum i w m p h k e =
+    rw (add-one i, take-suc xs i 0 (omega arith), width-both (take i xs) (getD xs i 0 ∷ [])) (omega arith)
+
+pub width-end : (xs : List ℕ) (sum i n : ℕ) → sum ≡ 33 + textWidth (take i xs) → i ≤ n * 11 → n * 11 ≤ i → n * 11 ≤ length xs
+    → sum ≡ length (fileText (rowsFrom xs 0 n))
+unfolding fileText names
+width-end xs sum i n p h k l =
+    let e : i ≡ n * 11 = omega arith in
+    let w : length (rowLines (rowsFrom xs 0 n)) ≡ textWidth (take (n * 11) xs) = rows-width xs 0 n (omega arith) in
+    p ∙ rw (e, length-append names (rowLines (rowsFrom xs 0 n)), w)

@@ -1,0 +1,401 @@
+// The show file as bytes: read to rows, and written from rows.
+use model::Refusal;
+ghost use mathlib.Core.Path.{_≡_};
+ghost use mathlib.Core.Bool.{true};
+ghost use Prim.Native.Nat.{ℕ, _+_, _*_, _≤_, _<_};
+ghost use lib.ListN.{length, take, getD};
+ghost use Rattle.model.specs.Choice.{ifLt};
+ghost use Rattle.model.specs.Text.{names, ends, digits, digitAt};
+ghost use Rattle.model.specs.Rows.{rowsFrom, rowLines, fileText};
+ghost use Rattle.model.specs.Lists.{overwrite};
+ghost use Rattle.model.specs.Verdicts.{same, readFile};
+ghost use Rattle.codec.specs.Scanning.{figureAt, endedAt, valueAt, lineAt, LineSays, RowSays, startsNamed};
+ghost use Rattle.codec.specs.Parsing.{Parses};
+ghost use Rattle.codec.specs.Writing.{one, two, valueText, rowText, Puts};
+
+// The line of names.
+const NAMES: [u8; 33] = *b"block,kind,label,a,b,c,d,e,f,g,h\n";
+
+// What a file says: how many rows it has, or why it is refused.
+pub enum Parsed {
+    Rows(usize),
+    Refused(Refusal),
+}
+
+// A value and the place behind the byte that ends it.
+pub enum Field {
+    Value(u32, usize),
+    Bad,
+}
+
+// The place behind a line of values.
+pub enum Line {
+    Next(usize),
+    Malformed,
+}
+
+fn widen(b: u8) -> u32
+    ensures { λ r. ⌜ r ≡ b ⌝ }
+{
+    b as u32
+}
+
+// The digit at a place; 10 where there is none.
+fn digit_at(file: &[u8], i: usize) -> u32
+    ensures { λ r. ⌜ r ≡ figureAt (now (file .entry)) i ⌝ }
+{
+    if i < file.len() {
+        let b = file[i];
+        if b < 48 {
+            return 10;
+        }
+        if 57 < b {
+            return 10;
+        }
+        return widen(b - 48);
+    }
+    10
+}
+
+// The value v, if the byte `end` stands behind it at i.
+fn ended_at(file: &[u8], i: usize, end: u8, v: u32) -> Field
+    ensures { λ r. ⌜ r ≡ endedAt (now (file .entry)) end i v ⌝ }
+{
+    if i < file.len() {
+        if file[i] == end {
+            return Field::Value(v, i + 1);
+        }
+    }
+    Field::Bad
+}
+
+// The value at a place with the byte that ends it.
+fn value_at(file: &[u8], at: usize, end: u8) -> Field
+    ensures { λ r. ⌜ r ≡ valueAt (now (file .entry)) end at ⌝ }
+{
+    let first = digit_at(file, at);
+    if 10 <= first {
+        return Field::Bad;
+    }
+    let mut i = at + 1;
+    if first == 0 {
+        if digit_at(file, i) < 10 {
+            return Field::Bad;
+        }
+        return ended_at(file, i, end, 0);
+    }
+    let mut d = digit_at(file, i);
+    let mut v = first;
+    while d < 10 {
+        v = v * 10 + d;
+        if 65535 < v {
+            return Field::Bad;
+        }
+        i += 1;
+        d = digit_at(file, i);
+    }
+    ended_at(file, i, end, v)
+}
+
+// A file and a place in it.
+pub struct Reader<'a> {
+    pub file: &'a [u8],
+    pub at: usize,
+}
+
+// The reader of a file at a place.
+pub fn reader_at<'a>(file: &'a [u8], at: usize) -> Reader<'a>
+    ensures { λ r. ⌜ (r .file ≡ file .entry) × (r .at ≡ at) ⌝ }
+{
+    Reader { file, at }
+}
+
+// The value at a reader's place with the byte that ends it.
+pub fn next_value<'a>(r: Reader<'a>, end: u8) -> Field
+    ensures { λ v. ⌜ v ≡ valueAt (now (r .entry .file)) end (r .entry .at) ⌝ }
+{
+    value_at(r.file, r.at, end)
+}
+
+// The same for a file and a place.
+fn value_from(file: &[u8], at: usize, end: u8) -> Field
+    ensures { λ r. ⌜ r ≡ valueAt (now (file .entry)) end at ⌝ }
+{
+    next_value(reader_at(file, at), end)
+}
+
+// The byte behind value c of a line.
+fn end_of(c: usize) -> u8
+    ensures { λ r. ⌜ r ≡ getD ends c 10 ⌝ }
+{
+    if c < 10 {
+        return 44;
+    }
+    10
+}
+
+// The line at a place: its values to a row.
+fn line_at(file: &[u8], from: usize, row: &mut [u32]) -> Line
+    requires { ⌜ length (now row) ≡ 11 ⌝ }
+    ensures { λ r. ⌜ LineSays (lineAt ends (now (file .entry)) from) r (now (row .exit)) ⌝ }
+{
+    let mut at = from;
+    let mut c = 0;
+    while c < 11 {
+        let end = end_of(c);
+        match value_from(file, at, end) {
+            Field::Value(v, next) => {
+                row[c] = v;
+                at = next;
+            }
+            Field::Bad => return Line::Malformed,
+        }
+        c += 1;
+    }
+    Line::Next(at)
+}
+
+// The line at a reader's place: its values to a row.
+pub fn next_line<'a, 'b>(r: Reader<'a>, row: &'b mut [u32]) -> Line
+    requires { ⌜ length (now row) ≡ 11 ⌝ }
+    ensures { λ l. ⌜ LineSays (lineAt ends (now (r .entry .file)) (r .entry .at)) l (now (row .exit)) ⌝ }
+{
+    line_at(r.file, r.at, row)
+}
+
+// The same for a file and a place.
+fn line_from(file: &[u8], at: usize, row: &mut [u32]) -> Line
+    requires { ⌜ length (now row) ≡ 11 ⌝ }
+    ensures { λ l. ⌜ LineSays (lineAt ends (now (file .entry)) at) l (now (row .exit)) ⌝ }
+{
+    next_line(reader_at(file, at), row)
+}
+
+// The line at a place: its values to row r, if there is room for that row.
+fn row_at(file: &[u8], at: usize, rows: &mut [u32], r: usize) -> Line
+    requires { ⌜ length (now rows) ≡ 11264 ⌝ }
+    ensures { λ l. ⌜ RowSays (lineAt ends (now (file .entry)) at) r l (now (rows .entry)) (now (rows .exit)) ⌝ }
+{
+    if r < 1024 {
+        let a = r * 11;
+        let e = a + 11;
+        return line_from(file, at, &mut rows[a..e]);
+    }
+    let mut spare = [0u32; 11];
+    line_from(file, at, &mut spare)
+}
+
+// Two lists agree in their first n bytes.
+fn same_to(a: &[u8], b: &[u8], n: usize) -> bool
+    requires { ⌜ (n ≤ length (now a)) × (n ≤ length (now b)) ⌝ }
+    ensures { λ r. ⌜ r ≡ same (take n (now (a .entry))) (take n (now (b .entry))) ⌝ }
+{
+    let mut i = 0;
+    while i < n {
+        if a[i] != b[i] {
+            return false;
+        }
+        i += 1;
+    }
+    true
+}
+
+// The file starts with the line of names.
+fn named(file: &[u8]) -> bool
+    ensures { λ r. ⌜ r ≡ startsNamed (now (file .entry)) ⌝ }
+{
+    if file.len() < 33 {
+        return false;
+    }
+    same_to(file, &NAMES, 33)
+}
+
+fn refuse(number: u32, place: u32) -> Parsed
+    ensures { λ r. ⌜ r ≡ Parsed.Refused (record { number = number; place = place }) ⌝ }
+{
+    Parsed::Refused(Refusal { number, place })
+}
+
+// Reads the lines behind the line of names.
+fn read_lines(file: &[u8], rows: &mut [u32]) -> Parsed
+    requires { ⌜ (length (now file) ≤ 65536) × (startsNamed (now file) ≡ true) × (length (now rows) ≡ 11264) ⌝ }
+    ensures { λ r. ⌜ Parses (readFile (now (file .entry))) r (now (rows .exit)) ⌝ }
+{
+    let mut at = 33;
+    let mut r = 0;
+    while at < file.len() {
+        match row_at(file, at, rows, r) {
+            Line::Next(next) => {
+                at = next;
+            }
+            Line::Malformed => return refuse(3, r as u32 + 2),
+        }
+        r += 1;
+    }
+    Parsed::Rows(r)
+}
+
+// Reads a file. Rows past the 1,024th are checked and counted, and not stored.
+pub fn parse(file: &[u8], rows: &mut [u32; 11264]) -> Parsed
+    ensures { λ r. ⌜ Parses (readFile (now (file .entry))) r (now (rows .exit)) ⌝ }
+{
+    if 65536 < file.len() {
+        return refuse(1, 0);
+    }
+    if named(file) {
+        return read_lines(file, rows);
+    }
+    refuse(2, 1)
+}
+
+// 1 where v reaches a limit, and 0 below it.
+fn reaches(v: u32, limit: u32) -> usize
+    ensures { λ r. ⌜ r ≡ ifLt v limit 0 1 ⌝ }
+    ensures { λ r. ⌜ r ≤ 1 ⌝ }
+{
+    if v < limit {
+        return 0;
+    }
+    1
+}
+
+// How many digits a number is written with.
+fn width(v: u32) -> usize
+    ensures { λ r. ⌜ r ≡ length (digits v) ⌝ }
+    ensures { λ r. ⌜ r ≤ 5 ⌝ }
+{
+    1 + reaches(v, 10) + reaches(v, 100) + reaches(v, 1000) + reaches(v, 10000)
+}
+
+// The length of the file of n rows.
+pub fn measure(xs: &[u32], n: usize) -> usize
+    requires { ⌜ (n * 11 ≤ length (now xs)) × (n ≤ 1024) ⌝ }
+    ensures { λ r. ⌜ r ≡ length (fileText (rowsFrom (now (xs .entry)) 0 n)) ⌝ }
+{
+    let m = n * 11;
+    let mut sum: usize = 33;
+    let mut i = 0;
+    while i < m {
+        sum = sum + width(xs[i]) + 1;
+        i += 1;
+    }
+    sum
+}
+
+// The last digit of a number.
+fn digit(q: u32) -> u8
+    ensures { λ r. ⌜ r ≡ digitAt 1 q ⌝ }
+{
+    (q % 10) as u8 + 48
+}
+
+// Writes the last digit of a number.
+fn put_one(q: u32, out: &mut [u8], at: usize) -> usize
+    requires { ⌜ at + length (one q) ≤ length (now out) ⌝ }
+    ensures { λ r. ⌜ Puts (one q) (now (out .entry)) at r (now (out .exit)) ⌝ }
+{
+    out[at] = digit(q);
+    at + 1
+}
+
+// Writes the last two digits of a number.
+fn put_two(q: u32, out: &mut [u8], at: usize) -> usize
+    requires { ⌜ at + length (two q) ≤ length (now out) ⌝ }
+    ensures { λ r. ⌜ Puts (two q) (now (out .entry)) at r (now (out .exit)) ⌝ }
+{
+    let i = put_one(q / 10, out, at);
+    put_one(q, out, i)
+}
+
+// Writes a number's digits.
+fn put_digits(v: u32, out: &mut [u8], at: usize) -> usize
+    requires { ⌜ at + length (digits v) ≤ length (now out) ⌝ }
+    ensures { λ r. ⌜ Puts (digits v) (now (out .entry)) at r (now (out .exit)) ⌝ }
+{
+    if v < 10 {
+        return put_one(v, out, at);
+    }
+    if v < 100 {
+        return put_two(v, out, at);
+    }
+    if v < 1000 {
+        let i = put_one(v / 100, out, at);
+        return put_two(v, out, i);
+    }
+    if v < 10000 {
+        let i = put_two(v / 100, out, at);
+        return put_two(v, out, i);
+    }
+    let i = put_one(v / 10000, out, at);
+    let j = put_two(v / 100, out, i);
+    put_two(v, out, j)
+}
+
+// Writes a value and the byte behind it.
+fn put_value(v: u32, end: u8, out: &mut [u8], at: usize) -> usize
+    requires { ⌜ at + length (valueText v end) ≤ length (now out) ⌝ }
+    ensures { λ r. ⌜ Puts (valueText v end) (now (out .entry)) at r (now (out .exit)) ⌝ }
+{
+    let i = put_digits(v, out, at);
+    out[i] = end;
+    i + 1
+}
+
+// Writes the line of row r.
+fn put_row(xs: &[u32], r: usize, out: &mut [u8], from: usize) -> usize
+    requires { ⌜ (r * 11 + 11 ≤ length (now xs)) × (from + length (rowText (now xs) r) ≤ length (now out)) ⌝ }
+    ensures { λ p. ⌜ Puts (rowText (now (xs .entry)) r) (now (out .entry)) from p (now (out .exit)) ⌝ }
+{
+    let a = r * 11;
+    let mut at = from;
+    let mut c = 0;
+    while c < 11 {
+        at = put_value(xs[a + c], end_of(c), out, at);
+        c += 1;
+    }
+    at
+}
+
+// Writes bytes to the start of a list.
+fn put_bytes(bytes: &[u8], out: &mut [u8]) -> usize
+    requires { ⌜ length (now bytes) ≤ length (now out) ⌝ }
+    ensures { λ r. ⌜ Puts (now (bytes .entry)) (now (out .entry)) 0 r (now (out .exit)) ⌝ }
+{
+    let mut i = 0;
+    while i < bytes.len() {
+        out[i] = bytes[i];
+        i += 1;
+    }
+    i
+}
+
+// Writes the line of names.
+fn put_names(out: &mut [u8]) -> usize
+    requires { ⌜ 33 ≤ length (now out) ⌝ }
+    ensures { λ r. ⌜ Puts names (now (out .entry)) 0 r (now (out .exit)) ⌝ }
+{
+    put_bytes(&NAMES, out)
+}
+
+// Writes the lines of n rows.
+fn put_rows(xs: &[u32], n: usize, out: &mut [u8], from: usize) -> usize
+    requires { ⌜ (n * 11 ≤ length (now xs)) × (from + length (rowLines (rowsFrom (now xs) 0 n)) ≤ length (now out)) ⌝ }
+    ensures { λ p. ⌜ Puts (rowLines (rowsFrom (now (xs .entry)) 0 n)) (now (out .entry)) from p (now (out .exit)) ⌝ }
+{
+    let mut at = from;
+    let mut r = 0;
+    while r < n {
+        at = put_row(xs, r, out, at);
+        r += 1;
+    }
+    at
+}
+
+// Writes the file of n rows.
+pub fn emit(xs: &[u32], n: usize, out: &mut [u8])
+    requires { ⌜ (n * 11 ≤ length (now xs)) × (n ≤ 1024) × (length (fileText (rowsFrom (now xs) 0 n)) ≤ length (now out)) ⌝ }
+    ensures { λ _. ⌜ now (out .exit) ≡ overwrite (fileText (rowsFrom (now (xs .entry)) 0 n)) (now (out .entry)) ⌝ }
+{
+    let at = put_names(out);
+    put_rows(xs, n, out, at);
+}

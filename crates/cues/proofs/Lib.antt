@@ -1,0 +1,4 @@
+-- The laws that the proofs cite.
+pub mod Laws
+pub mod Locating
+pub mod Numbers

@@ -1,0 +1,24 @@
+-- `own_number`: each test is the definition's.
+use Rattle.model.specs.Paths.{ownNumber}
+use Rattle.theory.proofs.Choices.{ifs}
+use borrow.Author.Needs.{needs}
+use Rattle.cues.proofs.own_number.Statement.{statement}
+use Rattle.cues.proofs.own_number.Tie as tie
+
+returns : tie.Need-returns
+unfolding ownNumber
+returns c = search (ifs, needs)
+
+returns-2 : tie.Need-returns-2
+unfolding ownNumber
+returns-2 c = search (ifs, needs)
+
+add-result : tie.Need-add-result
+add-result c = search needs
+
+returns-3 : tie.Need-returns-3
+unfolding ownNumber
+returns-3 c = search (ifs, needs)
+
+pub own-number-spec : {M : Type 1} → statement M
+own-number-spec = tie.close (tie.spec returns returns-2 add-result returns-3)
