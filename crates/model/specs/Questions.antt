@@ -27,6 +27,9 @@ pub record Outcome : Type 0 where
   pub answer : Returned
   pub after : List ℕ
 
+abbrev pub outcome : Returned → List ℕ → Outcome
+outcome r after = record { answer = r; after = after }
+
 -- "A refusal leaves all lent memory unchanged."
 unfoldable pub refuse : Refusal → List ℕ → Outcome
 refuse r lent = record { answer = returned r; after = lent }

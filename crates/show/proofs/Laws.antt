@@ -1,18 +1,47 @@
 -- Laws of the entry points: what each answer is, once the rows are checked.
-use Prim.Native.Nat.{ℕ}
+use Prim.Native.Nat.{ℕ, _≤_, _<_}
 use mathlib.Core.Path.{_≡_, refl, sym, _∙_, ap}
+use mathlib.Core.Bool.{true, false}
 use mathlib.Core.List.{List, [], _∷_}
-use Rattle.model.specs.Blocks.{blocksOf, count}
-use Rattle.model.specs.Verdicts.{verdict}
-use Rattle.model.specs.Answers.{Returned, returned, given, ofCount}
-use Rattle.model.specs.Questions.{onAccepted, countAsked}
+use lib.ListN.{length}
+use Rattle.model.specs.Rules.{isCue}
+use Rattle.model.specs.Blocks.{Block, blocksOf, lastBlock, count}
+use Rattle.model.specs.Verdicts.{refusal, verdict}
+use Rattle.model.specs.Paths.{placeIn}
+use Rattle.model.specs.Lists.{overwrite}
+use Rattle.model.specs.Answers.{Returned, returned, given, ofCount, ofLocate, ofNumber}
+use Rattle.model.specs.Questions.{
+  Outcome,
+  outcome,
+  refuse,
+  answer,
+  onAccepted,
+  withRoom,
+  withCue,
+  countAsked,
+  located,
+  locateIn,
+  locateAsked,
+  numbered,
+  showNumber,
+  numberAsked,
+}
 use Rattle.model.specs.declared.Refusal.{Refusal}
 use Rattle.model.specs.declared.Verdict.{Verdict}
 use Rattle.model.specs.declared.Verdict.the-variants.{Accepted, Refused}
 use Rattle.model.specs.declared.CountAnswer.the-variants.{Cues, Refused as CountRefused}
+use Rattle.model.specs.declared.LocateAnswer.the-variants.{Found, Refused as LocateRefused}
+use Rattle.model.specs.declared.NumberAnswer.{NumberAnswer}
+use Rattle.model.specs.declared.NumberAnswer.the-variants.{Number, Refused as NumberRefused}
+use Rattle.theory.proofs.Choices.{lt-then, lt-else, eq-then, eq-else, true-then, true-else}
+use Rattle.rules.specs.Index.{Indexed}
 use Rattle.rules.specs.Passing.{IsChecked, cuesBy}
+use Rattle.rules.specs.declared.Index.{Index}
 use Rattle.rules.specs.declared.Checked.{Checked}
 use Rattle.rules.proofs.Checking.{cues-law}
+use Rattle.cues.specs.Copies.{placeOf}
+use Rattle.cues.specs.declared.Place.{Place as Found′}
+use Rattle.show.specs.Ready.{Ready}
 
 -- What follows an acceptance, and what a refusal.
 pub on-yes : {A : Type 0} (xs : List ℕ) (refuse : Refusal → A) (answer : A) → verdict xs ≡ Accepted → onAccepted (verdict xs) refuse answer ≡ answer
@@ -39,3 +68,99 @@ module _ (xs : List ℕ) (r : Checked) (c : IsChecked xs r) where
   pub count-no : (f : Refusal) → r .verdict ≡ Refused f → ofCount (CountRefused f) ≡ countAsked xs
   unfolding ofCount countAsked
   count-no f e = sym (on-no xs (λ f. returned f) (given (count (blocksOf xs) ∷ [])) f (said-no f e))
+
+-- What is ready is what was checked and accepted.
+pub ready : (xs : List ℕ) (r : Checked) → IsChecked xs r → r .verdict ≡ Accepted → Ready xs (r .index)
+ready xs r c e = let v = said-yes xs r c e in record { accepted = v; blocks = c .blocks v; table = c .table v }
+
+pub cues-ready : (xs : List ℕ) (i : Index) → Ready xs i → cuesBy i ≡ count (blocksOf xs)
+cues-ready xs i g =
+    cues-law xs (record { verdict = verdict xs; index = i }) (record { said = refl; blocks = λ v. g .blocks; table = λ v. g .table }) (g .accepted)
+
+-- Refusals 11 and 12, and none of them.
+module _ (lent : List ℕ) (o : Outcome) where
+  pub no-room : (need : ℕ) → length lent < need → refuse (refusal 11 0) lent ≡ withRoom need lent o
+  unfolding withRoom
+  no-room need h = sym (lt-then _ _ _ _ h)
+
+  pub has-room : (need : ℕ) → need ≤ length lent → o ≡ withRoom need lent o
+  unfolding withRoom
+  has-room need h = sym (lt-else _ _ _ _ h)
+
+  pub no-cue : (bs : List Block) (n : ℕ) → isCue (count bs) n ≡ false → refuse (refusal 12 0) lent ≡ withCue bs n lent o
+  unfolding withCue
+  no-cue bs n h = sym (true-else _ _ _ h)
+
+  pub has-cue : (bs : List Block) (n : ℕ) → isCue (count bs) n ≡ true → o ≡ withCue bs n lent o
+  unfolding withCue
+  has-cue bs n h = sym (true-then _ _ _ h)
+
+cue-low : (cues n : ℕ) → n < 1 → isCue cues n ≡ false
+unfolding isCue
+cue-low cues n h = lt-then _ _ _ _ h
+
+cue-high : (cues n : ℕ) → 1 ≤ n → cues < n → isCue cues n ≡ false
+unfolding isCue
+cue-high cues n l h = lt-else _ _ _ _ l ∙ lt-then _ _ _ _ h
+
+cue-yes : (cues n : ℕ) → 1 ≤ n → n ≤ cues → isCue cues n ≡ true
+unfolding isCue
+cue-yes cues n l h = lt-else _ _ _ _ l ∙ lt-else _ _ _ _ h
+
+-- Locating.
+module _ (bs : List Block) (n : ℕ) (path : List ℕ) where
+  pub locate-room : length path < 127 → outcome (ofLocate (LocateRefused (record { number = 11; place = 0 }))) path ≡ locateIn bs n path
+  unfolding ofLocate locateIn refuse refusal
+  locate-room h = no-room path _ 127 h
+
+  locate-no : 127 ≤ length path → isCue (count bs) n ≡ false → outcome (ofLocate (LocateRefused (record { number = 12; place = 0 }))) path ≡ locateIn bs n path
+  unfolding ofLocate locateIn refuse refusal
+  locate-no h e = no-cue path _ bs n e ∙ has-room path _ 127 h
+
+  pub locate-low : 127 ≤ length path → n < 1 → outcome (ofLocate (LocateRefused (record { number = 12; place = 0 }))) path ≡ locateIn bs n path
+  locate-low h l = locate-no h (cue-low (count bs) n l)
+
+-- The count under another name.
+module _ (xs : List ℕ) (i : Index) (g : Ready xs i) (n : ℕ) (path : List ℕ) (cues : ℕ) (e : cues ≡ cuesBy i) where
+  pub counted : cues ≡ count (blocksOf xs)
+  counted = e ∙ cues-ready xs i g
+
+  pub locate-high : 127 ≤ length path → 1 ≤ n → cues < n
+      → outcome (ofLocate (LocateRefused (record { number = 12; place = 0 }))) path ≡ locateIn (blocksOf xs) n path
+  locate-high h l m = locate-no (blocksOf xs) n path h (cue-high (count (blocksOf xs)) n l (rw counted at m))
+
+  pub locate-found : (q : Found′) (after : List ℕ) → 127 ≤ length path → 1 ≤ n → n ≤ cues
+      → q ≡ placeOf (placeIn (blocksOf xs) (lastBlock (blocksOf xs)) n) → after ≡ overwrite (placeIn (blocksOf xs) (lastBlock (blocksOf xs)) n .path) path
+      → outcome (ofLocate (Found (q .depth) (q .block) (q .own))) after ≡ locateIn (blocksOf xs) n path
+  unfolding ofLocate locateIn located answer
+  locate-found q after h l m f a =
+      rw (f, a) (has-cue path _ (blocksOf xs) n (cue-yes (count (blocksOf xs)) n l (rw counted at m)) ∙ has-room path _ 127 h)
+
+pub number-asks : (xs : List ℕ) (i : Index) → Ready xs i → (verdict xs ≡ Accepted) × (Indexed xs (i .table) × (i .blocks ≡ length (blocksOf xs)))
+number-asks xs i g = (g .accepted, (g .table, g .blocks))
+
+module _ (xs : List ℕ) (r : Checked) (c : IsChecked xs r) where
+  pub locate-yes : (n : ℕ) (path : List ℕ) (o : Outcome) → r .verdict ≡ Accepted → o ≡ locateIn (blocksOf xs) n path → o ≡ locateAsked xs n path
+  unfolding locateAsked
+  locate-yes n path o e h = h ∙ sym (on-yes xs (λ f. refuse f path) _ (said-yes xs r c e))
+
+  pub locate-refused : (n : ℕ) (path : List ℕ) (f : Refusal) → r .verdict ≡ Refused f → outcome (ofLocate (LocateRefused f)) path ≡ locateAsked xs n path
+  unfolding ofLocate locateAsked refuse
+  locate-refused n path f e = sym (on-no xs (λ f. refuse f path) _ f (said-no xs r c f e))
+
+  pub number-yes : (path : List ℕ) (own n : ℕ) (a : NumberAnswer) → r .verdict ≡ Accepted → n ≡ showNumber (blocksOf xs) path own → ofNumber a ≡ numbered n
+      → ofNumber a ≡ numberAsked xs path own
+  unfolding numberAsked
+  number-yes path own n a e h g = g ∙ rw h (sym (on-yes xs (λ f. returned f) _ (said-yes xs r c e)))
+
+  pub number-refused : (path : List ℕ) (own : ℕ) (f : Refusal) → r .verdict ≡ Refused f → ofNumber (NumberRefused f) ≡ numberAsked xs path own
+  unfolding ofNumber numberAsked
+  number-refused path own f e = sym (on-no xs (λ f. returned f) _ f (said-no xs r c f e))
+
+pub number-none : (n : ℕ) → n ≡ 0 → ofNumber (NumberRefused (record { number = 13; place = 0 })) ≡ numbered n
+unfolding ofNumber numbered refusal
+number-none n e = sym (eq-then _ _ _ _ e)
+
+pub number-some : (n : ℕ) → (n ≡ 0 → ⊥) → ofNumber (Number n) ≡ numbered n
+unfolding ofNumber numbered
+number-some n e = sym (eq-else _ _ _ _ e)

@@ -1,1 +1,1 @@
--- What the entry points are proved with.
+pub mod Ready

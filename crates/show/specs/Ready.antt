@@ -1,0 +1,15 @@
+-- What the parts of the entry points know of rows that were accepted.
+use Prim.Native.Nat.{ℕ}
+use mathlib.Core.Path.{_≡_}
+use mathlib.Core.List.{List}
+use lib.ListN.{length}
+use Rattle.model.specs.Blocks.{blocksOf}
+use Rattle.model.specs.Verdicts.{verdict}
+use Rattle.model.specs.declared.Verdict.the-variants.{Accepted}
+use Rattle.rules.specs.Index.{Indexed}
+use Rattle.rules.specs.declared.Index.{Index}
+
+pub record Ready (xs : List ℕ) (i : Index) : Type 0 where
+  pub accepted : verdict xs ≡ Accepted
+  pub blocks : i .blocks ≡ length (blocksOf xs)
+  pub table : Indexed xs (i .table)
