@@ -1,15 +1,18 @@
 -- Laws of the entry points: what each answer is, once the rows are checked.
-use Prim.Native.Nat.{ℕ, _≤_, _<_}
+use Prim.Native.Nat.{ℕ, suc, _+_, _*_, _/_, _≤_, _<_}
+use native.Mathlib.Omega.{arith}
 use mathlib.Core.Path.{_≡_, refl, sym, _∙_, ap}
 use mathlib.Core.Bool.{true, false}
-use mathlib.Core.List.{List, [], _∷_}
-use lib.ListN.{length}
+use mathlib.Core.List.{List, [], _∷_, _++_}
+use lib.ListN.{length, getD, set, take, drop, length-append, length-take, length-drop}
+use lib.Seq.{take-suc, drop-cons, set-at, append-snoc, length-take-le, take-length}
+use Rattle.model.specs.Rows.{rowsFrom, rowCount, rowsOf, fileText}
 use Rattle.model.specs.Rules.{isCue}
 use Rattle.model.specs.Blocks.{Block, blocksOf, lastBlock, count}
-use Rattle.model.specs.Verdicts.{refusal, verdict}
+use Rattle.model.specs.Verdicts.{refusal, verdict, byLine, inLines}
 use Rattle.model.specs.Paths.{placeIn}
 use Rattle.model.specs.Lists.{overwrite}
-use Rattle.model.specs.Answers.{Returned, returned, given, ofCount, ofLocate, ofNumber}
+use Rattle.model.specs.Answers.{Returned, returned, given, ofRead, ofWrite, ofCount, ofLocate, ofNumber}
 use Rattle.model.specs.Questions.{
   Outcome,
   outcome,
@@ -18,6 +21,9 @@ use Rattle.model.specs.Questions.{
   onAccepted,
   withRoom,
   withCue,
+  readInto,
+  writeInto,
+  writeAsked,
   countAsked,
   located,
   locateIn,
@@ -29,11 +35,15 @@ use Rattle.model.specs.Questions.{
 use Rattle.model.specs.declared.Refusal.{Refusal}
 use Rattle.model.specs.declared.Verdict.{Verdict}
 use Rattle.model.specs.declared.Verdict.the-variants.{Accepted, Refused}
+use Rattle.model.specs.declared.ReadAnswer.the-variants.{Read, Refused as ReadRefused}
+use Rattle.model.specs.declared.WriteAnswer.the-variants.{Written, Refused as WriteRefused}
 use Rattle.model.specs.declared.CountAnswer.the-variants.{Cues, Refused as CountRefused}
 use Rattle.model.specs.declared.LocateAnswer.the-variants.{Found, Refused as LocateRefused}
 use Rattle.model.specs.declared.NumberAnswer.{NumberAnswer}
 use Rattle.model.specs.declared.NumberAnswer.the-variants.{Number, Refused as NumberRefused}
 use Rattle.theory.proofs.Choices.{lt-then, lt-else, eq-then, eq-else, true-then, true-else}
+use Rattle.theory.proofs.Accepted.{accepted-show}
+use Rattle.theory.proofs.RoundTrips.{rows-fit}
 use Rattle.rules.specs.Index.{Indexed}
 use Rattle.rules.specs.Passing.{IsChecked, cuesBy}
 use Rattle.rules.specs.declared.Index.{Index}
@@ -41,7 +51,8 @@ use Rattle.rules.specs.declared.Checked.{Checked}
 use Rattle.rules.proofs.Checking.{cues-law}
 use Rattle.cues.specs.Copies.{placeOf}
 use Rattle.cues.specs.declared.Place.{Place as Found′}
-use Rattle.show.specs.Ready.{Ready}
+use Rattle.show.specs.Ready.{Ready, readNumbers}
+use Rattle.show.proofs.Places.{place-few}
 
 -- What follows an acceptance, and what a refusal.
 pub on-yes : {A : Type 0} (xs : List ℕ) (refuse : Refusal → A) (answer : A) → verdict xs ≡ Accepted → onAccepted (verdict xs) refuse answer ≡ answer
@@ -164,3 +175,80 @@ number-none n e = sym (eq-then _ _ _ _ e)
 pub number-some : (n : ℕ) → (n ≡ 0 → ⊥) → ofNumber (Number n) ≡ numbered n
 unfolding ofNumber numbered
 number-some n e = sym (eq-else _ _ _ _ e)
+
+-- A list copied to the beginning of another, number by number.
+pub copy-begin : (from to : List ℕ) → to ≡ take 0 from ++ drop 0 to
+copy-begin from to = refl
+
+pub copy-on : (from to now : List ℕ) (i : ℕ) → length from ≤ length to → i < length from → now ≡ take i from ++ drop i to
+    → set now i (getD from i 0) ≡ take (i + 1) from ++ drop (i + 1) to
+copy-on from to now i h l e =
+    let one : i + 1 ≡ suc i = omega arith in
+    rw (e, one, take-suc from i 0 l, drop-cons to i 0 (omega arith))
+    (set-at (take i from) (getD to i 0) (drop (suc i) to) (getD from i 0) i (length-take-le i from (omega arith)) ∙ sym (append-snoc (take i from) (getD from i 0) (drop (suc i) to)))
+
+pub copy-done : (from to now : List ℕ) (i : ℕ) → length from ≤ i → i ≤ length from → now ≡ take i from ++ drop i to → now ≡ overwrite from to
+unfolding overwrite
+copy-done from to now i h l e = let q : i ≡ length from = omega arith in e ∙ rw (q, take-length from)
+
+-- Writing.
+abbrev text : List ℕ → List ℕ
+text xs = fileText (rowsFrom xs 0 (length xs / 11))
+
+same-text : (xs : List ℕ) → text xs ≡ fileText (rowsOf xs)
+unfolding rowsOf rowCount
+same-text xs = refl
+
+pub rows-few : (xs : List ℕ) → verdict xs ≡ Accepted → (length xs / 11 * 11 ≤ length xs) × (length xs / 11 ≤ 1024)
+unfolding rowCount
+rows-few xs v = let s = accepted-show xs v in (omega arith, s .rows .1)
+
+pub text-few : (xs : List ℕ) (n : ℕ) → verdict xs ≡ Accepted → n ≡ length (text xs) → n ≤ 65536
+text-few xs n v e = rw (e, same-text xs) (rows-fit xs v)
+
+module _ (xs out : List ℕ) (n : ℕ) (e : n ≡ length (text xs)) where
+  pub write-room : length out < n → outcome (ofWrite (WriteRefused (record { number = 11; place = 0 }))) out ≡ writeInto (fileText (rowsOf xs)) out
+  unfolding ofWrite writeInto refuse refusal
+  write-room h = no-room out _ (length (fileText (rowsOf xs))) (rw (e, same-text xs) at h)
+
+  pub write-asks : verdict xs ≡ Accepted → n ≤ length out → (length xs / 11 * 11 ≤ length xs) × (length xs / 11 ≤ 1024) × (length (text xs) ≤ length out)
+  write-asks v h = let r = rows-few xs v in (r .0, r .1, rw e at h)
+
+  pub write-done : (after : List ℕ) → n ≤ length out → after ≡ overwrite (text xs) out → outcome (ofWrite (Written n)) after ≡ writeInto (fileText (rowsOf xs)) out
+  unfolding ofWrite writeInto answer
+  write-done after h a =
+      let q : n ≡ length (fileText (rowsOf xs)) = e ∙ ap length (same-text xs) in
+      rw (a, same-text xs, q) (has-room out _ (length (fileText (rowsOf xs))) (rw q at h))
+
+module _ (xs : List ℕ) (r : Checked) (c : IsChecked xs r) where
+  pub write-yes : (out : List ℕ) (o : Outcome) → r .verdict ≡ Accepted → o ≡ writeInto (fileText (rowsOf xs)) out → o ≡ writeAsked xs out
+  unfolding writeAsked
+  write-yes out o e h = h ∙ sym (on-yes xs (λ f. refuse f out) _ (said-yes xs r c e))
+
+  pub write-refused : (out : List ℕ) (f : Refusal) → r .verdict ≡ Refused f → outcome (ofWrite (WriteRefused f)) out ≡ writeAsked xs out
+  unfolding ofWrite writeAsked refuse
+  write-refused out f e = sym (on-no xs (λ f. refuse f out) _ f (said-no xs r c f e))
+
+-- Reading.
+module _ (xs : List ℕ) (i : Index) (g : Ready xs i) (out : List ℕ) where
+  pub read-room : length out < length xs → outcome (ofRead (ReadRefused (record { number = 11; place = 0 }))) out ≡ readInto xs out
+  unfolding ofRead readInto refuse refusal
+  read-room h = no-room out _ (length xs) h
+
+  pub read-done : (after : List ℕ) (cues : ℕ) → length xs ≤ length out → after ≡ overwrite xs out → cues ≡ cuesBy i
+      → outcome (ofRead (Read (length xs / 11) (i .blocks) cues)) after ≡ readInto xs out
+  unfolding ofRead readInto answer rowCount
+  read-done after cues h a e =
+      rw (a, e, cues-ready xs i g, g .blocks) (has-room out _ (length xs) h)
+
+module _ (xs : List ℕ) (r : Checked) (c : IsChecked xs r) where
+  pub read-yes : (out : List ℕ) (o : Outcome) → r .verdict ≡ Accepted → o ≡ readInto xs out → o ≡ readNumbers xs out
+  unfolding readNumbers inLines onAccepted
+  read-yes out o e h = rw (said-yes xs r c e) h
+
+  pub read-refused : (out : List ℕ) (f f′ : Refusal) → r .verdict ≡ Refused f → f′ ≡ byLine f → outcome (ofRead (ReadRefused f′)) out ≡ readNumbers xs out
+  unfolding ofRead readNumbers inLines onAccepted refuse
+  read-refused out f f′ e h = rw (said-no xs r c f e, h)
+
+  pub refused-few : (f : Refusal) → r .verdict ≡ Refused f → f .place ≤ 1024
+  refused-few f e = place-few xs f (said-no xs r c f e)

@@ -4,7 +4,8 @@ use mathlib.Core.Path.{_≡_}
 use mathlib.Core.List.{List}
 use lib.ListN.{length}
 use Rattle.model.specs.Blocks.{blocksOf}
-use Rattle.model.specs.Verdicts.{verdict}
+use Rattle.model.specs.Verdicts.{verdict, inLines}
+use Rattle.model.specs.Questions.{Outcome, refuse, onAccepted, readInto}
 use Rattle.model.specs.declared.Verdict.the-variants.{Accepted}
 use Rattle.rules.specs.Index.{Indexed}
 use Rattle.rules.specs.declared.Index.{Index}
@@ -13,3 +14,7 @@ pub record Ready (xs : List ℕ) (i : Index) : Type 0 where
   pub accepted : verdict xs ≡ Accepted
   pub blocks : i .blocks ≡ length (blocksOf xs)
   pub table : Indexed xs (i .table)
+
+-- What reading answers for the numbers that a file has.
+unfoldable pub readNumbers : List ℕ → List ℕ → Outcome
+readNumbers xs out = onAccepted (inLines (verdict xs)) (λ r. refuse r out) (readInto xs out)

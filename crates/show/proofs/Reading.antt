@@ -1,0 +1,98 @@
+-- Reading a file: what the codec parsed is what the model reads.
+use Prim.Native.Nat.{ℕ, suc, _+_, _*_, _-_, _/_, _%_, _≤_, _<_}
+use native.Mathlib.Omega.{arith}
+use mathlib.Core.Path.{_≡_, refl, sym, _∙_, ap}
+use mathlib.Core.List.{List, [], _∷_}
+use lib.ListN.{length, take, drop}
+use lib.Seq.{take-all}
+use Rattle.model.specs.Choice.{ifLt, ifEq}
+use Rattle.model.specs.Limits.{rowSize, maxRows}
+use Rattle.model.specs.Rows.{rowCount}
+use Rattle.model.specs.Verdicts.{
+  refusal,
+  refused,
+  andThen,
+  checkLength,
+  verdict,
+  Reading,
+  Numbers,
+  Unread,
+  readFile,
+  byLine,
+  inLines,
+  numbersOf,
+  readVerdict,
+  fileVerdict,
+}
+use Rattle.model.specs.Answers.{ofRead}
+use Rattle.model.specs.Questions.{Outcome, outcome, refuse, onAccepted, readInto, readAsked}
+use Rattle.model.specs.declared.Refusal.{Refusal}
+use Rattle.model.specs.declared.Verdict.the-variants.{Accepted, Refused}
+use Rattle.model.specs.declared.ReadAnswer.the-variants.{Refused as ReadRefused}
+use Rattle.theory.specs.Files.{IsFile}
+use Rattle.theory.proofs.Choices.{lt-then, lt-else, eq-then}
+use Rattle.theory.proofs.Files.{read-written}
+use Rattle.codec.specs.Parsing.{Parses}
+use Rattle.codec.specs.declared.Parsed.{Parsed}
+use Rattle.codec.specs.declared.Parsed.the-variants.{Rows, Refused as Unparsed}
+use Rattle.show.specs.Ready.{readNumbers}
+
+-- What is answered, by what the lines of the file say.
+asked-numbers : (f out xs : List ℕ) → readFile f ≡ Numbers xs → readAsked f out ≡ readNumbers xs out
+unfolding readAsked fileVerdict readVerdict numbersOf readNumbers
+asked-numbers f out xs e = rw e
+
+asked-unread : (f out : List ℕ) (r : Refusal) → readFile f ≡ Unread r → readAsked f out ≡ refuse r out
+unfolding readAsked fileVerdict readVerdict onAccepted
+asked-unread f out r e = rw e
+
+-- Too many rows.
+too-many : (xs out : List ℕ) → length xs % rowSize ≡ 0 → maxRows < rowCount xs → readNumbers xs out ≡ refuse (refusal 4 0) out
+unfolding readNumbers verdict checkLength andThen inLines onAccepted refused byLine refusal ifLt
+too-many xs out e h = rw (eq-then (length xs % rowSize) 0 _ _ e, lt-else (rowCount xs) 1 _ _ (omega arith), lt-then maxRows (rowCount xs) _ _ h)
+
+module _ (f out ys : List ℕ) where
+  pub read-unread : (p : Parsed) (r : Refusal) → Parses (readFile f) p ys → p ≡ Unparsed r → outcome (ofRead (ReadRefused r)) out ≡ readAsked f out
+  unfolding ofRead Parses refuse
+  read-unread p r P e = go (readFile f) refl P
+    where
+      go : (k : Reading) → readFile f ≡ k → Parses k p ys → outcome (ofRead (ReadRefused r)) out ≡ readAsked f out
+      go (Numbers xs) q P = absurd (let z : _≡_ {A = ℕ} 0 1 = cc (sym e ∙ P .0) in omega arith)
+      go (Unread s) q P = let same : r ≡ s = cc (sym e ∙ P) in rw (asked-unread f out s q, same)
+
+  -- The rows that were parsed.
+  record Parsed-rows (n : ℕ) : Type 0 where
+    pub xs : List ℕ
+    pub reads : readFile f ≡ Numbers xs
+    pub many : n ≡ rowCount xs
+    pub whole : length xs % rowSize ≡ 0
+    pub size : length ys ≡ 11264
+    pub stored : take (length xs) ys ≡ take 11264 xs
+
+  parsed-rows : (p : Parsed) (n : ℕ) → Parses (readFile f) p ys → p ≡ Rows n → Parsed-rows n
+  unfolding Parses
+  parsed-rows p n P e = go (readFile f) refl P
+    where
+      go : (k : Reading) → readFile f ≡ k → Parses k p ys → Parsed-rows n
+      go (Numbers xs) q P =
+          record { xs = xs; reads = q; many = cc (sym e ∙ P .0); whole = read-written f xs q .rows; size = P .1; stored = P .2 }
+      go (Unread s) q P = absurd (let z : _≡_ {A = ℕ} 0 1 = cc (sym e ∙ P) in omega arith)
+
+  pub read-many : (p : Parsed) (n : ℕ) → Parses (readFile f) p ys → p ≡ Rows n → 1024 < n
+      → outcome (ofRead (ReadRefused (record { number = 4; place = 0 }))) out ≡ readAsked f out
+  unfolding ofRead refuse refusal
+  read-many p n P e h =
+      let r = parsed-rows p n P e in
+      sym (asked-numbers f out (r .xs) (r .reads) ∙ too-many (r .xs) out (r .whole) (rw (r .many) at h))
+
+  pub room : (p : Parsed) (n : ℕ) → Parses (readFile f) p ys → p ≡ Rows n → n ≤ 1024 → n * 11 ≤ length ys
+  room p n P e h = omega (arith, parsed-rows p n P e .size)
+
+  pub read-few : (p : Parsed) (n : ℕ) (o : Outcome) → Parses (readFile f) p ys → p ≡ Rows n → n ≤ 1024
+      → o ≡ readNumbers (take (n * 11 - 0) (drop 0 ys)) out → o ≡ readAsked f out
+  unfolding rowCount
+  read-few p n o P e h g =
+      let r = parsed-rows p n P e in
+      let size : n * 11 - 0 ≡ length (r .xs) = omega (arith, r .many, r .whole) in
+      let same : take (n * 11 - 0) (drop 0 ys) ≡ r .xs = rw size (r .stored ∙ take-all 11264 (r .xs) (omega arith)) in
+      g ∙ rw same (sym (asked-numbers f out (r .xs) (r .reads)))
