@@ -1,17 +1,15 @@
 -- What is read at a place of the file is what the model reads of the lines from there on.
-use Prim.Native.Nat.{ℕ, zero, suc, _+_, _*_, _-_, _/_, _≤_, _<_}
+use Prim.Native.Nat.{ℕ, suc, _+_, _≤_, _<_}
 use mathlib.Core.Path.{_≡_, refl, sym, _∙_, ap}
 use mathlib.Core.Bool.{Bool, true, false}
 use mathlib.Core.List.{List, [], _∷_, _++_, append-assoc, flatten}
 use native.Mathlib.Omega.{arith}
 use native.Mathlib.Numerals.{add-one}
 use native.Mathlib.Decide.{decLt}
-use lib.ListN.{length, getD, take, drop, drop-of-length-le, length-drop}
+use lib.ListN.{length, getD, drop, drop-of-length-le, length-drop}
 use lib.Seq.{drop-cons, drop-drop}
-use Rattle.model.specs.Limits.{maxValue}
-use Rattle.model.specs.Choice.{ifEq}
-use Rattle.model.specs.Text.{isDigit, run, afterRun, decimal, isValue, LineValues, Values as Says, Malformed as Mute, valuesOf, linesOf, digits, lineText, ends}
-use Rattle.model.specs.Verdicts.{refusal, Reading, Numbers, Unread, rowThen, readLines}
+use Rattle.model.specs.Text.{isDigit, run, afterRun, decimal, LineValues, Values as Says, Malformed as Mute, valuesOf, linesOf, digits, lineText, ends}
+use Rattle.model.specs.Verdicts.{refusal, Unread, rowThen, readLines}
 use Rattle.theory.specs.Files.{Each, Small, Other, Reads, Said}
 use Rattle.theory.proofs.Choices.{lt-then, lt-first, eq-then, eq-first, true-then, true-first}
 use Rattle.theory.proofs.Digits.{digits-read, digits-written}

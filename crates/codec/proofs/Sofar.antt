@@ -2,16 +2,15 @@
 use Prim.Native.Nat.{ℕ, suc, _+_, _*_, _-_, _/_, _≤_, _<_}
 use mathlib.Core.Path.{_≡_, refl, sym, _∙_, ap}
 use mathlib.Core.Bool.{Bool, true, false}
-use mathlib.Core.List.{List, [], _∷_, _++_, append-nil, append-assoc}
+use mathlib.Core.List.{List, [], _++_, append-nil, append-assoc}
 use native.Mathlib.Omega.{arith}
 use native.Mathlib.Decide.{decLt}
-use lib.ListN.{length, take, drop, length-append, length-drop, drop-of-length-le}
-use lib.Seq.{length-take-le, take-all, take-at, take-append-le}
+use lib.ListN.{length, take, drop, length-append, drop-of-length-le}
+use lib.Seq.{take-all, take-at, take-append-le}
 use Rattle.model.specs.Limits.{maxBytes, maxRows}
 use Rattle.model.specs.Text.{ends, linesOf}
 use Rattle.model.specs.Rows.{rowCount}
 use Rattle.model.specs.Verdicts.{refusal, Reading, Numbers, Unread, rowThen, readLines, readAll, readFile}
-use Rattle.model.specs.declared.Refusal.{Refusal}
 use Rattle.theory.proofs.Choices.{lt-then, lt-else}
 use Rattle.codec.specs.Scanning.{Found, Values, Broken, lineAt, stored, RowSays, startsNamed}
 use Rattle.codec.specs.Parsing.{room, Parses}
@@ -20,7 +19,7 @@ use Rattle.codec.specs.declared.Line.the-variants.{Next, Malformed}
 use Rattle.codec.specs.declared.Parsed.{Parsed}
 use Rattle.codec.specs.declared.Parsed.the-variants.{Rows, Refused}
 use Rattle.codec.proofs.Names.{named-read, unnamed-read}
-use Rattle.codec.proofs.FileScan.{LineText, line-text, read-on, read-off}
+use Rattle.codec.proofs.FileScan.{line-text, read-on, read-off}
 
 -- r rows were read up to place at: their numbers, of which those that have room are stored, and what is left to read.
 pub record Sofar (f : List ℕ) (at r : ℕ) (rows : List ℕ) : Type 0 where

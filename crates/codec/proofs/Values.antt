@@ -1,7 +1,7 @@
 -- A value at a place of the file, digit by digit.
 use Prim.Native.Nat.{ℕ, zero, suc, _+_, _*_, _-_, _≤_, _<_}
 use mathlib.Core.Path.{_≡_, refl, sym, _∙_, ap}
-use mathlib.Core.Bool.{Bool, true, false, false≢true}
+use mathlib.Core.Bool.{Bool, true, false}
 use mathlib.Core.List.{List, [], _∷_, _++_}
 use native.Mathlib.Omega.{arith}
 use native.Mathlib.Numerals.{add-one}
@@ -9,13 +9,13 @@ use native.Mathlib.Decide.{decLt}
 use lib.ListN.{length, getD, drop, replicate, drop-of-length-le, List·getD-append, getD-replicate}
 use lib.Seq.{drop-cons, getD-append-add}
 use Rattle.model.specs.Limits.{maxValue}
-use Rattle.model.specs.Choice.{ifLt, ifEq, ifTrue}
+use Rattle.model.specs.Choice.{ifLt, ifTrue}
 use Rattle.model.specs.Text.{digitZero, comma, lineFeed, ends, isDigit, run, decimal, isValue}
 use Rattle.theory.proofs.Choices.{lt-then, lt-else, lt-first, lt-second, lt-same, eq-then, true-then, true-else}
 use Rattle.theory.proofs.Digits.{is-digit, is-value, decimal-first, decimal-grows}
-use Rattle.codec.specs.Scanning.{figure, figureAt, endedAt, valueAt, valueRest}
+use Rattle.codec.specs.Scanning.{figure, figureAt, endedAt, valueAt}
 use Rattle.codec.specs.declared.Field.{Field}
-use Rattle.codec.specs.declared.Field.the-variants.{Value, Bad}
+use Rattle.codec.specs.declared.Field.the-variants.{Bad}
 
 -- A byte that is a digit, and one that is not.
 figure-is : (b d : ℕ) → d ≡ figure b → d < 10 → b ≡ digitZero + d
@@ -72,6 +72,10 @@ module _ (f : List ℕ) (i d : ℕ) (e : d ≡ figureAt f i) where
 
   pub less-in : d < 10 → length f - (i + 1) < length f - i
   less-in h = let (k, g) = found h in omega arith
+
+-- What is left of a value whose digits before place i stand for v, where ds are the digits from there on.
+unfoldable pub valueRest : List ℕ → ℕ → ℕ → ℕ → List ℕ → Field
+valueRest f e i v ds = ifLt maxValue (decimal v ds) Bad (endedAt f e (i + length ds) (decimal v ds))
 
 -- A run of digits as a value: by the first digit and the others.
 started : List ℕ → ℕ → ℕ → ℕ → List ℕ → Field

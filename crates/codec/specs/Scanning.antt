@@ -5,7 +5,7 @@ use mathlib.Core.Bool.{Bool, false}
 use mathlib.Core.List.{List, [], _∷_, _++_}
 use lib.ListN.{length, getD, take, drop}
 use Rattle.model.specs.Choice.{ifLt, ifEq, ifTrue}
-use Rattle.model.specs.Limits.{rowSize, maxValue, maxRows}
+use Rattle.model.specs.Limits.{rowSize, maxRows}
 use Rattle.model.specs.Text.{digitZero, names, run, decimal, isValue}
 use Rattle.model.specs.Verdicts.{same}
 use Rattle.codec.specs.declared.Field.{Field}
@@ -28,10 +28,6 @@ endedAt f e i v = ifLt i (length f) (ifEq (getD f i 0) e (Value v (i + 1)) Bad) 
 unfoldable pub valueAt : List ℕ → ℕ → ℕ → Field
 valueAt f e at =
     ifTrue (isValue (run (drop at f))) (endedAt f e (at + length (run (drop at f))) (decimal 0 (run (drop at f)))) Bad
-
--- What is left of a value whose digits before place i stand for v, where ds are the digits from there on.
-unfoldable pub valueRest : List ℕ → ℕ → ℕ → ℕ → List ℕ → Field
-valueRest f e i v ds = ifLt maxValue (decimal v ds) Bad (endedAt f e (i + length ds) (decimal v ds))
 
 -- What stands at a place: values and the place behind them, or no such values.
 pub data Found : Type 0 where

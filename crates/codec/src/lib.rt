@@ -22,16 +22,22 @@ pub enum Parsed {
     Refused(Refusal),
 }
 
-// A value and the place behind the byte that ends it.
+// A value of a line: the number, and the place behind the byte that ends it.
 pub enum Field {
     Value(u32, usize),
     Bad,
 }
 
-// The place behind a line of values.
+// A line of values: the place behind it.
 pub enum Line {
     Next(usize),
     Malformed,
+}
+
+// A file and a place in it.
+pub struct Reader<'a> {
+    pub file: &'a [u8],
+    pub at: usize,
 }
 
 fn widen(b: u8) -> u32
@@ -97,12 +103,6 @@ fn value_at(file: &[u8], at: usize, end: u8) -> Field
     ended_at(file, i, end, v)
 }
 
-// A file and a place in it.
-pub struct Reader<'a> {
-    pub file: &'a [u8],
-    pub at: usize,
-}
-
 // The reader of a file at a place.
 pub fn reader_at<'a>(file: &'a [u8], at: usize) -> Reader<'a>
     ensures { λ r. ⌜ (r .file ≡ file .entry) × (r .at ≡ at) ⌝ }
@@ -117,7 +117,7 @@ pub fn next_value<'a>(r: Reader<'a>, end: u8) -> Field
     value_at(r.file, r.at, end)
 }
 
-// The same for a file and a place.
+// The same for who has a file and a place, and no reader.
 fn value_from(file: &[u8], at: usize, end: u8) -> Field
     ensures { λ r. ⌜ r ≡ valueAt (now (file .entry)) end at ⌝ }
 {
@@ -163,7 +163,7 @@ pub fn next_line<'a, 'b>(r: Reader<'a>, row: &'b mut [u32]) -> Line
     line_at(r.file, r.at, row)
 }
 
-// The same for a file and a place.
+// The same for who has a file and a place, and no reader.
 fn line_from(file: &[u8], at: usize, row: &mut [u32]) -> Line
     requires { ⌜ length (now row) ≡ 11 ⌝ }
     ensures { λ l. ⌜ LineSays (lineAt ends (now (file .entry)) at) l (now (row .exit)) ⌝ }
@@ -235,7 +235,7 @@ fn read_lines(file: &[u8], rows: &mut [u32]) -> Parsed
     Parsed::Rows(r)
 }
 
-// Reads a file. Rows past the 1,024th are checked and counted, and not stored.
+// Reads a file to rows. Rows past the 1,024th are checked and counted, but not stored.
 pub fn parse(file: &[u8], rows: &mut [u32; 11264]) -> Parsed
     ensures { λ r. ⌜ Parses (readFile (now (file .entry))) r (now (rows .exit)) ⌝ }
 {

@@ -1,38 +1,28 @@
 -- The digit at a place: each answer is a case of the definition.
-use Rattle.codec.specs.Scanning.{figureAt, figure}
-use Rattle.theory.proofs.Choices.{ifs}
 use borrow.Author.Needs.{needs}
-use native.Mathlib.Omega.{arith}
+use Rattle.theory.proofs.Choices.{ifs}
+use Rattle.codec.specs.Scanning.{figureAt, figure}
 use Rattle.codec.proofs.digit_at.Statement.{statement}
 use Rattle.codec.proofs.digit_at.Tie as tie
-use Rattle.codec.proofs.digit_at.Reads as reads
-use Rattle.codec.proofs.digit_at.Lts as lts
-use Rattle.codec.proofs.widen.Reads as widen-reads
 
--- src/lib.rt:44:17
 shared-slice-read-b : tie.Need-shared-slice-read-b
 shared-slice-read-b c = search needs
 
--- src/lib.rt:46:13
 returns : tie.Need-returns
 unfolding figureAt figure
 returns c = search (ifs, needs) depth 8
 
--- src/lib.rt:49:13
 returns-2 : tie.Need-returns-2
 unfolding figureAt figure
 returns-2 c = search (ifs, needs) depth 8
 
--- src/lib.rt:51:9
 widen-requires : tie.Need-widen-requires
 widen-requires c κs = search needs
 
--- src/lib.rt:51:9
 returns-3 : tie.Need-returns-3
 unfolding figureAt figure
 returns-3 c = search (ifs, needs) depth 8
 
--- src/lib.rt:40:1
 returns-4 : tie.Need-returns-4
 unfolding figureAt figure
 returns-4 c = search (ifs, needs) depth 8

@@ -1,32 +1,24 @@
 -- A value with its end: each answer is a case of the definition.
-use Rattle.codec.specs.Scanning.{endedAt}
-use Rattle.theory.proofs.Choices.{ifs}
 use borrow.Author.Needs.{needs}
-use native.Mathlib.Omega.{arith}
+use Rattle.theory.proofs.Choices.{ifs}
+use Rattle.codec.specs.Scanning.{endedAt}
 use Rattle.codec.proofs.ended_at.Statement.{statement}
 use Rattle.codec.proofs.ended_at.Tie as tie
-use Rattle.codec.proofs.ended_at.Reads as reads
-use Rattle.codec.proofs.ended_at.Lts as lts
 
--- src/lib.rt:61:12
 shared-slice-read-if2 : tie.Need-shared-slice-read-if2
 shared-slice-read-if2 c = search needs
 
--- src/lib.rt:62:36
 add-t10 : tie.Need-add-t10
 add-t10 c = search needs
 
--- src/lib.rt:62:13
 returns : tie.Need-returns
 unfolding endedAt
 returns c = search (ifs, needs) depth 8
 
--- src/lib.rt:57:1
 returns-2 : tie.Need-returns-2
 unfolding endedAt
 returns-2 c = search (ifs, needs) depth 8
 
--- src/lib.rt:57:1
 returns-3 : tie.Need-returns-3
 unfolding endedAt
 returns-3 c = search (ifs, needs) depth 8

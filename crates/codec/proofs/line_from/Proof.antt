@@ -1,6 +1,5 @@
--- A reader that one call makes is held in a local and passed to the next, with the row, which is lent on at its own lifetime. All that
--- is known of the two functions is their contracts. In a local the lifetime of the struct's type is erased, so its value is shown to
--- have the type at `erased`.
+-- A walk by hand: reader_at makes a reader, which a local keeps, and next_line takes it with the row, which goes on as it came. Only their
+-- contracts are known. A local's type names no lifetime, so the reader is shown to fit the type without one.
 use mathlib.Core.Path.{_≡_, refl}
 use Prim.Native.Nat.{ℕ, _<_, _^_}
 use mathlib.Core.List.{List, [], _∷_}
@@ -60,7 +59,7 @@ use Rattle.codec.proofs.line_from as from-line
 use Rattle.codec.proofs.line_from.Statement as stated
 use Rattle.codec.proofs.line_from.Code as code
 
--- the struct's type, over the signature's lifetimes
+-- the reader, as the signature has it
 abbrev B : Lfts 2 → RattleType
 B κs = T.the-row (namedLft 2 0 tt κs)
 
@@ -68,7 +67,7 @@ abbrev stayed : Stays (from-line.ended .signature .params) (from-line.ended .kep
 stayed = (stay-none-slice (0 ∷ []) tt (plain (λ _. u8)) yes, (stay-none (λ _. usize) yes, (gave-slice (1 ∷ []) tt (plain (λ _. u32)), tt)))
 
 module _ {M : Type 1} (𝓤 : URA M) (H : Heap 𝓤) (A : Atoms 𝓤) (mem : Memory → SProp 𝓤) (run : Routine → Fun 𝓤) where
-  -- the contracts that the proof cites
+  -- what is known of the functions that are called
   abbrev New : Contract 𝓤
   New = tripleOf 𝓤 H A new.signature (new.spec 𝓤 H A mem run)
 
@@ -79,7 +78,7 @@ module _ {M : Type 1} (𝓤 : URA M) (H : Heap 𝓤) (A : Atoms 𝓤) (W : Given
   abbrev κs : Lfts 2
   κs = (κ, (κ′, tt))
 
-  -- the row, and the machine values of the file and the row
+  -- the row, and how the file and the row lie in memory
   abbrev x : RefT (List ℕ)
   x = record { ptr = (b, o); name = γ; now = ys }
 
@@ -89,11 +88,11 @@ module _ {M : Type 1} (𝓤 : URA M) (H : Heap 𝓤) (A : Atoms 𝓤) (W : Given
   abbrev w : Val
   w = sliceVal (b, o) (length ys)
 
-  -- the struct's type as a local of a body has it
+  -- the lifetime in the type of a local
   abbrev αᵉ : NamedLft
   αᵉ = record { mir = erased; lft = κ }
 
-  -- what the function is passed
+  -- the arguments
   abbrev at : Vals from-line.signature κs
   at = (v ∷ [], (vint w64 n ∷ [], (w ∷ [], tt)))
 
@@ -106,7 +105,7 @@ module _ {M : Type 1} (𝓤 : URA M) (H : Heap 𝓤) (A : Atoms 𝓤) (W : Given
   abbrev Row : Fml
   Row = MutSlice (named 1) κ′ u32 .own x (w ∷ [])
 
-  -- the call of `reader_at`: what it is passed, what it asks, and what is known of its result
+  -- the first call makes the reader
   abbrev to-new : New 𝓤 H A mem run .Ghost
   to-new = (((κ, tt), (q, tt), tt, (s, (n, tt)), (v ∷ [], (vint w64 n ∷ [], tt))), tt)
 
@@ -117,17 +116,17 @@ module _ {M : Type 1} (𝓤 : URA M) (H : Heap 𝓤) (A : Atoms 𝓤) (W : Given
   goes-new =
       qed W ((‵ (flft κ q) ⊛ ‵ (flft κ′ q′) ⊛ ‵ ftrue) ∷ ‵ (owns (ShrSlice (named 0) κ u8 ∷ usize ∷ MutSlice (named 1) κ′ u32 ∷ []) (s, (n, (x, tt))) at) ∷ []) ∵
       split ! $ move ! (1 ∷ []) $ split ! $ move ! (3 ∷ []) $ fsplit ! $ use1 W (‵ Own ⊛ ‵ Own) (shr-slice-copy 𝓤 H A W (named 0) κ u8 .twice s (v ∷ [])) $ split ! $
-      -- [what the file owns, twice; what the place and the row own; the row's token; true; the file's token]
+      -- held: the file, twice; the place and the row; the row's token; nothing; the file's token
       move ! (2 ∷ []) $ fsplit ! $ drop ! $ fsplit ! $
       nothing ! $ owned ! usize (Is usize) (uint-makes 𝓤 H A W w64) n _ (refl, n-fits) $ fjoin ! $ move ! (3 ∷ 0 ∷ []) $ fjoin ! $
-      -- [what `reader_at` is passed owns; what the row owns; true; what the file owns; the row's token; true; the file's token]
+      -- held: the arguments of the call; the row; nothing; the file; the row's token; nothing; the file's token
       move ! (6 ∷ 5 ∷ []) $ join ! $ use2 W (raw (New 𝓤 H A mem run .pre to-new)) asked-new $ frame ! $
       move ! (1 ∷ []) $ drop ! $ move ! (1 ∷ 0 ∷ []) $ frame ! $ frame ! $ done !
 
   new-said : (r : Reader) → ent 𝓤 (ensured 𝓤 H A new.ended (new.clauses 𝓤 H A mem run) (κ, tt) (s, (n, tt)) tt r) (fact 𝓤 ((r .file ≡ s) × (r .at ≡ n)))
   new-said r = exE 𝓤 _ (λ ws. snd∗ 𝓤 (sem 𝓤 H A (lasts new.ended (κ, tt) (s, (n, tt)) ws)) (fact 𝓤 ((r .file ≡ s) × (r .at ≡ n))))
 
-  -- the call of `next_line`, at the struct r with the machine value u
+  -- the second call takes that reader and the row
   abbrev to-next : Reader → Val → Next 𝓤 H A mem run .Ghost
   to-next r u = ((κs, (q, (q′, tt)), tt, (r, (x, tt)), (u ∷ [], (w ∷ [], tt))), tt)
 
@@ -138,11 +137,11 @@ module _ {M : Type 1} (𝓤 : URA M) (H : Heap 𝓤) (A : Atoms 𝓤) (W : Given
   goes-next r u =
       qed W (‵ (B κs .own r (u ∷ [])) ∷ (‵ (flft κ q) ⊛ ‵ ftrue) ∷ (‵ Own ⊛ ‵ Row ⊛ ‵ (flft κ′ q′)) ∷ []) ∵
       move ! (2 ∷ []) $ split ! $ move ! (1 ∷ []) $ split ! $ move ! (4 ∷ []) $ split ! $
-      -- [the file's token; true; what the row owns; the row's token; what the file owns; what the struct owns]
+      -- held: the file's token; nothing; the row; the row's token; the file; the reader
       move ! (3 ∷ 1 ∷ []) $ join ! $ move ! (1 ∷ 0 ∷ []) $ join ! $
       nothing ! $ move ! (2 ∷ 0 ∷ []) $ fjoin ! $ move ! (3 ∷ 0 ∷ []) $ fjoin ! $ move ! (1 ∷ 0 ∷ []) $ use2 W (raw (Next 𝓤 H A mem run .pre (to-next r u))) (asked-next r u) $ frame ! $ done !
 
-  -- what the line says, and leaves in the row
+  -- what the answer and the row say of the line
   abbrev Says : RefT (List ℕ) → ℕ → Line → List ℕ → Type 0
   Says f i l zs = LineSays (lineAt ends (now f) i) l zs
 
@@ -161,24 +160,24 @@ module _ {M : Type 1} (𝓤 : URA M) (H : Heap 𝓤) (A : Atoms 𝓤) (W : Given
     walk is-file room =
         qed W (raw (onEntry 𝓤 H A from-line.signature κs (q, (q′, tt)) (s, (n, (x, tt))) at) ∷ []) ∵ enter ! C Λ code.function (v ∷ vint w64 n ∷ w ∷ []) _ $
         alloc1 ! (λ l₀. alloc1 ! (λ l₁. alloc1 ! (λ l₂. alloc1 ! (λ l₃. alloc1 ! (λ l₄. alloc1 ! (λ l₅. alloc1 ! (λ l₆. alloc0 ! $ params1 ! $ pass1 ! (init ! 10 refl (shr-slice-lawful 𝓤 H A W (named 0) κ u8 .typed s (v ∷ []) is-file .0)) $ pass1 ! (init ! 8 refl (tt, record { fits = n-fits })) $ pass1 ! (init ! 6 refl (tt, (tt, (record { fits = room .0 }, tt)))) $ pass0 ! $
-        -- `reader_at`
+        -- the call of reader_at
         move ! (14 ∷ []) $ use1 W (raw (New 𝓤 H A mem run .pre to-new) ⊛ ‵ Own ⊛ ‵ Row ⊛ ‵ (flft κ′ q′)) goes-new $ split ! $
         calls-at ! fm (New 𝓤 H A mem run) known-new to-new (and-then ! (load ! (from ! (stop !)) (look ! 12 refl)) (and-then ! (load ! (from ! (stop !)) (look ! 10 refl)) (no-more !))) (λ u.
         use1 W (later (some (λ (r : Reader). ((‵ (flft κ q) ⊛ ‵ ftrue) ⊛ ‵ (B κs .own r (u ∷ []))) ⊛ raw (ensured 𝓤 H A new.ended (new.clauses 𝓤 H A mem run) (κ, tt) (s, (n, tt)) tt r)))) (id⊢ 𝓤 _) $ await ! tt $ pick ! (λ r.
         split ! $ move ! (1 ∷ []) $ use1 W (raw (fact 𝓤 ((r .file ≡ s) × (r .at ≡ n)))) (new-said r) $ heard ! ((r .file ≡ s) × (r .at ≡ n)) (λ m. split ! $ move ! (1 ∷ []) $
-        -- [what the struct owns; the file's token; what the file and the row own and the row's token; room for _6; …]
+        -- held: the reader; the file's token; the file with the row and its token; then the locals, two entries each
         peeks ! (B κs) (Is (B κs)) (shows 𝓤 H A (B κs)) r (u ∷ []) (λ is.
         land ! (from ! (stop !)) (init ! 7 refl (LL.lawful (T.the-type αᵉ) (T′.the-laws αᵉ) 𝓤 H A W .typed r _ is .0)) $
         assigns ! (addr ! (from ! (fld ! refl (hop ! (look-in ! 9 (sub ! 0 refl (whole !))) (stop !))))) (from ! (stop !)) (init ! 5 refl (tt, tt)) $
         assigns ! (agg ! (and-then ! (load ! (from ! (stop !)) (look ! 5 refl)) (and-then ! (load ! (from ! (fld ! refl (stop !))) (look-in ! 9 (sub ! 1 refl (whole !)))) (no-more !)))) (from ! (stop !)) (init ! 3 refl (tt, (tt, (record { fits = room .0 }, tt)))) $
-        -- `next_line`
+        -- the call of next_line
         use3 W (raw (Next 𝓤 H A mem run .pre (to-next r u)) ⊛ ‵ Own) (goes-next r u) $ split ! $
         calls-at ! fm (Next 𝓤 H A mem run) known-next (to-next r u) (and-then ! (load ! (from ! (stop !)) (look ! 6 refl)) (and-then ! (load ! (from ! (stop !)) (look ! 2 refl)) (no-more !))) (λ u′.
         use1 W (later (some (λ (l : Line). ((‵ (flft κ q) ⊛ ‵ (flft κ′ q′) ⊛ ‵ ftrue) ⊛ ‵ (S.the-row .own l (u′ ∷ []))) ⊛ raw (ensured 𝓤 H A next.ended (next.clauses 𝓤 H A mem run) κs (r, (x, tt)) tt l)))) (id⊢ 𝓤 _) $ await ! tt $ pick ! (λ l.
-        -- what it ensures, at some last row
+        -- what the call promises of the row that it leaves
         split ! $ move ! (1 ∷ []) $ use1 W (some (λ (zs : Unit {0} × (List ℕ × Unit {0})). ‵ (lasts next.ended κs (r, (x, tt)) zs) ⊛ raw (fact 𝓤 (Says (r .file) (r .at) l (zs .1 .0))))) (id⊢ 𝓤 _) $ pick ! (λ zs.
         split ! $ move ! (1 ∷ []) $ heard ! (Says (r .file) (r .at) l (zs .1 .0)) (λ p. fsplit ! $ move ! (1 ∷ []) $ fsplit ! $ fsplit ! $ move ! (1 ∷ []) $ feqL ! (λ k.
-        -- [the last row; two that say nothing; the tokens and the result; what the file owns; _6; …]
+        -- held: the row's last list; two empty entries; the tokens with the result; the file; then the locals, two entries each
         move ! (3 ∷ []) $ split ! $ move ! (1 ∷ []) $ peeks ! S.the-row (Is S.the-row) (shows 𝓤 H A S.the-row) l (u′ ∷ []) (λ is′.
         land ! (from ! (stop !)) (init ! 18 refl (EL.lawful S.the-type S′.the-laws 𝓤 H A W tt .typed l _ is′ .0)) $
         returns ! (look ! 18 refl) $ forget ! 6 refl $ forget ! 8 refl $ forget ! 10 refl $ forget ! 12 refl $ forget ! 14 refl $ forget ! 16 refl $ forget ! 18 refl $

@@ -1,15 +1,11 @@
 -- The length of a file, value by value. The loop's invariant: the bytes of the values before place i.
-use Rattle.codec.proofs.RowStores.{textWidth, width-begin, width-turn, width-end}
-use lib.ListN.{length, take}
+use Prim.Native.Nat.{_+_, _*_, _-_, _≤_}
 use mathlib.Core.Path.{_≡_}
-use Prim.Native.Nat.{ℕ, _+_, _*_, _-_, _≤_, _<_}
+use lib.ListN.{take}
 use borrow.Author.Needs.{needs}
-use native.Mathlib.Omega.{arith}
+use Rattle.codec.proofs.RowStores.{textWidth, width-begin, width-turn, width-end}
 use Rattle.codec.proofs.measure.Statement.{statement}
 use Rattle.codec.proofs.measure.Tie as tie
-use Rattle.codec.proofs.measure.Reads as reads
-use Rattle.codec.proofs.measure.Lts as lts
-use Rattle.codec.proofs.width.Reads as width-reads
 
 abbrev Inv-loop : tie.InvT-loop
 Inv-loop xs n m sum₀ i₀ sum i =
@@ -18,47 +14,36 @@ Inv-loop xs n m sum₀ i₀ sum i =
 abbrev μ-loop : tie.MeasureT-loop
 μ-loop xs n m sum₀ i₀ sum i = m - i
 
--- src/lib.rt:232:13
 mul-m : tie.Need-mul-m Inv-loop μ-loop
 mul-m c = search needs
 
--- src/lib.rt:235:5
 loop-holds : tie.Need-loop-holds Inv-loop μ-loop
 loop-holds c = (search needs, search needs, search (width-begin, needs))
 
--- src/lib.rt:236:27
 mul-width : tie.Need-mul-width Inv-loop μ-loop
 mul-width c = search needs
 
--- src/lib.rt:236:27
 shared-slice-read-width : tie.Need-shared-slice-read-width Inv-loop μ-loop
 shared-slice-read-width c = search needs
 
--- src/lib.rt:236:21
 width-requires : tie.Need-width-requires Inv-loop μ-loop
 width-requires c κs = search needs
 
--- src/lib.rt:236:15
 add-sum : tie.Need-add-sum Inv-loop μ-loop
 add-sum c = search needs
 
--- src/lib.rt:236:15
 add-sum-2 : tie.Need-add-sum-2 Inv-loop μ-loop
 add-sum-2 c = search needs
 
--- src/lib.rt:237:9
 add-i : tie.Need-add-i Inv-loop μ-loop
 add-i c = search needs
 
--- src/lib.rt:235:5
 loop-less : tie.Need-loop-less Inv-loop μ-loop
 loop-less c = search needs
 
--- src/lib.rt:235:5
 loop-again : tie.Need-loop-again Inv-loop μ-loop
 loop-again c = (search needs, search needs, search (width-turn, needs))
 
--- src/lib.rt:228:1
 returns : tie.Need-returns Inv-loop μ-loop
 returns c = search (width-end, needs)
 

@@ -1,29 +1,21 @@
 -- The file starts with the line of names: the two are compared byte by byte.
-use Rattle.codec.specs.Scanning.{startsNamed}
+use borrow.Author.Needs.{needs}
 use Rattle.model.specs.Text.{names}
 use Rattle.theory.proofs.Choices.{ifs}
-use borrow.Author.Needs.{needs}
-use native.Mathlib.Omega.{arith}
+use Rattle.codec.specs.Scanning.{startsNamed}
 use Rattle.codec.proofs.named.Statement.{statement}
 use Rattle.codec.proofs.named.Tie as tie
-use Rattle.codec.proofs.named.Reads as reads
-use Rattle.codec.proofs.named.Lts as lts
-use Rattle.codec.proofs.same_to.Reads as same-to-reads
 
--- src/lib.rt:161:9
 returns : tie.Need-returns
 unfolding startsNamed names
 returns c = search (ifs, needs) depth 8
 
--- src/lib.rt:163:19
 slice-aggregate-same-to : tie.Need-slice-aggregate-same-to
 slice-aggregate-same-to c = search needs
 
--- src/lib.rt:163:5
 same-to-requires : tie.Need-same-to-requires
 same-to-requires c κs = search needs
 
--- src/lib.rt:157:1
 returns-2 : tie.Need-returns-2
 unfolding startsNamed names
 returns-2 c = search (ifs, needs) depth 8

@@ -1,6 +1,5 @@
--- The line at a reader's place: the struct is taken apart, and the covered function is called on the file, the place and the row, which
--- is lent on at its own lifetime. All that is known of that function is its contract. The struct is Copy: one copy of what it owns is
--- kept whole for the exit, and of the other what the file owns goes to the callee, beside the lifetimes' tokens, which come back.
+-- A walk by hand: the reader's two fields and the row go to line_at, of which only its contract is known. The reader can be copied, so it is
+-- paid for twice: one copy stays whole, the other is opened for the call. The row is not needed afterwards, so it goes on as it came.
 use mathlib.Core.Path.{_≡_, refl}
 use Prim.Native.Nat.{ℕ, _<_, _^_}
 use mathlib.Core.List.{List, [], _∷_}
@@ -60,7 +59,7 @@ use Rattle.codec.proofs.next_line as next
 use Rattle.codec.proofs.next_line.Statement as stated
 use Rattle.codec.proofs.next_line.Code as code
 
--- the struct's type and laws, over the signature's lifetimes
+-- the reader as the signature has it, its fields and their laws
 abbrev B : Lfts 2 → RattleType
 B κs = T.the-row (namedLft 2 0 tt κs)
 
@@ -74,7 +73,7 @@ abbrev stayed : Stays (next.ended .signature .params) (next.ended .kept)
 stayed = (stay-none B yes, (gave-slice (1 ∷ []) tt (plain (λ _. u32)), tt))
 
 module _ {M : Type 1} (𝓤 : URA M) (H : Heap 𝓤) (A : Atoms 𝓤) (mem : Memory → SProp 𝓤) (run : Routine → Fun 𝓤) where
-  -- the contract that the proof cites
+  -- what is known of the function that is called
   abbrev LineAt : Contract 𝓤
   LineAt = tripleOf 𝓤 H A line.signature (line.spec 𝓤 H A mem run)
 
@@ -85,7 +84,7 @@ module _ {M : Type 1} (𝓤 : URA M) (H : Heap 𝓤) (A : Atoms 𝓤) (W : Given
   abbrev mach : Val
   mach = T′.lowered d
 
-  -- the row, and the machine values of the file and the row
+  -- the row, and how the file and the row lie in memory
   abbrev x : RefT (List ℕ)
   x = record { ptr = (b, o); name = γ; now = ys }
 
@@ -95,7 +94,7 @@ module _ {M : Type 1} (𝓤 : URA M) (H : Heap 𝓤) (A : Atoms 𝓤) (W : Given
   abbrev s : Val
   s = sliceVal (b, o) (length ys)
 
-  -- what the function is passed
+  -- the arguments
   abbrev at : Vals next.signature κs
   at = (mach ∷ [], (s ∷ [], tt))
 
@@ -108,7 +107,7 @@ module _ {M : Type 1} (𝓤 : URA M) (H : Heap 𝓤) (A : Atoms 𝓤) (W : Given
   abbrev vd : Values (D κs .parts)
   vd = (d .file, (d .at, tt))
 
-  -- what the callee is passed
+  -- the arguments of the call
   abbrev passed : Vals line.signature κs
   passed = (v ∷ [], (vint w64 (d .at) ∷ [], (s ∷ [], tt)))
 
@@ -118,17 +117,17 @@ module _ {M : Type 1} (𝓤 : URA M) (H : Heap 𝓤) (A : Atoms 𝓤) (W : Given
   asked : ent 𝓤 (onEntry 𝓤 H A line.signature κs (q, (q′, tt)) (d .file, (d .at, (x, tt))) passed) (LineAt 𝓤 H A mem run .pre to)
   asked = qed W ((‵ (flft κ q) ⊛ ‵ (flft κ′ q′) ⊛ ‵ ftrue) ∷ ‵ (owns (ShrSlice (named 0) κ u8 ∷ usize ∷ MutSlice (named 1) κ′ u32 ∷ []) (d .file, (d .at, (x, tt))) passed) ∷ []) ∵ says ! long $ frame ! $ done !
 
-  -- what the struct and the row own gives what the callee asks, and what the struct owns is kept
+  -- a second copy of the reader, and the row, pay for the call
   apart : d .at < 2 ^ 64 → ent 𝓤 (onEntry 𝓤 H A next.signature κs (q, (q′, tt)) (d, (x, tt)) at) (sep 𝓤 (LineAt 𝓤 H A mem run .pre to) (sem 𝓤 H A Own))
   apart fits =
       qed W ((‵ (flft κ q) ⊛ ‵ (flft κ′ q′) ⊛ ‵ ftrue) ∷ ‵ (owns (B κs ∷ MutSlice (named 1) κ′ u32 ∷ []) (d, (x, tt)) at) ∷ []) ∵
       move ! (1 ∷ []) $ fsplit ! $ use1 W (‵ Own ⊛ ‵ Own) (LL.copy (D κs) (T′.the-copy (namedLft 2 0 tt κs)) 𝓤 H A W .twice d (mach ∷ [])) $ split ! $
       use1 W (given (mach ∷ [] ≡ mach ∷ []) (‵ (all-own (D κs .parts) (L κs) vd))) (own-open 𝓤 H A W (D κs) (L κs) vd mach) $ learn ! (λ _. use1 W (‵ (ownAt (D κs .parts) (L κs) 0 (d .file)) ⊛ ‵ (rest (D κs .parts) (L κs) 0 vd)) (own-out 𝓤 H A W (D κs .parts) (L κs) 0 vd) $ split ! $
-      -- [what the file owns; what the place owns; what the struct owns; what the row owns; the tokens]
+      -- held: the file; the place; the reader; the row; the tokens
       move ! (1 ∷ []) $ drop ! $ move ! (2 ∷ []) $ owned ! usize (Is usize) (uint-makes 𝓤 H A W w64) (d .at) _ (refl, fits) $ fjoin ! $ move ! (1 ∷ 0 ∷ []) $ fjoin ! $
       move ! (2 ∷ 0 ∷ []) $ use2 W (raw (LineAt 𝓤 H A mem run .pre to)) asked $ frame ! $ done !)
 
-  -- what the line says, and leaves in the row
+  -- what the answer and the row say of the line
   abbrev Says : Line → List ℕ → Type 0
   Says l zs = LineSays (lineAt ends (now (d .file)) (d .at)) l zs
 
@@ -151,10 +150,10 @@ module _ {M : Type 1} (𝓤 : URA M) (H : Heap 𝓤) (A : Atoms 𝓤) (W : Given
         move ! (14 ∷ []) $ use1 W (raw (LineAt 𝓤 H A mem run .pre to) ⊛ ‵ Own) (apart (wt .1 .1 .0 .fits)) $ split ! $
         calls-at ! fm (LineAt 𝓤 H A mem run) known to (and-then ! (load ! (from ! (stop !)) (look ! 8 refl)) (and-then ! (load ! (from ! (stop !)) (look ! 6 refl)) (and-then ! (load ! (from ! (stop !)) (look ! 2 refl)) (no-more !)))) (λ u.
         use1 W (later (some (λ (l : Line). ((‵ (flft κ q) ⊛ ‵ (flft κ′ q′) ⊛ ‵ ftrue) ⊛ ‵ (S.the-row .own l (u ∷ []))) ⊛ raw (ensured 𝓤 H A line.ended (line.clauses 𝓤 H A mem run) κs (d .file, (d .at, (x, tt))) tt l)))) (id⊢ 𝓤 _) $ await ! tt $ pick ! (λ l.
-        -- what the callee ensures, at some last row
+        -- what the call promises of the row that it leaves
         split ! $ move ! (1 ∷ []) $ use1 W (some (λ (zs : Unit {0} × (Unit {0} × (List ℕ × Unit {0}))). ‵ (lasts line.ended κs (d .file, (d .at, (x, tt))) zs) ⊛ raw (fact 𝓤 (Says l (zs .1 .1 .0))))) (id⊢ 𝓤 _) $ pick ! (λ zs.
         split ! $ move ! (1 ∷ []) $ heard ! (Says l (zs .1 .1 .0)) (λ p. fsplit ! $ move ! (1 ∷ []) $ fsplit ! $ move ! (1 ∷ []) $ fsplit ! $ fsplit ! $ move ! (1 ∷ []) $ feqL ! (λ m.
-        -- [the last row; three that say nothing; the tokens and the result; what the struct owns; _6; …]
+        -- held: the row's last list; three empty entries; the tokens with the result; the reader; then the locals, two entries each
         move ! (4 ∷ []) $ split ! $ move ! (1 ∷ []) $ peeks ! S.the-row (Is S.the-row) (shows 𝓤 H A S.the-row) l (u ∷ []) (λ is.
         land ! (from ! (stop !)) (init ! 19 refl (EL.lawful S.the-type S′.the-laws 𝓤 H A W tt .typed l _ is .0)) $
         returns ! (look ! 19 refl) $ forget ! 7 refl $ forget ! 9 refl $ forget ! 11 refl $ forget ! 13 refl $ forget ! 15 refl $ forget ! 17 refl $ forget ! 19 refl $

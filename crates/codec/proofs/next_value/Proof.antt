@@ -1,6 +1,5 @@
--- The value at a reader's place: the struct is taken apart, and the covered function is called on the file and the place. All that is
--- known of that function is its contract. The struct is Copy: one copy of what it owns is kept whole for the exit, and of the other
--- what the file owns goes to the callee, beside the lifetime's token, which comes back.
+-- A walk by hand: the reader's two fields go to value_at, of which only its contract is known. The reader can be copied, so it is paid for
+-- twice: one copy stays whole, the other is opened for the call.
 use mathlib.Core.Path.{_≡_, refl}
 use Prim.Native.Nat.{ℕ, _<_, _^_}
 use mathlib.Core.List.{[], _∷_}
@@ -59,7 +58,7 @@ use Rattle.codec.proofs.next_value as next
 use Rattle.codec.proofs.next_value.Statement as stated
 use Rattle.codec.proofs.next_value.Code as code
 
--- the struct's type, over the signature's lifetimes
+-- the reader, as the signature has it
 abbrev B : Lfts 1 → RattleType
 B κs = T.the-row (namedLft 1 0 tt κs)
 
@@ -67,7 +66,7 @@ abbrev stayed : Stays (next.ended .signature .params) (next.ended .kept)
 stayed = (stay-none B yes, (stay-none (λ _. u8) yes, tt))
 
 module _ {M : Type 1} (𝓤 : URA M) (H : Heap 𝓤) (A : Atoms 𝓤) (mem : Memory → SProp 𝓤) (run : Routine → Fun 𝓤) where
-  -- the contract that the proof cites
+  -- what is known of the function that is called
   abbrev ValueAt : Contract 𝓤
   ValueAt = tripleOf 𝓤 H A value.signature (value.spec 𝓤 H A mem run)
 
@@ -75,14 +74,14 @@ module _ {M : Type 1} (𝓤 : URA M) (H : Heap 𝓤) (A : Atoms 𝓤) (W : Given
   abbrev mach : Val
   mach = T′.lowered d
 
-  -- the machine value of src
+  -- how the file lies in memory
   abbrev v : Val
   v = sliceVal (d .file .ptr) (length (d .file .now))
 
   abbrev found : Field
   found = valueAt (now (d .file)) e (d .at)
 
-  -- what the function is passed
+  -- the arguments
   abbrev at : Vals next.signature (κ, tt)
   at = (mach ∷ [], (vint w8 e ∷ [], tt))
 
@@ -92,7 +91,7 @@ module _ {M : Type 1} (𝓤 : URA M) (H : Heap 𝓤) (A : Atoms 𝓤) (W : Given
   abbrev Own : Fml
   Own = B (κ, tt) .own d (mach ∷ [])
 
-  -- the struct's type and laws, and d's fields' values
+  -- the reader's fields, their laws and their values
   abbrev D : Declared
   D = T.the-type (namedLft 1 0 tt (κ, tt))
 
@@ -102,7 +101,7 @@ module _ {M : Type 1} (𝓤 : URA M) (H : Heap 𝓤) (A : Atoms 𝓤) (W : Given
   abbrev vd : Values (D .parts)
   vd = (d .file, (d .at, tt))
 
-  -- what the callee is passed
+  -- the arguments of the call
   abbrev passed : Vals value.signature (κ, tt)
   passed = (v ∷ [], (vint w64 (d .at) ∷ [], (vint w8 e ∷ [], tt)))
 
@@ -112,17 +111,17 @@ module _ {M : Type 1} (𝓤 : URA M) (H : Heap 𝓤) (A : Atoms 𝓤) (W : Given
   asked : ent 𝓤 (onEntry 𝓤 H A value.signature (κ, tt) (q, tt) (d .file, (d .at, (e, tt))) passed) (ValueAt 𝓤 H A mem run .pre to)
   asked = qed W ((‵ (flft κ q) ⊛ ‵ ftrue) ∷ ‵ (owns (ShrSlice (named 0) κ u8 ∷ usize ∷ u8 ∷ []) (d .file, (d .at, (e, tt))) passed) ∷ []) ∵ join ! $ frame ! $ done !
 
-  -- what the struct owns gives what the callee asks, and is kept
+  -- a second copy of the reader pays for the call
   apart : d .at < 2 ^ 64 → ent 𝓤 (onEntry 𝓤 H A next.signature (κ, tt) (q, tt) (d, (e, tt)) at) (sep 𝓤 (ValueAt 𝓤 H A mem run .pre to) (sem 𝓤 H A Own))
   apart fits =
       qed W ((‵ (flft κ q) ⊛ ‵ ftrue) ∷ ‵ (owns (B (κ, tt) ∷ u8 ∷ []) (d, (e, tt)) at) ∷ []) ∵
       move ! (1 ∷ []) $ fsplit ! $ move ! (1 ∷ []) $ drop ! $ use1 W (‵ Own ⊛ ‵ Own) (LL.copy D (T′.the-copy (namedLft 1 0 tt (κ, tt))) 𝓤 H A W .twice d (mach ∷ [])) $ split ! $
       use1 W (given (mach ∷ [] ≡ mach ∷ []) (‵ (all-own (D .parts) L vd))) (own-open 𝓤 H A W D L vd mach) $ learn ! (λ _. use1 W (‵ (ownAt (D .parts) L 0 (d .file)) ⊛ ‵ (rest (D .parts) L 0 vd)) (own-out 𝓤 H A W (D .parts) L 0 vd) $ split ! $
-      -- [what src owns; what at owns; what the struct owns; the token]
+      -- held: the file; the place; the reader; the token
       move ! (1 ∷ []) $ drop ! $ nothing ! $ owned ! u8 (Is u8) (uint-makes 𝓤 H A W w8) e _ (refl, ok) $ fjoin ! $ owned ! usize (Is usize) (uint-makes 𝓤 H A W w64) (d .at) _ (refl, fits) $ fjoin ! $ move ! (1 ∷ 0 ∷ []) $ fjoin ! $
       move ! (2 ∷ 0 ∷ []) $ use2 W (raw (ValueAt 𝓤 H A mem run .pre to)) asked $ frame ! $ done !)
 
-  -- of the callee's `ensured`, the clause alone: it has no `&mut`, so what is said of last values is dropped
+  -- what the call promises: no argument changes, so its clause is all
   said : (r : Field) → ent 𝓤 (ensured 𝓤 H A value.ended (value.clauses 𝓤 H A mem run) (κ, tt) (d .file, (d .at, (e, tt))) tt r) (fact 𝓤 (r ≡ found))
   said r = exE 𝓤 _ (λ ws. snd∗ 𝓤 (sem 𝓤 H A (lasts value.ended (κ, tt) (d .file, (d .at, (e, tt))) ws)) (fact 𝓤 (r ≡ found)))
 
@@ -143,7 +142,7 @@ module _ {M : Type 1} (𝓤 : URA M) (H : Heap 𝓤) (A : Atoms 𝓤) (W : Given
         calls-at ! fm (ValueAt 𝓤 H A mem run) known to (and-then ! (load ! (from ! (stop !)) (look ! 4 refl)) (and-then ! (load ! (from ! (stop !)) (look ! 2 refl)) (and-then ! (load ! (from ! (stop !)) (look ! 6 refl)) (no-more !)))) (λ u.
         use1 W (later (some (λ (r : Field). ((‵ (flft κ q) ⊛ ‵ ftrue) ⊛ ‵ (S.the-row .own r (u ∷ []))) ⊛ raw (ensured 𝓤 H A value.ended (value.clauses 𝓤 H A mem run) (κ, tt) (d .file, (d .at, (e, tt))) tt r)))) (id⊢ 𝓤 _) $ await ! tt $ pick ! (λ r.
         split ! $ move ! (1 ∷ []) $ use1 W (raw (fact 𝓤 (r ≡ found))) (said r) $ heard ! (r ≡ found) (λ p. split ! $ move ! (1 ∷ []) $
-        -- [the result; the token; what the struct owns; _4; …; _3; …; _2; …; _1; …; room for _0; …]
+        -- held: the result; the token; the reader; then the locals from the last to the first, two entries each
         peeks ! S.the-row (Is S.the-row) (shows 𝓤 H A S.the-row) r (u ∷ []) (λ is.
         land ! (from ! (stop !)) (init ! 11 refl (EL.lawful S.the-type S′.the-laws 𝓤 H A W tt .typed r _ is .0)) $
         returns ! (look ! 11 refl) $ forget ! 3 refl $ forget ! 5 refl $ forget ! 7 refl $ forget ! 9 refl $ forget ! 11 refl $

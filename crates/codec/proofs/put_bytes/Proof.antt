@@ -1,16 +1,13 @@
 -- Bytes are copied one by one. The loop's invariant: those before place i are stored.
+use Prim.Native.Nat.{_-_, _≤_}
+use mathlib.Core.Path.{_≡_}
+use lib.ListN.{length, take}
+use borrow.Author.Needs.{needs}
+use Rattle.codec.specs.Writing.{Puts}
 use Rattle.codec.proofs.RowStores.{copy-turn, copy-end}
 use Rattle.codec.proofs.Stores.{puts-none}
-use Rattle.codec.specs.Writing.{Puts}
-use lib.ListN.{length, take}
-use mathlib.Core.Path.{_≡_}
-use Prim.Native.Nat.{ℕ, _+_, _-_, _≤_, _<_}
-use borrow.Author.Needs.{needs}
-use native.Mathlib.Omega.{arith}
 use Rattle.codec.proofs.put_bytes.Statement.{statement}
 use Rattle.codec.proofs.put_bytes.Tie as tie
-use Rattle.codec.proofs.put_bytes.Reads as reads
-use Rattle.codec.proofs.put_bytes.Lts as lts
 
 abbrev Inv-loop : tie.InvT-loop
 Inv-loop bytes out₀ i₀ out i =
@@ -19,35 +16,27 @@ Inv-loop bytes out₀ i₀ out i =
 abbrev μ-loop : tie.MeasureT-loop
 μ-loop bytes out₀ i₀ out i = length bytes - i
 
--- src/lib.rt:322:5
 loop-holds : tie.Need-loop-holds Inv-loop μ-loop
 loop-holds c = search (puts-none, needs)
 
--- src/lib.rt:323:18
 shared-slice-read-out : tie.Need-shared-slice-read-out Inv-loop μ-loop
 shared-slice-read-out c = search needs
 
--- src/lib.rt:323:9
 slice-write-out : tie.Need-slice-write-out Inv-loop μ-loop
 slice-write-out c = search needs
 
--- src/lib.rt:324:9
 add-i : tie.Need-add-i Inv-loop μ-loop
 add-i c = search needs
 
--- src/lib.rt:322:5
 loop-less : tie.Need-loop-less Inv-loop μ-loop
 loop-less c = search needs
 
--- src/lib.rt:322:5
 loop-again : tie.Need-loop-again Inv-loop μ-loop
 loop-again c = search (copy-turn, needs)
 
--- src/lib.rt:317:1
 same-length : tie.Need-same-length Inv-loop μ-loop
 same-length c = search needs
 
--- src/lib.rt:317:1
 returns : tie.Need-returns Inv-loop μ-loop
 returns c = search (copy-end, needs)
 

@@ -1,18 +1,13 @@
 -- A row's line is stored value by value. The loop's invariant: what is left of it from value c on.
+use Prim.Native.Nat.{_-_, _≤_}
+use mathlib.Core.Path.{_≡_}
+use lib.ListN.{length}
+use borrow.Author.Needs.{needs}
+use Rattle.codec.specs.Writing.{rowText}
 use Rattle.codec.proofs.RowStores.{rowLeft, row-begin, row-room, row-on, row-done}
 use Rattle.codec.proofs.Stores.{Stored, stored-end}
-use Rattle.codec.specs.Writing.{rowText}
-use lib.ListN.{length}
-use mathlib.Core.Path.{_≡_}
-use Prim.Native.Nat.{ℕ, _+_, _*_, _-_, _≤_, _<_}
-use borrow.Author.Needs.{needs}
-use native.Mathlib.Omega.{arith}
 use Rattle.codec.proofs.put_row.Statement.{statement}
 use Rattle.codec.proofs.put_row.Tie as tie
-use Rattle.codec.proofs.put_row.Reads as reads
-use Rattle.codec.proofs.put_row.Lts as lts
-use Rattle.codec.proofs.end_of.Reads as end-of-reads
-use Rattle.codec.proofs.put_value.Reads as put-value-reads
 
 abbrev Inv-loop : tie.InvT-loop
 Inv-loop xs r out₀ from a at₀ c₀ out at c =
@@ -21,51 +16,39 @@ Inv-loop xs r out₀ from a at₀ c₀ out at c =
 abbrev μ-loop : tie.MeasureT-loop
 μ-loop xs r out₀ from a at₀ c₀ out at c = 11 - c
 
--- src/lib.rt:306:13
 mul-a : tie.Need-mul-a Inv-loop μ-loop
 mul-a c = search needs
 
--- src/lib.rt:309:5
 loop-holds : tie.Need-loop-holds Inv-loop μ-loop
 loop-holds c = (search needs, search needs, search (row-begin, needs))
 
--- src/lib.rt:310:27
 add-put-value : tie.Need-add-put-value Inv-loop μ-loop
 add-put-value c = search needs
 
--- src/lib.rt:310:24
 mul-put-value : tie.Need-mul-put-value Inv-loop μ-loop
 mul-put-value c = search needs
 
--- src/lib.rt:310:24
 shared-slice-read-put-value : tie.Need-shared-slice-read-put-value Inv-loop μ-loop
 shared-slice-read-put-value c = search needs
 
--- src/lib.rt:310:35
 end-of-requires : tie.Need-end-of-requires Inv-loop μ-loop
 end-of-requires c κs = search needs
 
--- src/lib.rt:310:9
 put-value-requires : tie.Need-put-value-requires Inv-loop μ-loop
 put-value-requires c κs = search (row-room, needs)
 
--- src/lib.rt:311:9
 add-c : tie.Need-add-c Inv-loop μ-loop
 add-c c = search needs
 
--- src/lib.rt:309:5
 loop-less : tie.Need-loop-less Inv-loop μ-loop
 loop-less c = search needs
 
--- src/lib.rt:309:5
 loop-again : tie.Need-loop-again Inv-loop μ-loop
 loop-again c = (search needs, search needs, search (row-on, needs))
 
--- src/lib.rt:302:1
 same-length : tie.Need-same-length Inv-loop μ-loop
 same-length c = search needs
 
--- src/lib.rt:302:1
 returns : tie.Need-returns Inv-loop μ-loop
 returns c = search (stored-end, row-done, needs)
 

@@ -1,17 +1,13 @@
 -- The lines of rows are stored row by row. The loop's invariant: what is left of them from row r on.
+use Prim.Native.Nat.{_-_, _≤_}
+use mathlib.Core.Path.{_≡_}
+use lib.ListN.{length}
+use borrow.Author.Needs.{needs}
+use Rattle.model.specs.Rows.{rowsFrom, rowLines}
 use Rattle.codec.proofs.RowStores.{rows-begin, rows-room, rows-on, rows-done}
 use Rattle.codec.proofs.Stores.{Stored, stored-end}
-use Rattle.model.specs.Rows.{rowsFrom, rowLines}
-use lib.ListN.{length}
-use mathlib.Core.Path.{_≡_}
-use Prim.Native.Nat.{ℕ, _+_, _*_, _-_, _≤_, _<_}
-use borrow.Author.Needs.{needs}
-use native.Mathlib.Omega.{arith}
 use Rattle.codec.proofs.put_rows.Statement.{statement}
 use Rattle.codec.proofs.put_rows.Tie as tie
-use Rattle.codec.proofs.put_rows.Reads as reads
-use Rattle.codec.proofs.put_rows.Lts as lts
-use Rattle.codec.proofs.put_row.Reads as put-row-reads
 
 abbrev Inv-loop : tie.InvT-loop
 Inv-loop xs n out₀ from at₀ r₀ out at r =
@@ -21,31 +17,24 @@ Inv-loop xs n out₀ from at₀ r₀ out at r =
 abbrev μ-loop : tie.MeasureT-loop
 μ-loop xs n out₀ from at₀ r₀ out at r = n - r
 
--- src/lib.rt:344:5
 loop-holds : tie.Need-loop-holds Inv-loop μ-loop
 loop-holds c = (search needs, search needs, search (rows-begin, needs))
 
--- src/lib.rt:345:9
 put-row-requires : tie.Need-put-row-requires Inv-loop μ-loop
 put-row-requires c κs = (search needs, search (rows-room, needs))
 
--- src/lib.rt:346:9
 add-r : tie.Need-add-r Inv-loop μ-loop
 add-r c = search needs
 
--- src/lib.rt:344:5
 loop-less : tie.Need-loop-less Inv-loop μ-loop
 loop-less c = search needs
 
--- src/lib.rt:344:5
 loop-again : tie.Need-loop-again Inv-loop μ-loop
 loop-again c = (search needs, search needs, search (rows-on, needs))
 
--- src/lib.rt:338:1
 same-length : tie.Need-same-length Inv-loop μ-loop
 same-length c = search needs
 
--- src/lib.rt:338:1
 returns : tie.Need-returns Inv-loop μ-loop
 returns c = search (stored-end, rows-done, needs)
 

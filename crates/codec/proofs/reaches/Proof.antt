@@ -1,17 +1,12 @@
 -- A limit that is reached or not: each answer is a case of the definition.
-use Rattle.theory.proofs.Choices.{ifs}
 use borrow.Author.Needs.{needs}
-use native.Mathlib.Omega.{arith}
+use Rattle.theory.proofs.Choices.{ifs}
 use Rattle.codec.proofs.reaches.Statement.{statement}
 use Rattle.codec.proofs.reaches.Tie as tie
-use Rattle.codec.proofs.reaches.Reads as reads
-use Rattle.codec.proofs.reaches.Lts as lts
 
--- src/lib.rt:214:9
 returns : tie.Need-returns
 returns c = (search (ifs, needs), search needs)
 
--- src/lib.rt:209:1
 returns-2 : tie.Need-returns-2
 returns-2 c = (search (ifs, needs), search needs)
 

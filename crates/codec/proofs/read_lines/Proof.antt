@@ -1,19 +1,14 @@
 -- A file is read line by line. The loop's invariant: what was read up to a place (Sofar).
-use Rattle.codec.proofs.Sofar.{Sofar, sofar-begin, sofar-on, sofar-bad, sofar-end, row-less, row-counted, row-inside}
-use Rattle.codec.proofs.Names.{named-long}
-use Rattle.codec.specs.Parsing.{room}
-use Rattle.model.specs.Limits.{maxBytes}
-use lib.ListN.{length}
+use Prim.Native.Nat.{_-_, _≤_}
 use mathlib.Core.Path.{_≡_}
-use Prim.Native.Nat.{ℕ, _+_, _-_, _≤_, _<_}
+use lib.ListN.{length}
 use borrow.Author.Needs.{needs}
-use native.Mathlib.Omega.{arith}
+use Rattle.model.specs.Limits.{maxBytes}
+use Rattle.codec.specs.Parsing.{room}
+use Rattle.codec.proofs.Names.{named-long}
+use Rattle.codec.proofs.Sofar.{Sofar, sofar-begin, sofar-on, sofar-bad, sofar-end, row-less, row-counted, row-inside}
 use Rattle.codec.proofs.read_lines.Statement.{statement}
 use Rattle.codec.proofs.read_lines.Tie as tie
-use Rattle.codec.proofs.read_lines.Reads as reads
-use Rattle.codec.proofs.read_lines.Lts as lts
-use Rattle.codec.proofs.refuse.Reads as refuse-reads
-use Rattle.codec.proofs.row_at.Reads as row-at-reads
 
 abbrev Inv-loop : tie.InvT-loop
 Inv-loop file rows₀ at₀ r₀ rows at r =
@@ -22,59 +17,45 @@ Inv-loop file rows₀ at₀ r₀ rows at r =
 abbrev μ-loop : tie.MeasureT-loop
 μ-loop file rows₀ at₀ r₀ rows at r = length file - at
 
--- src/lib.rt:180:5
 loop-holds : tie.Need-loop-holds Inv-loop μ-loop
 loop-holds c = (search needs, search (named-long, needs), search needs, search needs, search (sofar-begin, needs))
 
--- src/lib.rt:181:15
 row-at-requires : tie.Need-row-at-requires Inv-loop μ-loop
 row-at-requires c κs = search needs
 
--- src/lib.rt:182:24
 enum-known-next : tie.Need-enum-known-next Inv-loop μ-loop
 enum-known-next c = search needs
 
--- src/lib.rt:185:49
 enum-told : tie.Need-enum-told Inv-loop μ-loop
 enum-told c = search needs
 
--- src/lib.rt:185:49
 cast-refuse : tie.Need-cast-refuse Inv-loop μ-loop
 cast-refuse c = search needs
 
--- src/lib.rt:185:49
 add-refuse : tie.Need-add-refuse Inv-loop μ-loop
 add-refuse c = search needs
 
--- src/lib.rt:185:32
 refuse-requires : tie.Need-refuse-requires Inv-loop μ-loop
 refuse-requires c κs = search needs
 
--- src/lib.rt:185:32
 same-length : tie.Need-same-length Inv-loop μ-loop
 same-length c = search needs
 
--- src/lib.rt:185:32
 returns : tie.Need-returns Inv-loop μ-loop
 returns c = search (sofar-bad, needs)
 
--- src/lib.rt:187:9
 add-r : tie.Need-add-r Inv-loop μ-loop
 add-r c = search needs
 
--- src/lib.rt:180:5
 loop-less : tie.Need-loop-less Inv-loop μ-loop
 loop-less c = search (row-less, needs)
 
--- src/lib.rt:180:5
 loop-again : tie.Need-loop-again Inv-loop μ-loop
 loop-again c = (search needs, search (row-inside, needs), search (row-counted, needs), search needs, search (sofar-on, needs))
 
--- src/lib.rt:174:1
 same-length-2 : tie.Need-same-length-2 Inv-loop μ-loop
 same-length-2 c = search needs
 
--- src/lib.rt:174:1
 returns-2 : tie.Need-returns-2 Inv-loop μ-loop
 returns-2 c = search (sofar-end, needs)
 

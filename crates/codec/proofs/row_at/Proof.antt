@@ -1,58 +1,42 @@
 -- A line to its row: the row is a part of the rows, or a spare one.
-use Rattle.codec.proofs.LineScan.{row-stored, row-spare}
 use borrow.Author.Needs.{needs}
-use native.Mathlib.Omega.{arith}
+use Rattle.codec.proofs.LineScan.{row-stored, row-spare}
 use Rattle.codec.proofs.row_at.Statement.{statement}
 use Rattle.codec.proofs.row_at.Tie as tie
-use Rattle.codec.proofs.row_at.Reads as reads
-use Rattle.codec.proofs.row_at.Lts as lts
-use Rattle.codec.proofs.line_from.Reads as line-from-reads
 
--- src/lib.rt:133:17
 mul-a : tie.Need-mul-a
 mul-a c = search needs
 
--- src/lib.rt:134:17
 add-e : tie.Need-add-e
 add-e c = search needs
 
--- src/lib.rt:135:34
 mul-line-from : tie.Need-mul-line-from
 mul-line-from c = search needs
 
--- src/lib.rt:135:34
 sub-line-from : tie.Need-sub-line-from
 sub-line-from c = search needs
 
--- src/lib.rt:135:34
 part-line-from-start : tie.Need-part-line-from-start
 part-line-from-start c = search needs
 
--- src/lib.rt:135:34
 part-line-from-end : tie.Need-part-line-from-end
 part-line-from-end c = search needs
 
--- src/lib.rt:135:9
 line-from-requires : tie.Need-line-from-requires
 line-from-requires c κs = search needs
 
--- src/lib.rt:135:9
 same-length : tie.Need-same-length
 same-length c = search needs
 
--- src/lib.rt:135:9
 returns : tie.Need-returns
 returns c = search (row-stored, needs)
 
--- src/lib.rt:138:23
 slice-aggregate-line-from : tie.Need-slice-aggregate-line-from
 slice-aggregate-line-from c = search needs
 
--- src/lib.rt:138:5
 line-from-requires-2 : tie.Need-line-from-requires-2
 line-from-requires-2 c κs = search needs
 
--- src/lib.rt:128:1
 returns-2 : tie.Need-returns-2
 returns-2 c = search (row-spare, needs)
 

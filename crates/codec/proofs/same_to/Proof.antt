@@ -1,15 +1,12 @@
 -- Two lists agree in their first n bytes. The loop's invariant: they do where they do from place i on.
-use Rattle.codec.proofs.Names.{same-begin, same-not, same-on, same-all}
-use Rattle.model.specs.Verdicts.{same}
-use lib.ListN.{length, take, drop}
+use Prim.Native.Nat.{_-_, _≤_}
 use mathlib.Core.Path.{_≡_}
-use Prim.Native.Nat.{ℕ, _+_, _-_, _≤_, _<_}
+use lib.ListN.{take, drop}
 use borrow.Author.Needs.{needs}
-use native.Mathlib.Omega.{arith}
+use Rattle.model.specs.Verdicts.{same}
+use Rattle.codec.proofs.Names.{same-begin, same-not, same-on, same-all}
 use Rattle.codec.proofs.same_to.Statement.{statement}
 use Rattle.codec.proofs.same_to.Tie as tie
-use Rattle.codec.proofs.same_to.Reads as reads
-use Rattle.codec.proofs.same_to.Lts as lts
 
 abbrev Inv-loop : tie.InvT-loop
 Inv-loop a b n i₀ i =
@@ -18,35 +15,27 @@ Inv-loop a b n i₀ i =
 abbrev μ-loop : tie.MeasureT-loop
 μ-loop a b n i₀ i = n - i
 
--- src/lib.rt:146:5
 loop-holds : tie.Need-loop-holds Inv-loop μ-loop
 loop-holds c = search (same-begin, needs)
 
--- src/lib.rt:147:12
 shared-slice-read-if1 : tie.Need-shared-slice-read-if1 Inv-loop μ-loop
 shared-slice-read-if1 c = search needs
 
--- src/lib.rt:147:20
 shared-slice-read-if1-2 : tie.Need-shared-slice-read-if1-2 Inv-loop μ-loop
 shared-slice-read-if1-2 c = search needs
 
--- src/lib.rt:148:13
 returns : tie.Need-returns Inv-loop μ-loop
 returns c = search (same-not, needs)
 
--- src/lib.rt:150:9
 add-i : tie.Need-add-i Inv-loop μ-loop
 add-i c = search needs
 
--- src/lib.rt:146:5
 loop-less : tie.Need-loop-less Inv-loop μ-loop
 loop-less c = search needs
 
--- src/lib.rt:146:5
 loop-again : tie.Need-loop-again Inv-loop μ-loop
 loop-again c = search (same-on, needs)
 
--- src/lib.rt:141:1
 returns-2 : tie.Need-returns-2 Inv-loop μ-loop
 returns-2 c = search (same-all, needs)
 

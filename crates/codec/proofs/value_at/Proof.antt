@@ -1,19 +1,15 @@
 -- A value at a place. The loop's invariant: what is left of the value from place i on is the value.
-use Rattle.codec.proofs.Values.{next-in, less-in, value-none, value-led, value-zero, value-begin, value-turn, value-big, value-done}
-use Rattle.codec.specs.Scanning.{figureAt, valueAt, valueRest}
-use Rattle.model.specs.Text.{run}
-use Rattle.model.specs.Limits.{maxValue}
-use lib.ListN.{length, drop}
+use Prim.Native.Nat.{_-_, _≤_}
 use mathlib.Core.Path.{_≡_}
-use Prim.Native.Nat.{ℕ, _+_, _*_, _-_, _≤_, _<_}
-use borrow.Author.Needs.{needs}
 use native.Mathlib.Omega.{arith}
+use lib.ListN.{length, drop}
+use borrow.Author.Needs.{needs}
+use Rattle.model.specs.Limits.{maxValue}
+use Rattle.model.specs.Text.{run}
+use Rattle.codec.specs.Scanning.{figureAt, valueAt}
+use Rattle.codec.proofs.Values.{valueRest, next-in, less-in, value-none, value-led, value-zero, value-begin, value-turn, value-big, value-done}
 use Rattle.codec.proofs.value_at.Statement.{statement}
 use Rattle.codec.proofs.value_at.Tie as tie
-use Rattle.codec.proofs.value_at.Reads as reads
-use Rattle.codec.proofs.value_at.Lts as lts
-use Rattle.codec.proofs.digit_at.Reads as digit-at-reads
-use Rattle.codec.proofs.ended_at.Reads as ended-at-reads
 
 abbrev Inv-loop : tie.InvT-loop
 Inv-loop file at end first i₀ d₀ v₀ i d v =
@@ -22,75 +18,57 @@ Inv-loop file at end first i₀ d₀ v₀ i d v =
 abbrev μ-loop : tie.MeasureT-loop
 μ-loop file at end first i₀ d₀ v₀ i d v = length file - i
 
--- src/lib.rt:76:9
 digit-at-requires : tie.Need-digit-at-requires Inv-loop μ-loop
 digit-at-requires c κs = search needs
 
--- src/lib.rt:78:9
 returns : tie.Need-returns Inv-loop μ-loop
 returns c = search (value-none, needs)
 
--- src/lib.rt:80:17
 add-i : tie.Need-add-i Inv-loop μ-loop
 add-i c = omega (arith, next-in _ _ _ (c .before .digit-at .ensures) (c .if1 .left))
 
--- src/lib.rt:82:12
 digit-at-requires-2 : tie.Need-digit-at-requires-2 Inv-loop μ-loop
 digit-at-requires-2 c κs = search needs
 
--- src/lib.rt:83:13
 returns-2 : tie.Need-returns-2 Inv-loop μ-loop
 returns-2 c = search (value-led, needs)
 
--- src/lib.rt:85:9
 ended-at-requires : tie.Need-ended-at-requires Inv-loop μ-loop
 ended-at-requires c κs = search needs
 
--- src/lib.rt:85:9
 returns-3 : tie.Need-returns-3 Inv-loop μ-loop
 returns-3 c = search (value-zero, needs)
 
--- src/lib.rt:87:9
 digit-at-requires-3 : tie.Need-digit-at-requires-3 Inv-loop μ-loop
 digit-at-requires-3 c κs = search needs
 
--- src/lib.rt:89:5
 loop-holds : tie.Need-loop-holds Inv-loop μ-loop
 loop-holds c = (search (next-in, needs), search needs, search needs, search (value-begin, needs))
 
--- src/lib.rt:90:13
 mul-v : tie.Need-mul-v Inv-loop μ-loop
 mul-v c = search needs
 
--- src/lib.rt:90:13
 add-v : tie.Need-add-v Inv-loop μ-loop
 add-v c = search needs
 
--- src/lib.rt:92:13
 returns-4 : tie.Need-returns-4 Inv-loop μ-loop
 returns-4 c = search (value-big, needs)
 
--- src/lib.rt:94:9
 add-i-2 : tie.Need-add-i-2 Inv-loop μ-loop
 add-i-2 c = search needs
 
--- src/lib.rt:95:9
 digit-at-requires-4 : tie.Need-digit-at-requires-4 Inv-loop μ-loop
 digit-at-requires-4 c κs = search needs
 
--- src/lib.rt:89:5
 loop-less : tie.Need-loop-less Inv-loop μ-loop
 loop-less c = search (less-in, needs)
 
--- src/lib.rt:89:5
 loop-again : tie.Need-loop-again Inv-loop μ-loop
 loop-again c = search (value-turn, next-in, needs)
 
--- src/lib.rt:97:5
 ended-at-requires-2 : tie.Need-ended-at-requires-2 Inv-loop μ-loop
 ended-at-requires-2 c κs = search needs
 
--- src/lib.rt:73:1
 returns-5 : tie.Need-returns-5 Inv-loop μ-loop
 returns-5 c = search (value-done, needs)
 

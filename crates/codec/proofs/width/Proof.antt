@@ -1,46 +1,33 @@
 -- How many digits a number has: one, and one more for each limit that it reaches.
-use Rattle.codec.proofs.DigitStores.{width-sum}
 use borrow.Author.Needs.{needs}
-use native.Mathlib.Omega.{arith}
+use Rattle.codec.proofs.DigitStores.{width-sum}
 use Rattle.codec.proofs.width.Statement.{statement}
 use Rattle.codec.proofs.width.Tie as tie
-use Rattle.codec.proofs.width.Reads as reads
-use Rattle.codec.proofs.width.Lts as lts
-use Rattle.codec.proofs.reaches.Reads as reaches-reads
 
--- src/lib.rt:224:9
 reaches-requires : tie.Need-reaches-requires
 reaches-requires c κs = search needs
 
--- src/lib.rt:224:5
 add-result : tie.Need-add-result
 add-result c = search needs
 
--- src/lib.rt:224:26
 reaches-requires-2 : tie.Need-reaches-requires-2
 reaches-requires-2 c κs = search needs
 
--- src/lib.rt:224:5
 add-result-2 : tie.Need-add-result-2
 add-result-2 c = search needs
 
--- src/lib.rt:224:44
 reaches-requires-3 : tie.Need-reaches-requires-3
 reaches-requires-3 c κs = search needs
 
--- src/lib.rt:224:5
 add-result-3 : tie.Need-add-result-3
 add-result-3 c = search needs
 
--- src/lib.rt:224:63
 reaches-requires-4 : tie.Need-reaches-requires-4
 reaches-requires-4 c κs = search needs
 
--- src/lib.rt:224:5
 add-result-4 : tie.Need-add-result-4
 add-result-4 c = search needs
 
--- src/lib.rt:220:1
 returns : tie.Need-returns
 returns c = (search (width-sum, needs), search needs)
 

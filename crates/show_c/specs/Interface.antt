@@ -1,0 +1,25 @@
+-- The C interface: each function returns one number and leaves the values of an answer in a lent list, `given`.
+use Prim.Native.Nat.{ℕ, _+_, _*_}
+use mathlib.Core.List.{List}
+use lib.ListN.{length}
+use Rattle.model.specs.Choice.{ifLt}
+use Rattle.model.specs.Verdicts.{refusal}
+use Rattle.model.specs.Lists.{overwrite}
+use Rattle.model.specs.Answers.{Returned, returned}
+use Rattle.model.specs.Questions.{Outcome, refuse, onAccepted}
+use Rattle.model.specs.declared.Verdict.{Verdict}
+
+-- 0 for an answer; the refusal's number in the upper 32 bits and its place in the lower ones.
+unfoldable pub code : Returned → ℕ
+code r = r .number * 4294967296 + r .place
+
+-- The values of an answer stand first in `given`; a refusal has none.
+unfoldable pub givenAfter : Returned → List ℕ → List ℕ
+givenAfter r given = overwrite (r .values) given
+
+-- `given` has at least 3 numbers, or that is refusal 11: after the refusals of the rows or the file, and before 12 and 13.
+unfoldable pub withGiven : List ℕ → Verdict → Returned → Returned
+withGiven given v r = ifLt (length given) 3 (onAccepted v (λ f. returned f) (returned (refusal 11 0))) r
+
+unfoldable pub alsoGiven : List ℕ → Verdict → List ℕ → Outcome → Outcome
+alsoGiven given v lent o = ifLt (length given) 3 (onAccepted v (λ f. refuse f lent) (refuse (refusal 11 0) lent)) o

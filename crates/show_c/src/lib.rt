@@ -1,0 +1,158 @@
+// The show library for C and Rust. Numbers pass as themselves, and a slice as a pointer and a length in elements. Each function returns 0
+// for an answer, whose values then stand first in `given`, or the refusal's number and place. The promises are those of the library.
+ghost use mathlib.Core.Path.{_≡_};
+ghost use Prim.Native.Nat.{_+_, _*_, _≤_, _<_};
+ghost use lib.ListN.{length};
+ghost use Rattle.model.specs.Verdicts.{verdict, fileVerdict};
+ghost use Rattle.model.specs.Questions.{readAsked, writeAsked, countAsked, locateAsked, numberAsked};
+ghost use Rattle.show_c.specs.Interface.{code, givenAfter, withGiven, alsoGiven};
+ghost use Rattle.show_c.specs.Parts.{shortRows, shortFile, put1, put3};
+use model::CountAnswer;
+use model::LocateAnswer;
+use model::NumberAnswer;
+use model::ReadAnswer;
+use model::Refusal;
+use model::WriteAnswer;
+
+fn long(x: u32) -> u64
+    ensures { λ r. ⌜ (r ≡ x) × (r < 4294967296) ⌝ }
+{
+    x as u64
+}
+
+// A refusal as one number.
+fn refused(r: Refusal) -> u64
+    ensures { λ c. ⌜ c ≡ r .number * 4294967296 + r .place ⌝ }
+{
+    long(r.number) * 4294967296 + long(r.place)
+}
+
+// What is said of rows where `given` is too short.
+fn short_rows(rows: &[u32]) -> u64
+    ensures { λ c. ⌜ c ≡ shortRows (now (rows .entry)) ⌝ }
+{
+    match show::count(rows) {
+        CountAnswer::Cues(_) => 47244640256,
+        CountAnswer::Refused(r) => refused(r),
+    }
+}
+
+// What is said of a file there: nothing is read to a list of one number.
+fn short_file(file: &[u8]) -> u64
+    ensures { λ c. ⌜ c ≡ shortFile (now (file .entry)) ⌝ }
+{
+    let mut none = [0u32; 1];
+    match show::read(file, &mut none) {
+        ReadAnswer::Read(_, _, _) => 47244640256,
+        ReadAnswer::Refused(r) => refused(r),
+    }
+}
+
+fn put_1(given: &mut [u32], a: u32)
+    requires { ⌜ 3 ≤ length (now given) ⌝ }
+    ensures { λ _. ⌜ now (given .exit) ≡ put1 a (now (given .entry)) ⌝ }
+{
+    given[0] = a;
+}
+
+fn put_3(given: &mut [u32], a: u32, b: u32, c: u32)
+    requires { ⌜ 3 ≤ length (now given) ⌝ }
+    ensures { λ _. ⌜ now (given .exit) ≡ put3 a b c (now (given .entry)) ⌝ }
+{
+    given[0] = a;
+    given[1] = b;
+    given[2] = c;
+}
+
+// given: cues
+#[no_mangle]
+pub extern "C" fn show_count(rows: &[u32], given: &mut [u32]) -> u64
+    ensures { λ c. ⌜ c ≡ code (withGiven (now (given .entry)) (verdict (now (rows .entry))) (countAsked (now (rows .entry)))) ⌝ }
+    ensures { λ c. ⌜ now (given .exit) ≡ givenAfter (withGiven (now (given .entry)) (verdict (now (rows .entry))) (countAsked (now (rows .entry)))) (now (given .entry)) ⌝ }
+{
+    if given.len() < 3 {
+        return short_rows(rows);
+    }
+    match show::count(rows) {
+        CountAnswer::Cues(n) => {
+            put_1(given, n);
+            0
+        }
+        CountAnswer::Refused(r) => refused(r),
+    }
+}
+
+// given: number
+#[no_mangle]
+pub extern "C" fn show_number(rows: &[u32], path: &[u32], own: u32, given: &mut [u32]) -> u64
+    ensures { λ c. ⌜ c ≡ code (withGiven (now (given .entry)) (verdict (now (rows .entry))) (numberAsked (now (rows .entry)) (now (path .entry)) own)) ⌝ }
+    ensures { λ c. ⌜ now (given .exit) ≡ givenAfter (withGiven (now (given .entry)) (verdict (now (rows .entry))) (numberAsked (now (rows .entry)) (now (path .entry)) own)) (now (given .entry)) ⌝ }
+{
+    if given.len() < 3 {
+        return short_rows(rows);
+    }
+    match show::number(rows, path, own) {
+        NumberAnswer::Number(n) => {
+            put_1(given, n);
+            0
+        }
+        NumberAnswer::Refused(r) => refused(r),
+    }
+}
+
+// given: depth, block, own cue
+#[no_mangle]
+pub extern "C" fn show_locate(rows: &[u32], n: u32, path: &mut [u32], given: &mut [u32]) -> u64
+    ensures { λ c. ⌜ c ≡ code (alsoGiven (now (given .entry)) (verdict (now (rows .entry))) (now (path .entry)) (locateAsked (now (rows .entry)) n (now (path .entry))) .answer) ⌝ }
+    ensures { λ c. ⌜ now (given .exit) ≡ givenAfter (alsoGiven (now (given .entry)) (verdict (now (rows .entry))) (now (path .entry)) (locateAsked (now (rows .entry)) n (now (path .entry))) .answer) (now (given .entry)) ⌝ }
+    ensures { λ c. ⌜ now (path .exit) ≡ alsoGiven (now (given .entry)) (verdict (now (rows .entry))) (now (path .entry)) (locateAsked (now (rows .entry)) n (now (path .entry))) .after ⌝ }
+{
+    if given.len() < 3 {
+        return short_rows(rows);
+    }
+    match show::locate(rows, n, path) {
+        LocateAnswer::Found(depth, block, own) => {
+            put_3(given, depth, block, own);
+            0
+        }
+        LocateAnswer::Refused(r) => refused(r),
+    }
+}
+
+// given: length
+#[no_mangle]
+pub extern "C" fn show_write(rows: &[u32], out: &mut [u8], given: &mut [u32]) -> u64
+    ensures { λ c. ⌜ c ≡ code (alsoGiven (now (given .entry)) (verdict (now (rows .entry))) (now (out .entry)) (writeAsked (now (rows .entry)) (now (out .entry))) .answer) ⌝ }
+    ensures { λ c. ⌜ now (given .exit) ≡ givenAfter (alsoGiven (now (given .entry)) (verdict (now (rows .entry))) (now (out .entry)) (writeAsked (now (rows .entry)) (now (out .entry))) .answer) (now (given .entry)) ⌝ }
+    ensures { λ c. ⌜ now (out .exit) ≡ alsoGiven (now (given .entry)) (verdict (now (rows .entry))) (now (out .entry)) (writeAsked (now (rows .entry)) (now (out .entry))) .after ⌝ }
+{
+    if given.len() < 3 {
+        return short_rows(rows);
+    }
+    match show::write(rows, out) {
+        WriteAnswer::Written(n) => {
+            put_1(given, n);
+            0
+        }
+        WriteAnswer::Refused(r) => refused(r),
+    }
+}
+
+// given: rows, blocks, cues
+#[no_mangle]
+pub extern "C" fn show_read(file: &[u8], rows: &mut [u32], given: &mut [u32]) -> u64
+    ensures { λ c. ⌜ c ≡ code (alsoGiven (now (given .entry)) (fileVerdict (now (file .entry))) (now (rows .entry)) (readAsked (now (file .entry)) (now (rows .entry))) .answer) ⌝ }
+    ensures { λ c. ⌜ now (given .exit) ≡ givenAfter (alsoGiven (now (given .entry)) (fileVerdict (now (file .entry))) (now (rows .entry)) (readAsked (now (file .entry)) (now (rows .entry))) .answer) (now (given .entry)) ⌝ }
+    ensures { λ c. ⌜ now (rows .exit) ≡ alsoGiven (now (given .entry)) (fileVerdict (now (file .entry))) (now (rows .entry)) (readAsked (now (file .entry)) (now (rows .entry))) .after ⌝ }
+{
+    if given.len() < 3 {
+        return short_file(file);
+    }
+    match show::read(file, rows) {
+        ReadAnswer::Read(many, blocks, cues) => {
+            put_3(given, many, blocks, cues);
+            0
+        }
+        ReadAnswer::Refused(r) => refused(r),
+    }
+}

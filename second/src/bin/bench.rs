@@ -1,0 +1,112 @@
+//! Times every question that is switched on: the library and the plain implementation in
+//! one run. Each line: question, input, library ns, plain ns, ratio.
+
+use std::hint::black_box;
+
+use second::gen::known;
+use second::limits::{ROWS, WORK};
+use second::question::{Input, Question};
+use second::race::breadth;
+use second::race::inputs::{entries, Entry};
+use second::race::timing::{race, Runner};
+use second::subject::{self, Lent, Subject};
+
+/// Memory for every question's answer.
+struct Memory {
+    numbers: Vec<u32>,
+    bytes: Vec<u8>,
+    given: [u32; 3],
+}
+
+impl Memory {
+    fn new() -> Memory {
+        let numbers = vec![0; WORK.max(11 * ROWS)];
+        Memory { numbers, bytes: vec![0; 65_536], given: [0; 3] }
+    }
+
+    fn ask(&mut self, subject: &Subject, input: &Input, question: &Question) {
+        let (room, all) = (question.room(), self.numbers.len());
+        let mut lent = Lent {
+            numbers: &mut self.numbers[..room.min(all)],
+            bytes: &mut self.bytes,
+            given: &mut self.given,
+        };
+        let returned = subject.ask(black_box(input), black_box(question), &mut lent);
+        assert_eq!(returned, Some(0), "a benchmark question has an answer");
+    }
+}
+
+/// The worst line so far.
+#[derive(Default)]
+struct Worst {
+    ratio: f64,
+    line: String,
+}
+
+fn print_line(question: &str, input: &str, library: Option<f64>, plain: f64) -> Option<f64> {
+    let Some(library) = library else {
+        println!("{question:<10} {input:<38} {:>12} {plain:>12.0} {:>7}", "-", "-");
+        return None;
+    };
+    let ratio = library / plain;
+    println!("{question:<10} {input:<38} {library:>12.0} {plain:>12.0} {ratio:>7.2}");
+    Some(ratio)
+}
+
+/// Times one entry with both implementations, or with the plain one alone.
+fn time(entry: &Entry, library: Option<&Subject>, worst: &mut Worst) {
+    let plain = subject::plain();
+    if !plain.answers(&entry.asked[0]) {
+        return;
+    }
+    let mut memory = [Memory::new(), Memory::new()];
+    let [one, other] = &mut memory;
+    let turn = |time: usize| &entry.asked[time % entry.asked.len()];
+    let mut run_plain = |time: usize| one.ask(&plain, &entry.lent, turn(time));
+    let mut runners: Vec<Runner> = vec![&mut run_plain];
+    let mut run_library =
+        library.map(|library| move |time: usize| other.ask(library, &entry.lent, turn(time)));
+    if let Some(run) = &mut run_library {
+        runners.push(run);
+    }
+    let times = race(&mut runners);
+    let ratio = print_line(entry.question, &entry.input, times.get(1).copied(), times[0]);
+    if let Some(ratio) = ratio.filter(|ratio| *ratio > worst.ratio) {
+        *worst = Worst { ratio, line: format!("{} {}", entry.question, entry.input) };
+    }
+}
+
+/// Unfolding and searching breadth first, in place of the plain implementation.
+fn time_unfolding(library: Option<&Subject>) {
+    for blocks in [10, 17, 23] {
+        let rows = known::long_ring(blocks);
+        let input = Input::Rows(rows.clone());
+        let question = Question::Fewest { s: 1, t: 2, room: WORK };
+        let mut memory = Memory::new();
+        let mut search = |_| {
+            let steps = breadth::fewest(black_box(&rows), 1, 2);
+            assert_eq!(steps, Some(1 << blocks));
+        };
+        let unfolded = race(&mut [&mut search])[0];
+        let library =
+            library.map(|library| race(&mut [&mut |_| memory.ask(library, &input, &question)])[0]);
+        let name = format!("unfolded long ring, {} cues", (1 << blocks) + 1);
+        print_line("fewest", &name, library, unfolded);
+    }
+}
+
+fn main() {
+    let library = subject::library();
+    let mut worst = Worst::default();
+    println!("{:<10} {:<38} {:>12} {:>12} {:>7}", "question", "input", "library", "plain", "ratio");
+    for entry in entries() {
+        time(&entry, library.as_ref(), &mut worst);
+    }
+    if subject::plain().fewest.is_some() {
+        time_unfolding(library.as_ref());
+    }
+    match library {
+        Some(_) => println!("worst ratio {:.2}: {}", worst.ratio, worst.line),
+        None => println!("worst ratio none: the library is not linked"),
+    }
+}

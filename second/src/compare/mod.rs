@@ -1,0 +1,8 @@
+//! Asks an implementation and the naive tool the same, and compares all that was lent.
+
+pub mod big;
+pub mod checker;
+pub mod outcome;
+pub mod questions;
+pub mod random;
+pub mod report;

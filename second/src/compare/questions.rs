@@ -1,0 +1,159 @@
+//! Which questions are asked about a show.
+
+use super::checker::Subjected;
+use crate::gen::prng::Prng;
+use crate::limits::{GIVEN, PATH, WORK};
+use crate::question::Question;
+
+/// Shows of at most this many cues are asked everything.
+const SMALL: u32 = 24;
+/// How many random numbers or pairs are asked about a larger show.
+const SAMPLE: u32 = 60;
+
+impl Subjected<'_, '_> {
+    /// Asks for the contents of a file, with room of several lengths.
+    pub fn ask_file(&mut self, prng: &mut Prng) {
+        self.ask_rooms(prng, Question::Read { room: 0 });
+    }
+
+    /// Asks everything about rows that can be unfolded.
+    pub fn ask_rows(&mut self, prng: &mut Prng) {
+        let count = self.known.as_ref().map_or(3, |show| show.count());
+        self.ask_whole(prng);
+        let (one, other) = (prng.within(0, count + 1), prng.within(0, count + 1));
+        for question in on_cues(one, other).into_iter().chain(on_cues(0, 1)) {
+            self.ask_rooms(prng, question);
+        }
+        if self.known.is_ok() {
+            self.ask_cues(prng, count);
+            self.ask_paths(prng);
+            self.ask_lists(prng, count);
+            self.ask_fewest(prng, count);
+        }
+    }
+
+    /// Asks what needs no unfolding.
+    pub fn ask_whole(&mut self, prng: &mut Prng) {
+        self.ask_rooms(prng, Question::Count);
+        self.ask_rooms(prng, Question::Write { room: 0 });
+    }
+
+    /// One question with output one too short, exact and longer, and with every `given`.
+    fn ask_rooms(&mut self, prng: &mut Prng, question: Question) {
+        let exact = self.room_needed(&question);
+        let longer = exact + 1 + prng.below(20);
+        for room in [exact.saturating_sub(1), exact, longer, prng.below(exact + 1)] {
+            self.ask(question.clone().with_room(room));
+        }
+        let given = prng.below(GIVEN);
+        for (room, given) in [(exact, given), (longer, GIVEN + 1), (exact / 2, given)] {
+            self.ask_given(question.clone().with_room(room), given);
+        }
+    }
+
+    /// All numbers of a small show with those around them, or some numbers.
+    fn numbers(&self, prng: &mut Prng, count: u32) -> Vec<u32> {
+        let mut numbers = vec![0, 1, count, count + 1, u32::MAX];
+        if count <= 10 * SMALL {
+            numbers.extend(2..count);
+        } else {
+            numbers.extend((0..SAMPLE).map(|_| prng.within(1, count)));
+        }
+        numbers
+    }
+
+    fn ask_cues(&mut self, prng: &mut Prng, count: u32) {
+        for n in self.numbers(prng, count) {
+            self.ask(Question::Locate { n, room: PATH + prng.below(2) });
+        }
+    }
+
+    /// The path of every cue, and paths that lead nowhere.
+    fn ask_paths(&mut self, prng: &mut Prng) {
+        if self.checker.subject.number.is_none() {
+            return;
+        }
+        let Ok(show) = &self.known else { return };
+        let mut asked: Vec<(Vec<u32>, u32)> = Vec::new();
+        for _ in 0..SAMPLE.max(2 * SMALL) {
+            let cue = prng.pick(&show.unfolding().cues);
+            asked.push(bent(prng, cue.path.clone(), cue.own));
+        }
+        let cues = show.unfolding().cues.iter().take(10 * SMALL as usize);
+        asked.extend(cues.map(|cue| (cue.path.clone(), cue.own)));
+        asked.extend([PATH, PATH + 1, 200].map(|length| (vec![1; length], 1)));
+        for (path, own) in asked {
+            self.ask(Question::Number { path, own });
+        }
+    }
+
+    /// Both lists of every cue, after every number, on pages of several lengths.
+    fn ask_lists(&mut self, prng: &mut Prng, count: u32) {
+        if self.checker.subject.list_out.is_none() {
+            return;
+        }
+        let small = count <= SMALL;
+        let numbers = self.numbers(prng, count);
+        for v in numbers.iter().copied() {
+            let some = [0, prng.within(0, count), u32::MAX];
+            let after: &[u32] = if small { &numbers } else { &some };
+            for n in after {
+                self.ask_pages(v, *n);
+            }
+        }
+    }
+
+    fn ask_pages(&mut self, v: u32, n: u32) {
+        for outward in [true, false] {
+            for room in [0, 1, 2, 300] {
+                self.ask(Question::List { outward, v, n, room });
+            }
+        }
+    }
+
+    /// Every pair of a small show, or some pairs.
+    fn ask_fewest(&mut self, prng: &mut Prng, count: u32) {
+        if self.checker.subject.fewest.is_none() {
+            return;
+        }
+        let mut pairs: Vec<(u32, u32)> = vec![(0, 1), (1, 0), (count + 1, 1), (1, count + 1)];
+        if count <= SMALL {
+            pairs.extend((1..=count).flat_map(|s| (1..=count).map(move |t| (s, t))));
+        } else {
+            let random = |_| (prng.within(1, count), prng.within(1, count));
+            pairs.extend((0..SAMPLE).map(random));
+        }
+        for (s, t) in pairs {
+            self.ask(Question::Fewest { s, t, room: WORK + (s % 2) as usize });
+        }
+    }
+}
+
+/// Each question on cues, with no room yet.
+fn on_cues(one: u32, other: u32) -> [Question; 5] {
+    let list = |outward: bool| Question::List { outward, v: one, n: other, room: 0 };
+    [
+        Question::Locate { n: one, room: 0 },
+        Question::Number { path: vec![other], own: one },
+        list(true),
+        list(false),
+        Question::Fewest { s: one, t: other, room: 0 },
+    ]
+}
+
+/// A path and an own cue with something changed.
+fn bent(prng: &mut Prng, mut path: Vec<u32>, mut own: u32) -> (Vec<u32>, u32) {
+    let other = *prng.pick(&[0, 1, 2, 3, 255, 256, u32::MAX]);
+    match prng.below(4) {
+        0 => own = other,
+        1 => path.push(other),
+        2 if !path.is_empty() => {
+            let place = prng.below(path.len());
+            path[place] = other;
+        }
+        _ => {
+            path.pop();
+        }
+    }
+    (path, own)
+}

@@ -1,0 +1,86 @@
+//! Random cases, each made from the seed and its number alone.
+
+use super::checker::{Checker, Subjected};
+use crate::gen::prng::Prng;
+use crate::gen::{damage, random};
+use crate::limits::TOTAL;
+use crate::naive::file::print;
+use crate::question::Input;
+
+/// Runs one case.
+pub fn run(checker: &mut Checker, seed: u64, case: u64) {
+    let prng = &mut Prng::new(seed, case);
+    match prng.below(40) {
+        0..=15 => whole_show(checker, prng),
+        16..=26 => damaged_file(checker, prng),
+        27..=37 => damaged_rows(checker, prng),
+        38 => larger_show(checker, prng),
+        _ => long_show(checker, prng),
+    }
+}
+
+fn small(prng: &mut Prng) -> Vec<u32> {
+    let shape = prng.pick(&random::SHAPES);
+    random::show(prng, shape)
+}
+
+fn file_of(rows: &[u32]) -> Vec<u8> {
+    print(rows.as_chunks().0)
+}
+
+fn ask_rows(checker: &mut Checker, prng: &mut Prng, rows: Vec<u32>) {
+    Subjected::new(checker, Input::Rows(rows)).ask_rows(prng);
+}
+
+fn ask_file(checker: &mut Checker, prng: &mut Prng, file: Vec<u8>) {
+    Subjected::new(checker, Input::File(file)).ask_file(prng);
+}
+
+fn whole_show(checker: &mut Checker, prng: &mut Prng) {
+    let rows = small(prng);
+    ask_file(checker, prng, file_of(&rows));
+    ask_rows(checker, prng, rows);
+}
+
+fn larger_show(checker: &mut Checker, prng: &mut Prng) {
+    let rows = random::show(prng, &random::LARGER);
+    ask_file(checker, prng, file_of(&rows));
+    ask_rows(checker, prng, rows);
+}
+
+/// A show of many rows, whole or damaged. Most are too large to unfold.
+fn long_show(checker: &mut Checker, prng: &mut Prng) {
+    let length = *prng.pick(&[100, 500, 1023, 1024, 1025]);
+    let per_block = 5 + prng.below(40);
+    let small = prng.one_in(8);
+    let total = if small { 300 } else { TOTAL };
+    let mut rows = random::sized(prng, length, per_block, total);
+    if prng.one_in(2) {
+        damage::rows(prng, &mut rows);
+    }
+    ask_file(checker, prng, file_of(&rows));
+    let mut asked = Subjected::new(checker, Input::Rows(rows));
+    if small {
+        asked.ask_rows(prng);
+    } else {
+        asked.ask_whole(prng);
+    }
+}
+
+fn damaged_file(checker: &mut Checker, prng: &mut Prng) {
+    let mut rows = small(prng);
+    if prng.one_in(4) {
+        damage::rows(prng, &mut rows);
+    }
+    let mut file = file_of(&rows);
+    damage::file(prng, &mut file);
+    ask_file(checker, prng, file);
+}
+
+/// Damaged rows, also as a file.
+fn damaged_rows(checker: &mut Checker, prng: &mut Prng) {
+    let mut rows = small(prng);
+    damage::rows(prng, &mut rows);
+    ask_file(checker, prng, file_of(&rows));
+    ask_rows(checker, prng, rows);
+}

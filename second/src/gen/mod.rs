@@ -1,0 +1,8 @@
+//! Shows to ask about: the named ones, random ones, and damaged files and rows.
+
+pub mod build;
+pub mod damage;
+pub mod edges;
+pub mod known;
+pub mod prng;
+pub mod random;

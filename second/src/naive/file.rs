@@ -1,0 +1,38 @@
+//! The show file: bytes to rows and back.
+
+use crate::limits::{Refusal, Row, BYTES, NAMES};
+
+/// The rows of a file, or refusal 1, 2 or 3. How many rows there are is not looked at.
+pub fn parse(file: &[u8]) -> Result<Vec<Row>, Refusal> {
+    if file.len() > BYTES {
+        return Err(Refusal::new(1, 0));
+    }
+    let mut lines = file.split_inclusive(|byte| *byte == b'\n');
+    if lines.next() != Some(NAMES) {
+        return Err(Refusal::new(2, 1));
+    }
+    lines.zip(2..).map(|(line, number)| row_of(line).ok_or(Refusal::new(3, number))).collect()
+}
+
+fn row_of(line: &[u8]) -> Option<Row> {
+    let text = std::str::from_utf8(line).ok()?.strip_suffix('\n')?;
+    let values: Option<Vec<u32>> = text.split(',').map(value_of).collect();
+    values?.try_into().ok()
+}
+
+/// A value is well formed if printing it gives the same text.
+fn value_of(text: &str) -> Option<u32> {
+    let value: u16 = text.parse().ok()?;
+    (value.to_string() == text).then_some(value.into())
+}
+
+/// Rows as a file.
+pub fn print(rows: &[Row]) -> Vec<u8> {
+    let mut file = NAMES.to_vec();
+    for row in rows {
+        let values: Vec<String> = row.iter().map(u32::to_string).collect();
+        file.extend(values.join(",").bytes());
+        file.push(b'\n');
+    }
+    file
+}

@@ -1,0 +1,11 @@
+//! The second tool: reads files, checks rows, unfolds by replacing uses one at a time,
+//! and answers by looking at the unfolding. Written to be read, not to be quick.
+
+pub mod ask;
+pub mod check;
+pub mod file;
+pub mod print;
+pub mod unfold;
+
+#[cfg(test)]
+mod tests;

@@ -1,0 +1,182 @@
+//! The cases of the specification, for the naive tool.
+
+use super::ask::Show;
+use super::print::printed;
+use crate::gen::known;
+use crate::limits::{Refusal, NAMES, PATH, WORK};
+use crate::question::{Answer, Question};
+
+fn file(lines: &[&str]) -> Vec<u8> {
+    let mut file = NAMES.to_vec();
+    for line in lines {
+        file.extend(line.bytes());
+        file.push(b'\n');
+    }
+    file
+}
+
+fn show(numbers: &[u32]) -> Show {
+    Show::of_rows(numbers).expect("an accepted show")
+}
+
+fn refused(numbers: &[u32]) -> Option<(u32, u32)> {
+    Show::of_rows(numbers).err().map(|refusal| (refusal.number, refusal.place))
+}
+
+fn given(show: &Show, question: Question) -> Vec<u32> {
+    show.answer(&question, 3).expect("an answer").given
+}
+
+fn fewest(show: &Show, s: u32, t: u32) -> Vec<u32> {
+    given(show, Question::Fewest { s, t, room: WORK })
+}
+
+fn list_out(show: &Show, v: u32, n: u32) -> Answer {
+    let question = Question::List { outward: true, v, n, room: 10 };
+    show.answer(&question, 3).expect("an answer")
+}
+
+fn located(show: &Show, n: u32) -> Result<Answer, Refusal> {
+    show.answer(&Question::Locate { n, room: PATH }, 3)
+}
+
+#[test]
+fn the_ring_is_printed() {
+    let text = printed(&crate::naive::file::print(known::ring().as_chunks().0));
+    assert_eq!(text, "from,to,label\n1,5,1\n2,1,2\n3,4,1\n4,2,1\n5,3,1\n");
+}
+
+#[test]
+fn the_ring_has_five_cues() {
+    let ring = show(&known::ring());
+    let totals: Vec<u64> = ring.blocks.iter().map(|block| block.total).collect();
+    assert_eq!(totals, [1, 3, 5]);
+    assert_eq!(given(&ring, Question::Count), [5]);
+}
+
+#[test]
+fn cues_of_the_ring_are_located_and_numbered() {
+    let ring = show(&known::ring());
+    assert_eq!(located(&ring, 5), Ok(Answer::with_numbers(&[2, 0, 1], &[1, 2])));
+    assert_eq!(located(&ring, 3), Ok(Answer::with_numbers(&[1, 1, 1], &[1])));
+    assert_eq!(located(&ring, 1), Ok(Answer::given(&[0, 2, 1])));
+    assert_eq!(located(&ring, 6), Err(Refusal::new(12, 0)));
+    assert_eq!(located(&ring, 0), Err(Refusal::new(12, 0)));
+    assert_eq!(given(&ring, Question::Number { path: vec![1, 2], own: 1 }), [5]);
+    for (path, own) in [(vec![1, 3], 1), (vec![0], 1), (vec![], 3), (vec![1; 128], 1)] {
+        let asked = ring.answer(&Question::Number { path, own }, 3);
+        assert_eq!(asked, Err(Refusal::new(13, 0)));
+    }
+}
+
+#[test]
+fn fewest_in_the_ring() {
+    let ring = show(&known::ring());
+    assert_eq!(fewest(&ring, 1, 2), [1, 4]);
+    assert_eq!(fewest(&ring, 2, 1), [1, 1]);
+    assert_eq!(fewest(&ring, 1, 1), [1, 0]);
+    assert_eq!(fewest(&ring, 4, 3), [1, 4]);
+    let none = u32::MAX;
+    assert_eq!(ring.work()[..10], [0, 2, none, none, none, none, none, none, none, 0]);
+    assert_eq!(ring.work()[64..66], [0, 4]);
+    assert_eq!(ring.work()[128..192], [none; 64]);
+    assert_eq!(ring.work()[192..], [0; WORK - 192]);
+}
+
+#[test]
+fn lists_of_the_ring() {
+    let ring = show(&known::ring());
+    assert_eq!(list_out(&ring, 4, 0), Answer::with_numbers(&[1, 0], &[2]));
+    assert_eq!(list_out(&ring, 4, 2), Answer::given(&[0, 0]));
+    let empty_page = Question::List { outward: false, v: 4, n: 0, room: 0 };
+    assert_eq!(given(&ring, empty_page), [0, 1]);
+}
+
+#[test]
+fn one_opening_row() {
+    assert_eq!(given(&show(&[0, 0, 0, 1, 0, 0, 0, 0, 0, 0, 0]), Question::Count), [1]);
+    assert_eq!(refused(&[0; 11]), Some((9, 1)));
+}
+
+#[test]
+fn the_tower() {
+    assert_eq!(show(&known::tower(31)).count(), 2_147_483_647);
+    assert_eq!(refused(&known::tower(32)), Some((10, 92)));
+    let text = printed(&super::file::print(known::tower(31).as_chunks().0));
+    assert_eq!(text, "cues\n2147483647\n");
+    let small = show(&known::tower(5));
+    let last = located(&small, small.count());
+    assert_eq!(last, Ok(Answer::with_numbers(&[4, 0, 1], &[2; 4])));
+}
+
+#[test]
+fn the_knot() {
+    let knot = show(&known::knot());
+    assert_eq!(knot.count(), 2);
+    assert_eq!(fewest(&knot, 1, 2), [1, 1]);
+    assert_eq!(fewest(&knot, 2, 1), [0, 0]);
+    let text = printed(&super::file::print(&knot.rows));
+    assert_eq!(text, "from,to,label\n1,2,1\n");
+}
+
+#[test]
+fn the_long_ring() {
+    assert_eq!(show(&known::long_ring(30)).count(), 1_073_741_825);
+    let shorter = show(&known::long_ring(8));
+    assert_eq!(fewest(&shorter, 1, 2), [1, 256]);
+    assert_eq!(fewest(&shorter, 2, 1), [1, 1]);
+}
+
+#[test]
+fn the_number_of_rows_and_joins() {
+    assert_eq!(refused(&[]), Some((4, 0)));
+    assert_eq!(refused(&[0; 12]), Some((4, 0)));
+    assert_eq!(refused(&known::wide(1024)), None);
+    assert_eq!(refused(&known::wide(1025)), Some((4, 0)));
+    let show_row = [1, 0, 0, 1, 0, 0, 0, 0, 0, 0, 0];
+    let joins = |joins: u32| [[0, 0, joins, 0, 0, 0, 0, 0, 0, 0, 0], show_row].concat();
+    assert_eq!(refused(&joins(8)), None);
+    assert_eq!(refused(&joins(9)), Some((6, 1)));
+    assert_eq!(refused(&joins(0)), Some((9, 1)));
+}
+
+#[test]
+fn the_other_named_shows_are_accepted() {
+    let shows = [
+        known::deep(true),
+        known::deep(false),
+        known::deep_join(),
+        known::star(20, true),
+        known::star(20, false),
+        known::full(),
+        known::all_joins(),
+        known::trap_show(),
+        known::dense(),
+        known::five_blocks(),
+        known::bad_order(),
+    ];
+    for rows in shows {
+        assert_eq!(refused(&rows), None);
+    }
+    assert_eq!(known::dense().len(), 11 * 1024);
+    assert_eq!(known::five_blocks().len(), 11 * 1024);
+}
+
+#[test]
+fn refused_files() {
+    let cases: [(&[u8], &str); 5] = [
+        (b"", "2,1"),
+        (NAMES, "4,0"),
+        (&file(&["0,0,0,1,0,0,0,0,0,0"]), "3,2"),
+        (&file(&["0,0,0,65536,0,0,0,0,0,0,0"]), "3,2"),
+        (&file(&["0,0,0,0,0,0,0,0,0,0,0"]), "9,2"),
+    ];
+    for (file, expected) in cases {
+        assert_eq!(printed(file), format!("refusal,place\n{expected}\n"));
+    }
+    assert_eq!(printed(&[b'x'; 65_537]), "refusal,place\n1,0\n");
+    let mut lines = vec!["0,0,0,0,0,0,0,0,0,0,0"; 1500];
+    assert_eq!(printed(&file(&lines)), "refusal,place\n4,0\n");
+    lines[1398] = "0";
+    assert_eq!(printed(&file(&lines)), "refusal,place\n3,1400\n");
+}

@@ -1,0 +1,146 @@
+//! What is timed: for each question, the inputs of the table of figures.
+
+use crate::gen::prng::Prng;
+use crate::gen::{known, random};
+use crate::limits::{PATH, TOTAL, WORK};
+use crate::naive::file::print;
+use crate::question::{Input, Question};
+
+/// One line of the benchmark. Its questions are asked in turn.
+pub struct Entry {
+    pub question: &'static str,
+    pub input: String,
+    pub lent: Input,
+    pub asked: Vec<Question>,
+}
+
+/// A show with a name.
+type Named = (String, Vec<u32>);
+
+/// How many cues or pairs are asked in turn about a random show.
+const TURNS: usize = 16;
+
+fn entry(question: &'static str, show: &Named, asked: Vec<Question>) -> Entry {
+    let (input, rows) = show.clone();
+    Entry { question, input, lent: Input::Rows(rows), asked }
+}
+
+fn sized(rows: usize) -> Named {
+    let prng = &mut Prng::new(7, rows as u64);
+    (format!("{rows} rows"), random::sized(prng, rows, 12, TOTAL))
+}
+
+fn named(name: &str, rows: Vec<u32>) -> Named {
+    (name.to_string(), rows)
+}
+
+fn count_of(rows: &[u32]) -> u32 {
+    let show = crate::naive::ask::Show::of_rows(rows);
+    show.unwrap_or_else(|refusal| panic!("a benchmark show is refused: {refusal:?}")).count()
+}
+
+/// Random cues, all from 1 to the count.
+fn some_cues(rows: &[u32]) -> Vec<u32> {
+    let (count, mut prng) = (count_of(rows), Prng::new(11, 0));
+    (0..TURNS).map(|_| prng.within(1, count)).collect()
+}
+
+/// All lines, in the order of the table.
+pub fn entries() -> Vec<Entry> {
+    let lengths = [100, 500, 1024].map(sized);
+    let usual = [
+        named("ring", known::ring()),
+        named("tower", known::tower(31)),
+        named("knot", known::knot()),
+        lengths[2].clone(),
+    ];
+    let mut entries = Vec::new();
+    for show in &lengths {
+        let file = print(show.1.as_chunks().0);
+        let asked = vec![Question::Read { room: show.1.len() }];
+        let input = Input::File(file);
+        entries.push(Entry { lent: input, ..entry("read", show, asked) });
+    }
+    for show in &lengths {
+        entries.push(entry("write", show, vec![Question::Write { room: 65_536 }]));
+    }
+    entries.extend(usual.iter().map(|show| entry("count", show, vec![Question::Count])));
+    entries.extend(usual.iter().map(|show| entry("locate", show, locates(&show.1))));
+    entries.extend(usual.iter().map(|show| entry("number", show, numbers(&show.1))));
+    entries.extend(lists(&usual));
+    entries.extend(fewest(&usual, &lengths));
+    entries
+}
+
+/// The last cue of a named show, or random cues of a random one.
+fn located(rows: &[u32]) -> Vec<u32> {
+    if rows.len() / 11 == 1024 {
+        some_cues(rows)
+    } else {
+        vec![count_of(rows)]
+    }
+}
+
+fn locates(rows: &[u32]) -> Vec<Question> {
+    located(rows).into_iter().map(|n| Question::Locate { n, room: PATH }).collect()
+}
+
+/// The paths of the located cues.
+fn numbers(rows: &[u32]) -> Vec<Question> {
+    let path_of = |n: u32| {
+        let (mut path, mut given) = ([0; PATH], [0; 3]);
+        assert_eq!(crate::plain::locate(rows, n, &mut path, &mut given), 0);
+        Question::Number { path: path[..given[0] as usize].to_vec(), own: given[2] }
+    };
+    located(rows).into_iter().map(path_of).collect()
+}
+
+fn list(v: u32, n: u32, room: usize) -> Question {
+    Question::List { outward: true, v, n, room }
+}
+
+fn lists(usual: &[Named; 4]) -> Vec<Entry> {
+    let [_, _, knot, random] = usual;
+    let mut entries = Vec::new();
+    for room in [16, 256, 4096] {
+        let show = named(&format!("a million linked cues, page of {room}"), known::star(20, true));
+        entries.push(entry("list out", &show, vec![list(1, 500_000, room)]));
+    }
+    entries.push(entry("list out", knot, vec![list(1, 0, 16)]));
+    let cues = some_cues(&random.1);
+    let show = named("1024 rows, page of 256", random.1.clone());
+    entries.push(entry("list out", &show, cues.iter().map(|v| list(*v, 0, 256)).collect()));
+    let show = named("a million linked cues, page of 4096", known::star(20, false));
+    let inward = Question::List { outward: false, v: 1, n: 500_000, room: 4096 };
+    entries.push(entry("list in", &show, vec![inward]));
+    entries
+}
+
+fn pair(s: u32, t: u32) -> Question {
+    Question::Fewest { s, t, room: WORK }
+}
+
+fn some_pairs(rows: &[u32]) -> Vec<Question> {
+    let cues = some_cues(rows);
+    let ends = cues.iter().cycle().skip(3);
+    cues.iter().zip(ends).map(|(s, t)| pair(*s, *t)).collect()
+}
+
+fn fewest(usual: &[Named; 4], lengths: &[Named; 3]) -> Vec<Entry> {
+    let [ring, tower, knot, _] = usual;
+    let long_ring = named("long ring, 1 to 2", known::long_ring(30));
+    let long_pairs = named("long ring, random pairs", long_ring.1.clone());
+    let hard =
+        [named("dense", known::dense()), named("five blocks in 1024 rows", known::five_blocks())];
+    let bad_order = named("a bad order", known::bad_order());
+    let mut entries = vec![
+        entry("fewest", ring, vec![pair(1, 2)]),
+        entry("fewest", knot, vec![pair(1, 2)]),
+        entry("fewest", tower, vec![pair(1, 2_147_483_647)]),
+        entry("fewest", &long_ring, vec![pair(1, 2)]),
+    ];
+    let shows = [&long_pairs].into_iter().chain(lengths).chain(&hard);
+    entries.extend(shows.map(|show| entry("fewest", show, some_pairs(&show.1))));
+    entries.push(entry("fewest", &bad_order, vec![pair(255, 1)]));
+    entries
+}
