@@ -34,3 +34,5 @@ pub mod Summing
 pub mod Detours
 pub mod Trails
 pub mod Relaxing
+-- what code that answers the fewest question cites
+pub mod Statements

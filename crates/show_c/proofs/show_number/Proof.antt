@@ -34,10 +34,10 @@ same-length : tie.Need-same-length
 same-length c = search needs
 
 returns-2 : tie.Need-returns-2
-returns-2 c = number-value _ _ _ _  _ (c .before .before .before .before .before .before .before .number .result) _ _  (search needs) (search needs) (c .before .before .before .before .before .before .before .number .ensures) (c .before .before .put-1 .ensures) (search needs)
+returns-2 c = number-value _ _ _ _ _ (c .before .before .before .before .before .before .before .number .result) _ _ (search needs) (search needs) (c .before .before .before .before .before .before .before .number .ensures) (c .before .before .put-1 .ensures) (search needs)
 
 returns-3 : tie.Need-returns-3
-returns-3 c = number-refused _ _ _ _  _ (c .before .before .before .before .number .result) _ _ (search needs) (search needs) (c .before .before .before .before .number .ensures) (c .refused .ensures) (search needs)
+returns-3 c = number-refused _ _ _ _ _ (c .before .before .before .before .number .result) _ _ (search needs) (search needs) (c .before .before .before .before .number .ensures) (c .refused .ensures) (search needs)
 
 pub show-number-spec : {M : Type 1} → statement M
 show-number-spec =

@@ -37,13 +37,13 @@ same-length-2 : tie.Need-same-length-2
 same-length-2 c = search needs
 
 returns-2 : tie.Need-returns-2
-returns-2 c = write-value _ _ _  _ (c .before .before .before .before .before .before .before .before .before .write .result) _ _ _  (search needs) (search needs) (c .before .before .before .before .before .before .before .before .before .write .ensures) (c .before .before .put-1 .ensures) (search needs)
+returns-2 c = write-value _ _ _ _ (c .before .before .before .before .before .before .before .before .before .write .result) _ _ _ (search needs) (search needs) (c .before .before .before .before .before .before .before .before .before .write .ensures) (c .before .before .put-1 .ensures) (search needs)
 
 same-length-3 : tie.Need-same-length-3
 same-length-3 c = search needs
 
 returns-3 : tie.Need-returns-3
-returns-3 c = write-refused _ _ _  _ (c .before .before .before .before .before .before .write .result) _ _ _ (search needs) (search needs) (c .before .before .before .before .before .before .write .ensures) (c .refused .ensures) (search needs)
+returns-3 c = write-refused _ _ _ _ (c .before .before .before .before .before .before .write .result) _ _ _ (search needs) (search needs) (c .before .before .before .before .before .before .write .ensures) (c .refused .ensures) (search needs)
 
 pub show-write-spec : {M : Type 1} → statement M
 show-write-spec =
