@@ -1,0 +1,167 @@
+-- Laws of labels under relaxation.
+use Prim.Native.Nat.{ℕ, zero, suc, _+_, _*_, _-_, _≤_, _<_}
+use native.Mathlib.Omega.{arith}
+use native.Mathlib.Decide.{ℕ-discrete}
+use mathlib.Core.Path.{_≡_, refl, sym, _∙_, ap}
+use mathlib.Core.Bool.{Bool, true, false}
+use mathlib.Core.Logic.{_⊎_, inl, inr}
+use mathlib.Core.List.{List, [], _∷_}
+use lib.ListN.{length, getD, set, List·getD-eq-default}
+use Rattle.model.specs.Limits.{noChain}
+use Rattle.model.specs.Rows.{cell}
+use Rattle.distance.specs.Rounds.{orb, sum, Edges, One, Span, LinkEdge, Fan, Mesh, joinsBy, ownBy, UseEdge, BlockEdge, Runs, none, more, Still, Round, quiet, moved, Settled}
+
+pub past : (xs : List ℕ) (i : ℕ) → length xs ≤ i → 0 ≡ getD xs i 0
+past xs i h = sym (List·getD-eq-default xs 0 h)
+
+pub or-yes : (a b : Bool) → a ≡ true → true ≡ orb a b
+unfolding orb
+or-yes a b e = rw e
+
+pub or-no : (a b : Bool) → a ≡ false → b ≡ orb a b
+unfolding orb
+or-no a b e = rw e
+
+-- A smaller number in a list: it stands in the list, and the sum falls.
+pub inside : (d : List ℕ) (v y : ℕ) → y < getD d v 0 → v < length d
+inside [] zero y h = absurd (omega arith)
+inside [] (suc v) y h = absurd (omega arith)
+inside (x ∷ d) zero y h = omega arith
+inside (x ∷ d) (suc v) y h = let k : v < length d = inside d v y h in omega arith
+
+pub sum-set : (d : List ℕ) (v y : ℕ) → y < getD d v 0 → sum (set d v y) < sum d
+unfolding sum
+sum-set [] zero y h = absurd (omega arith)
+sum-set [] (suc v) y h = absurd (omega arith)
+sum-set (x ∷ d) zero y h = omega arith
+sum-set (x ∷ d) (suc v) y h = let k : sum (set d v y) < sum d = sum-set d v y h in omega arith
+
+-- Runs go on, and over more edges.
+pub runs-on : {W : Edges} {d e f : List ℕ} → Runs W d e → Runs W e f → Runs W d f
+runs-on r (none q) = rw (← q) at r
+runs-on r (more e u v w s m l k q) = more e u v w (runs-on r s) m l k q
+
+pub runs-wider : {W X : Edges} {d e : List ℕ} → ((u v w : ℕ) → W u v w → X u v w) → Runs W d e → Runs X d e
+runs-wider f (none q) = none q
+runs-wider f (more e u v w s m l k q) = more e u v w (runs-wider f s) (f u v w m) l k q
+
+-- One edge that improves a label, and one that does not.
+pub round-put : (d : List ℕ) (u v w x y z : ℕ) → x ≡ getD d u 0 → y ≡ getD d v 0 → z ≡ w → x + z < y → y ≤ noChain
+    → Round (One u v w) d true (set d v (x + z))
+round-put d u v w x y z ex ey ez l k =
+    rw (ex, ez)
+    (moved refl (more d u v w (none refl) (refl, refl, refl) (rw (ex, ey, ez) at l) (rw ey at k) refl) (sum-set d v (getD d u 0 + w) (rw (ex, ey, ez) at l)))
+
+pub round-out : (d : List ℕ) (u v w x y z : ℕ) → y ≡ getD d v 0 → x + z < y → length d ≤ v → Round (One u v w) d true d
+round-out d u v w x y z ey l k = let e : getD d v 0 ≡ 0 = sym (past d v k) in absurd (omega arith)
+
+pub round-kept : (d : List ℕ) (u v w x y z : ℕ) → x ≡ getD d u 0 → y ≡ getD d v 0 → z ≡ w → y ≤ x + z → Round (One u v w) d false d
+round-kept d u v w x y z ex ey ez l = quiet refl refl still
+  where
+    still : Still (One u v w) d
+    still a b c (p, q, r) = rw (p, q, r) (rw (ex, ey, ez) at l)
+
+-- Two rounds, one after the other, are a round over the edges of both.
+pub round-then : {Q W X : Edges} {d e f : List ℕ} {b c t : Bool} → ((u v w : ℕ) → Q u v w → X u v w) → ((u v w : ℕ) → W u v w → X u v w)
+    → ((u v w : ℕ) → X u v w → Q u v w ⊎ W u v w) → Round Q d b e → Round W e c f → t ≡ orb b c → Round X d t f
+unfolding orb
+round-then {Q} {W} {X} {d} {e} {f} l r back (quiet p q s) (quiet p′ q′ s′) o =
+    quiet (o ∙ (rw (p, p′))) (q′ ∙ q) (λ u v w i. at u v w (back u v w i))
+  where
+    at : (u v w : ℕ) → Q u v w ⊎ W u v w → getD d v 0 ≤ getD d u 0 + w
+    at u v w (inl i) = s u v w i
+    at u v w (inr i) = rw q at (s′ u v w i)
+round-then l r back (quiet p q s) (moved p′ m n) o = moved (o ∙ (rw (p, p′))) (runs-wider r (rw q at m)) (rw q at n)
+round-then l r back (moved p m n) (quiet p′ q s) o = moved (o ∙ (rw p)) (rw (← q) at (runs-wider l m)) (rw (← q) at n)
+round-then l r back (moved p m n) (moved p′ m′ n′) o = moved (o ∙ (rw p)) (runs-on (runs-wider l m) (runs-wider r m′)) (omega arith)
+
+-- Rounds over a span of edges: none yet, and one more.
+pub span-none : (S : ℕ → Edges) (a : ℕ) (d : List ℕ) → Round (Span S a a) d false d
+span-none S a d = quiet refl refl (λ u v w i. absurd (omega (arith, i .1, i .2)))
+
+pub span-more : (S : ℕ → Edges) (a q : ℕ) {d e f : List ℕ} {b c t : Bool} → a ≤ q → Round (Span S a q) d b e → Round (S q) e c f
+    → t ≡ orb b c → Round (Span S a (q + 1)) d t f
+span-more S a q h x y o =
+    round-then (λ u v w i. (i .0, i .1, omega (arith, i .2), i .3)) (λ u v w i. (q, h, omega arith, i))
+    (λ u v w i. at u v w i (ℕ-discrete (i .0) q)) x y o
+  where
+    at : (u v w : ℕ) (i : Span S a (q + 1) u v w) → Dec (i .0 ≡ q) → Span S a q u v w ⊎ S q u v w
+    at u v w (p, k, l, m) (yes e) = inr (rw e at m)
+    at u v w (p, k, l, m) (no n) = inl (p, k, omega arith, m)
+
+-- The edges of a use: from one of its cues to one more, and from one more of its cues.
+module _ (xs work : List ℕ) (p q : ℕ) where
+  pub fan-none : (a : ℕ) (d : List ℕ) → Round (Fan xs work a p q 0) d false d
+  unfolding Fan
+  fan-none a d = span-none (λ j. One a (getD xs (p + j) 0) (getD work (q + j) 0)) 0 d
+
+  pub fan-more : (a j b w : ℕ) {d e f : List ℕ} {s c t : Bool} → Round (Fan xs work a p q j) d s e → b ≡ getD xs (p + j) 0
+      → w ≡ getD work (q + j) 0 → Round (One a b w) e c f → t ≡ orb s c → Round (Fan xs work a p q (j + 1)) d t f
+  unfolding Fan
+  fan-more a j b w x eb ew y o = span-more (λ j. One a (getD xs (p + j) 0) (getD work (q + j) 0)) 0 j (omega arith) x (rw (eb, ew) at y) o
+
+  -- A cue with no label improves none.
+  pub fan-skip : (a m x : ℕ) (d : List ℕ) → x ≡ getD d a 0 → noChain ≤ x → ((c : ℕ) → getD d c 0 ≤ noChain) → Round (Fan xs work a p q m) d false d
+  unfolding Fan
+  fan-skip a m x d ex h most = quiet refl refl still
+    where
+      still : Still (Fan xs work a p q m) d
+      still u v w (j, _, _, (eu, ev, ew)) = omega (arith, most v, ap (λ (c : ℕ). getD d c 0) eu)
+
+  pub mesh-none : (m : ℕ) (d : List ℕ) → Round (Mesh xs work p q m 0) d false d
+  unfolding Mesh
+  mesh-none m d = span-none (λ i. Fan xs work (getD xs (p + i) 0) p (q + 8 * i) m) 0 d
+
+  pub mesh-more : (m i a : ℕ) {d e f : List ℕ} {s c t : Bool} → Round (Mesh xs work p q m i) d s e → a ≡ getD xs (p + i) 0
+      → Round (Fan xs work a p (q + 8 * i) m) e c f → t ≡ orb s c → Round (Mesh xs work p q m (i + 1)) d t f
+  unfolding Mesh
+  mesh-more m i a x ea y o = span-more (λ i. Fan xs work (getD xs (p + i) 0) p (q + 8 * i) m) 0 i (omega arith) x (rw ea at y) o
+
+-- The rows of a block.
+pub joins-by : (xs t : List ℕ) (b f m : ℕ) → f ≡ getD t (4 * b) 0 → m ≡ getD xs (f * 11 + 2) 0 → m ≡ joinsBy xs t b
+unfolding joinsBy cell
+joins-by xs t b f m ef em = rw (← ef) em
+
+pub own-by : (xs t : List ℕ) (b f m : ℕ) → f ≡ getD t (4 * b) 0 → m ≡ getD xs (f * 11 + 3) 0 → m ≡ ownBy xs t b
+unfolding ownBy cell
+own-by xs t b f m ef em = rw (← ef) em
+
+module _ (xs : List ℕ) where
+  pub links-more : (a r x y : ℕ) {d e f : List ℕ} {s c t : Bool} → a ≤ r → Round (Span (LinkEdge xs) a r) d s e
+      → x ≡ getD xs (r * 11 + 3) 0 → y ≡ getD xs (r * 11 + 4) 0 → Round (One x y 1) e c f → t ≡ orb s c
+      → Round (Span (LinkEdge xs) a (r + 1)) d t f
+  unfolding LinkEdge cell
+  links-more a r x y h s ex ey z o = span-more (LinkEdge xs) a r h s (rw (ex, ey) at z) o
+
+  module _ (t work : List ℕ) where
+    pub uses-more : (a r b m : ℕ) {d e f : List ℕ} {s c o : Bool} → a ≤ r → Round (Span (UseEdge xs t work) a r) d s e
+        → b ≡ getD xs (r * 11 + 2) 0 → m ≡ joinsBy xs t b → Round (Mesh xs work (r * 11 + 3) (64 * b) m m) e c f → o ≡ orb s c
+        → Round (Span (UseEdge xs t work) a (r + 1)) d o f
+    unfolding UseEdge cell
+    uses-more a r b m h s eb em z o = span-more (UseEdge xs t work) a r h s (rw (em, eb) at z) o
+
+    pub block-round : (k f l e : ℕ) {d g h : List ℕ} {s c o : Bool} → f ≡ getD t (4 * k) 0 → l ≡ getD t (4 * k + 1) 0 → e ≡ getD t (4 * k + 2) 0
+        → Round (Span (LinkEdge xs) (f + 1) l) d s g → Round (Span (UseEdge xs t work) l e) g c h → o ≡ orb s c
+        → Round (BlockEdge xs t work k) d o h
+    unfolding BlockEdge
+    block-round k f l e ef el ee x y o =
+        round-then (λ u v w i. inl i) (λ u v w i. inr i) (λ u v w i. i) (rw (ef, el) at x) (rw (el, ee) at y) o
+
+-- Rounds until one is quiet.
+pub runs-none : {W : Edges} (d : List ℕ) → Runs W d d
+runs-none d = none refl
+
+pub true-not-false : {c : Bool} → c ≡ true → c ≡ false → ⊥
+true-not-false p q = let z : _≡_ {A = ℕ} 0 1 = cc in omega arith
+
+pub round-again : {W : Edges} {d e f : List ℕ} {c : Bool} → Runs W d e → Round W e c f → c ≡ true → Runs W d f
+round-again r (quiet p q s) o = absurd (true-not-false o p)
+round-again r (moved p m n) o = runs-on r m
+
+pub round-falls : {W : Edges} {d e : List ℕ} {c : Bool} → Round W d c e → c ≡ true → sum e < sum d
+round-falls (quiet p q s) o = absurd (true-not-false o p)
+round-falls (moved p m n) o = n
+
+pub round-last : {W : Edges} {d e f : List ℕ} {c : Bool} → Runs W d e → Round W e c f → c ≡ false → Settled W d f
+round-last r (quiet p q s) o = record { runs = rw (← q) at r; still = rw (← q) at s }
+round-last r (moved p m n) o = absurd (true-not-false p o)

@@ -1,0 +1,55 @@
+-- `distance::clear` meets its contract. The invariant: the cues passed have no label.
+use Prim.Native.Nat.{ℕ, _+_, _-_, _≤_, _<_}
+use native.Mathlib.Omega.{arith}
+use mathlib.Core.Path.{_≡_}
+use lib.ListN.{length, getD}
+use borrow.Author.Needs.{needs}
+use Rattle.model.specs.Limits.{noChain}
+use Rattle.distance.proofs.Beginning.{agree-more, started-none}
+use Rattle.distance.proofs.clear.Statement.{statement}
+use Rattle.distance.proofs.clear.Tie as tie
+
+abbrev Inv-loop : tie.InvT-loop
+Inv-loop d₀ n c₀ d c = (c ≤ n + 1) × (length d ≡ length d₀) × ((a : ℕ) → a < c → getD d a 0 ≡ noChain)
+
+abbrev μ-loop : tie.MeasureT-loop
+μ-loop d₀ n c₀ d c = n + 1 - c
+
+loop-holds : tie.Need-loop-holds Inv-loop μ-loop
+loop-holds c = (search needs, search needs, λ a h. absurd (omega arith))
+
+mul-d : tie.Need-mul-d Inv-loop μ-loop
+mul-d c = search needs
+
+slice-write-d : tie.Need-slice-write-d Inv-loop μ-loop
+slice-write-d c = search needs
+
+add-c : tie.Need-add-c Inv-loop μ-loop
+add-c c = search needs
+
+loop-less : tie.Need-loop-less Inv-loop μ-loop
+loop-less c = search needs
+
+loop-again : tie.Need-loop-again Inv-loop μ-loop
+loop-again c = (search needs, search needs, agree-more (λ a. noChain) (c .before .loop .d) (c .before .loop .c) (omega arith) (c .before .loop .inv .2))
+
+same-length : tie.Need-same-length Inv-loop μ-loop
+same-length c = search needs
+
+returns : tie.Need-returns Inv-loop μ-loop
+returns c = started-none _ _ _ (omega arith) (c .before .loop .inv .2)
+
+pub clear-spec : {M : Type 1} → statement M
+clear-spec =
+    tie.close
+    (tie.spec
+    Inv-loop
+    μ-loop
+    loop-holds
+    mul-d
+    slice-write-d
+    add-c
+    loop-less
+    loop-again
+    same-length
+    returns)

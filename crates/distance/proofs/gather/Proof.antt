@@ -1,0 +1,73 @@
+-- `distance::gather` meets its contract. The invariant: the numbers passed are the labels of their cues.
+use Prim.Native.Nat.{ℕ, _+_, _-_, _≤_, _<_}
+use native.Mathlib.Omega.{arith}
+use mathlib.Core.Path.{_∙_, ap, _≡_}
+use lib.ListN.{length, getD}
+use borrow.Author.Needs.{needs}
+use Rattle.distance.proofs.Beginning.{agree-more}
+use Rattle.distance.proofs.gather.Statement.{statement}
+use Rattle.distance.proofs.gather.Tie as tie
+
+abbrev Inv-loop : tie.InvT-loop
+Inv-loop xs p d m e₀ i₀ e i = (i ≤ m) × (length e ≡ length e₀) × ((a : ℕ) → a < i → getD e a 0 ≡ getD d (getD xs (p + a) 0) 0)
+
+abbrev μ-loop : tie.MeasureT-loop
+μ-loop xs p d m e₀ i₀ e i = m - i
+
+loop-holds : tie.Need-loop-holds Inv-loop μ-loop
+loop-holds c = (search needs, search needs, λ a h. absurd (omega arith))
+
+add-place : tie.Need-add-place Inv-loop μ-loop
+add-place c = search needs
+
+place-requires : tie.Need-place-requires Inv-loop μ-loop
+place-requires c κs = search needs
+
+get-requires : tie.Need-get-requires Inv-loop μ-loop
+get-requires c κs = search needs
+
+mul-e : tie.Need-mul-e Inv-loop μ-loop
+mul-e c = search needs
+
+slice-write-e : tie.Need-slice-write-e Inv-loop μ-loop
+slice-write-e c = search needs
+
+add-i : tie.Need-add-i Inv-loop μ-loop
+add-i c = search needs
+
+loop-less : tie.Need-loop-less Inv-loop μ-loop
+loop-less c = search needs
+
+loop-again : tie.Need-loop-again Inv-loop μ-loop
+loop-again c =
+    let at-place = c .before in
+    let at-loop = at-place .before .before in
+    let start = at-loop .before .before .before .before in
+    let l = at-loop .loop in
+    let a = start .args in
+    let g : c .get .result ≡ getD (a .d .now) (getD (a .xs .now) (a .p + l .i) 0) 0 = c .get .ensures ∙ ap (λ (n : ℕ). getD (a .d .now) n 0) (at-place .place .ensures .0) in
+    (search needs, search needs, (rw (← g) at (agree-more (λ i. getD (a .d .now) (getD (a .xs .now) (a .p + i) 0) 0) (l .e) (l .i) (omega arith) (l .inv .2))))
+
+same-length : tie.Need-same-length Inv-loop μ-loop
+same-length c = search needs
+
+returns : tie.Need-returns Inv-loop μ-loop
+returns c = λ i h. c .before .loop .inv .2 i (omega arith)
+
+pub gather-spec : {M : Type 1} → statement M
+gather-spec =
+    tie.close
+    (tie.spec
+    Inv-loop
+    μ-loop
+    loop-holds
+    add-place
+    place-requires
+    get-requires
+    mul-e
+    slice-write-e
+    add-i
+    loop-less
+    loop-again
+    same-length
+    returns)

@@ -1,0 +1,70 @@
+-- `distance::put_met` meets its contract. The invariant: the labels of the cues passed are put in.
+use Prim.Native.Nat.{_-_, _≤_}
+use native.Mathlib.Omega.{arith}
+use mathlib.Core.Path.{_≡_}
+use lib.ListN.{length}
+use borrow.Author.Needs.{needs}
+use Rattle.distance.specs.Starts.{MetAt, Merged}
+use Rattle.distance.proofs.Beginning.{met-none, met-more}
+use Rattle.distance.proofs.put_met.Statement.{statement}
+use Rattle.distance.proofs.put_met.Tie as tie
+
+abbrev Inv-loop : tie.InvT-loop
+Inv-loop xs p kept q m d₀ i₀ d i = (i ≤ m) × (length d ≡ length d₀) × Merged (MetAt xs p kept q i) d₀ d
+
+abbrev μ-loop : tie.MeasureT-loop
+μ-loop xs p kept q m d₀ i₀ d i = m - i
+
+loop-holds : tie.Need-loop-holds Inv-loop μ-loop
+loop-holds c = (search needs, search needs, met-none _ _ _ _ _)
+
+add-place : tie.Need-add-place Inv-loop μ-loop
+add-place c = search needs
+
+place-requires : tie.Need-place-requires Inv-loop μ-loop
+place-requires c κs = search needs
+
+add-get : tie.Need-add-get Inv-loop μ-loop
+add-get c = search needs
+
+get-requires : tie.Need-get-requires Inv-loop μ-loop
+get-requires c κs = search needs
+
+put-requires : tie.Need-put-requires Inv-loop μ-loop
+put-requires c κs = search needs
+
+add-i : tie.Need-add-i Inv-loop μ-loop
+add-i c = search needs
+
+loop-less : tie.Need-loop-less Inv-loop μ-loop
+loop-less c = search needs
+
+loop-again : tie.Need-loop-again Inv-loop μ-loop
+loop-again c =
+    let p = c .before .before in
+    let l = p .before .before .before .before .before .loop in
+    (search needs, search needs, met-more _ _ _ _ _ _ _ (l .inv .2) (p .before .before .place .ensures .0) (p .before .get .ensures) (p .put .ensures))
+
+same-length : tie.Need-same-length Inv-loop μ-loop
+same-length c = search needs
+
+returns : tie.Need-returns Inv-loop μ-loop
+returns c = let e : c .before .loop .i ≡ c .before .before .before .before .before .args .m = omega arith in rw e at (c .before .loop .inv .2)
+
+pub put-met-spec : {M : Type 1} → statement M
+put-met-spec =
+    tie.close
+    (tie.spec
+    Inv-loop
+    μ-loop
+    loop-holds
+    add-place
+    place-requires
+    add-get
+    get-requires
+    put-requires
+    add-i
+    loop-less
+    loop-again
+    same-length
+    returns)

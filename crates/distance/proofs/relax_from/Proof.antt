@@ -1,0 +1,71 @@
+-- `distance::relax_from` meets its contract. The invariant: a round over the edges to the cues passed.
+use Prim.Native.Nat.{_-_, _≤_}
+use native.Mathlib.Omega.{arith}
+use mathlib.Core.Path.{_≡_}
+use lib.ListN.{length}
+use borrow.Author.Needs.{needs}
+use Rattle.distance.specs.Rounds.{Fan, Round}
+use Rattle.distance.proofs.Laws.{fan-none, fan-more}
+use Rattle.distance.proofs.relax_from.Statement.{statement}
+use Rattle.distance.proofs.relax_from.Tie as tie
+
+abbrev Inv-loop : tie.InvT-loop
+Inv-loop xs work a p q m d₀ changed₀ j₀ d changed j = (j ≤ m) × (length d ≡ length d₀) × Round (Fan xs work a p q j) d₀ changed d
+
+abbrev μ-loop : tie.MeasureT-loop
+μ-loop xs work a p q m d₀ changed₀ j₀ d changed j = m - j
+
+loop-holds : tie.Need-loop-holds Inv-loop μ-loop
+loop-holds c = search (fan-none, needs)
+
+add-place : tie.Need-add-place Inv-loop μ-loop
+add-place c = search needs
+
+place-requires : tie.Need-place-requires Inv-loop μ-loop
+place-requires c κs = search needs
+
+add-get : tie.Need-add-get Inv-loop μ-loop
+add-get c = search needs
+
+get-requires : tie.Need-get-requires Inv-loop μ-loop
+get-requires c κs = search needs
+
+improve-requires : tie.Need-improve-requires Inv-loop μ-loop
+improve-requires c κs = search needs
+
+either-requires : tie.Need-either-requires Inv-loop μ-loop
+either-requires c κs = search needs
+
+add-j : tie.Need-add-j Inv-loop μ-loop
+add-j c = search needs
+
+loop-less : tie.Need-loop-less Inv-loop μ-loop
+loop-less c = search needs
+
+loop-again : tie.Need-loop-again Inv-loop μ-loop
+loop-again c = (search needs, search needs, search (fan-more, needs))
+
+same-length : tie.Need-same-length Inv-loop μ-loop
+same-length c = search needs
+
+returns : tie.Need-returns Inv-loop μ-loop
+returns c = let e : c .before .loop .j ≡ c .before .before .before .before .before .args .m = omega arith in rw e at (c .before .loop .inv .2)
+
+pub relax-from-spec : {M : Type 1} → statement M
+relax-from-spec =
+    tie.close
+    (tie.spec
+    Inv-loop
+    μ-loop
+    loop-holds
+    add-place
+    place-requires
+    add-get
+    get-requires
+    improve-requires
+    either-requires
+    add-j
+    loop-less
+    loop-again
+    same-length
+    returns)

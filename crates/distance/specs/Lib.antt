@@ -1,0 +1,5 @@
+-- What the contracts of this crate are stated with.
+pub mod Rounds
+pub mod Starts
+pub mod Copies
+pub mod Answers

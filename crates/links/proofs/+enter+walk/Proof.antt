@@ -1,0 +1,431 @@
+-- `links::enter` and `links::walk` meet their contracts: the walk of a copy and that of a use call each other; the block number falls.
+use borrow.Author.Needs.{needs}
+use native.Mathlib.Omega.{arith}
+use Prim.Native.Nat.{ℕ, _+_, _*_, _-_, _≤_, _<_}
+use mathlib.Core.Path.{_≡_, refl, _∙_}
+use lib.ListN.{length}
+use Rattle.links.specs.Walks.{Going}
+use Rattle.links.proofs.Ground.{row-known, rows-order}
+use Rattle.links.proofs.Walks.{enter-shut, may-walk, table-less, enter-walk, may-enter, next-small, going-begin, going-on, going-end}
+use borrow.Fn.Kinds.{In}
+use borrow.Fn.PlainCycle.{Measures, is, falls, and}
+use Rattle.links.proofs.enter.Reads as enter
+use Rattle.links.proofs.enter.Kinds as enter-kinds
+use Rattle.links.proofs.+enter+walk.Lts-enter as enter-lts
+use Rattle.links.proofs.walk.Reads as walk
+use Rattle.links.proofs.walk.Kinds as walk-kinds
+use Rattle.links.proofs.+enter+walk.Lts-walk as walk-lts
+use Rattle.links.proofs.door.Reads as door-reads
+use Rattle.links.proofs.entry.Reads as entry-reads
+use Rattle.links.proofs.give_block.Reads as give-block-reads
+use Rattle.links.proofs.own_of.Reads as own-of-reads
+use Rattle.links.proofs.size_of.Reads as size-of-reads
+use Rattle.links.proofs.value.Reads as value-reads
+use Rattle.links.proofs.wide.Reads as wide-reads
+use Rattle.links.proofs.+enter+walk.{statement}
+use Rattle.links.proofs.+enter+walk.Tie.{close}
+
+abbrev μ-enter : Measures 4 enter-kinds.ps ℕ
+μ-enter κs a = 2 * (a .1 .1 .1 .1 .0)
+
+abbrev μ-walk : Measures 4 walk-kinds.ps ℕ
+μ-walk κs a = 2 * (a .1 .1 .1 .1 .0) + 1
+
+abbrev enter-at : ℕ → In 4 enter-kinds.ps
+enter-at t = and 4 enter-kinds.ps (is 4 enter-kinds.ps μ-enter t) enter.Pre
+
+abbrev enter-below : ℕ → In 4 enter-kinds.ps
+enter-below t = and 4 enter-kinds.ps (falls 4 enter-kinds.ps _<_ μ-enter t) enter.Pre
+
+abbrev walk-at : ℕ → In 4 walk-kinds.ps
+walk-at t = and 4 walk-kinds.ps (is 4 walk-kinds.ps μ-walk t) walk.Pre
+
+abbrev walk-below : ℕ → In 4 walk-kinds.ps
+walk-below t = and 4 walk-kinds.ps (falls 4 walk-kinds.ps _<_ μ-walk t) walk.Pre
+
+enter-door-requires : (t : ℕ) → enter-lts.Need-door-requires (
+  door-reads.Asked,
+  door-reads.Learnt,
+  value-reads.Asked,
+  value-reads.Learnt,
+  wide-reads.Asked,
+  wide-reads.Learnt,
+  walk-below t,
+  walk.Post,
+) (enter-at t) enter.Post
+enter-door-requires t c κs = search needs
+
+enter-returns : (t : ℕ) → enter-lts.Need-returns (
+  door-reads.Asked,
+  door-reads.Learnt,
+  value-reads.Asked,
+  value-reads.Learnt,
+  wide-reads.Asked,
+  wide-reads.Learnt,
+  walk-below t,
+  walk.Post,
+) (enter-at t) enter.Post
+enter-returns t c = search (enter-shut, needs) fits 20000
+
+enter-value-requires : (t : ℕ) → enter-lts.Need-value-requires (
+  door-reads.Asked,
+  door-reads.Learnt,
+  value-reads.Asked,
+  value-reads.Learnt,
+  wide-reads.Asked,
+  wide-reads.Learnt,
+  walk-below t,
+  walk.Post,
+) (enter-at t) enter.Post
+enter-value-requires t c κs = search needs
+
+enter-wide-requires : (t : ℕ) → enter-lts.Need-wide-requires (
+  door-reads.Asked,
+  door-reads.Learnt,
+  value-reads.Asked,
+  value-reads.Learnt,
+  wide-reads.Asked,
+  wide-reads.Learnt,
+  walk-below t,
+  walk.Post,
+) (enter-at t) enter.Post
+enter-wide-requires t c κs = search needs
+
+enter-walk-requires : (t : ℕ) → enter-lts.Need-walk-requires (
+  door-reads.Asked,
+  door-reads.Learnt,
+  value-reads.Asked,
+  value-reads.Learnt,
+  wide-reads.Asked,
+  wide-reads.Learnt,
+  walk-below t,
+  walk.Post,
+) (enter-at t) enter.Post
+enter-walk-requires t c κs = search (may-walk, table-less, needs) fits 20000
+
+enter-same-length : (t : ℕ) → enter-lts.Need-same-length (
+  door-reads.Asked,
+  door-reads.Learnt,
+  value-reads.Asked,
+  value-reads.Learnt,
+  wide-reads.Asked,
+  wide-reads.Learnt,
+  walk-below t,
+  walk.Post,
+) (enter-at t) enter.Post
+enter-same-length t c = search needs
+
+enter-returns-2 : (t : ℕ) → enter-lts.Need-returns-2 (
+  door-reads.Asked,
+  door-reads.Learnt,
+  value-reads.Asked,
+  value-reads.Learnt,
+  wide-reads.Asked,
+  wide-reads.Learnt,
+  walk-below t,
+  walk.Post,
+) (enter-at t) enter.Post
+enter-returns-2 t c =
+    let pre = c .before .before .before .before .before .before .before .before .before .before .pre .1 in
+    enter-walk _ _ _ _ (pre .0) _ _ _ _ _ _ _ _ _ (pre .1) (c .before .before .before .before .before .before .before .door .ensures) (c .before .before .before .before .before .before .if1 .left) (c .before .before .before .before .before .value .ensures) (c .before .before .before .before .wide .ensures .0) _ _ (pre .2)
+    (c .before .before .walk .ensures)
+
+abbrev walk-Inv-loop : walk-lts.InvT-loop
+walk-Inv-loop xs t q m k base c page₀ w g₀ a e r₀ b₀ page g r b =
+    (a ≤ r) × (r ≤ e) × (length page ≡ length page₀) × Going q xs k base c a page₀ g₀ r b page g
+
+abbrev walk-μ-loop : walk-lts.MeasureT-loop
+walk-μ-loop xs t q m k base c page₀ w g₀ a e r₀ b₀ page g r b = e - r
+
+walk-give-block-requires : (t : ℕ) → walk-lts.Need-give-block-requires (
+  give-block-reads.Asked,
+  give-block-reads.Learnt,
+  entry-reads.Asked,
+  entry-reads.Learnt,
+  own-of-reads.Asked,
+  own-of-reads.Learnt,
+  enter-below t,
+  enter.Post,
+  size-of-reads.Asked,
+  size-of-reads.Learnt,
+) (walk-at t) walk.Post walk-Inv-loop walk-μ-loop
+walk-give-block-requires t c κs = search needs
+
+walk-entry-requires : (t : ℕ) → walk-lts.Need-entry-requires (
+  give-block-reads.Asked,
+  give-block-reads.Learnt,
+  entry-reads.Asked,
+  entry-reads.Learnt,
+  own-of-reads.Asked,
+  own-of-reads.Learnt,
+  enter-below t,
+  enter.Post,
+  size-of-reads.Asked,
+  size-of-reads.Learnt,
+) (walk-at t) walk.Post walk-Inv-loop walk-μ-loop
+walk-entry-requires t c κs = search needs
+
+walk-entry-requires-2 : (t : ℕ) → walk-lts.Need-entry-requires-2 (
+  give-block-reads.Asked,
+  give-block-reads.Learnt,
+  entry-reads.Asked,
+  entry-reads.Learnt,
+  own-of-reads.Asked,
+  own-of-reads.Learnt,
+  enter-below t,
+  enter.Post,
+  size-of-reads.Asked,
+  size-of-reads.Learnt,
+) (walk-at t) walk.Post walk-Inv-loop walk-μ-loop
+walk-entry-requires-2 t c κs = search needs
+
+walk-own-of-requires : (t : ℕ) → walk-lts.Need-own-of-requires (
+  give-block-reads.Asked,
+  give-block-reads.Learnt,
+  entry-reads.Asked,
+  entry-reads.Learnt,
+  own-of-reads.Asked,
+  own-of-reads.Learnt,
+  enter-below t,
+  enter.Post,
+  size-of-reads.Asked,
+  size-of-reads.Learnt,
+) (walk-at t) walk.Post walk-Inv-loop walk-μ-loop
+walk-own-of-requires t c κs = search needs
+
+walk-add-b : (t : ℕ) → walk-lts.Need-add-b (
+  give-block-reads.Asked,
+  give-block-reads.Learnt,
+  entry-reads.Asked,
+  entry-reads.Learnt,
+  own-of-reads.Asked,
+  own-of-reads.Learnt,
+  enter-below t,
+  enter.Post,
+  size-of-reads.Asked,
+  size-of-reads.Learnt,
+) (walk-at t) walk.Post walk-Inv-loop walk-μ-loop
+walk-add-b t c = search needs
+
+walk-loop-holds : (t : ℕ) → walk-lts.Need-loop-holds (
+  give-block-reads.Asked,
+  give-block-reads.Learnt,
+  entry-reads.Asked,
+  entry-reads.Learnt,
+  own-of-reads.Asked,
+  own-of-reads.Learnt,
+  enter-below t,
+  enter.Post,
+  size-of-reads.Asked,
+  size-of-reads.Learnt,
+) (walk-at t) walk.Post walk-Inv-loop walk-μ-loop
+walk-loop-holds t c =
+    let pre = c .before .before .before .before .before .before .before .before .before .pre .1 in
+    let known = pre .2 .known in
+    let y₁ = c .before .before .entry .ensures .0 in
+    let y₂ = c .before .entry2 .ensures .0 in (
+      omega arith,
+      rows-order _ _ _ _ _ (pre .0) known y₁ y₂,
+      refl,
+      going-begin _ _ _ (pre .0) _ _ _ _ _ _ _ known y₁ y₂ _ (c .own-of .ensures .0) (c .before .before .before .before .before .give-block .ensures .bound),
+    )
+
+walk-enter-requires : (t : ℕ) → walk-lts.Need-enter-requires (
+  give-block-reads.Asked,
+  give-block-reads.Learnt,
+  entry-reads.Asked,
+  entry-reads.Learnt,
+  own-of-reads.Asked,
+  own-of-reads.Learnt,
+  enter-below t,
+  enter.Post,
+  size-of-reads.Asked,
+  size-of-reads.Learnt,
+) (walk-at t) walk.Post walk-Inv-loop walk-μ-loop
+walk-enter-requires t c κs =
+    let pre = c .before .before .before .before .before .before .before .before .before .before .before .before .pre .1 in
+    let known = pre .2 .known in
+    let inv = c .before .before .loop .inv in
+    let y₁ = c .before .before .before .before .before .entry .ensures .0 in
+    let y₂ = c .before .before .before .before .entry2 .ensures .0 in
+    let h = c .before .loop-test .taken in (
+      omega (arith, c .before .before .before .before .before .before .before .before .before .before .before .before .pre .0),
+      (
+        pre .0,
+        row-known _ _ _ _ _ _ (pre .0) known y₁ y₂ (inv .0) h,
+        pre .1,
+        may-enter _ _ _ (pre .0) _ _ _ _ _ _ _ known y₁ y₂ _ _ _ _ _ _ (pre .2) (inv .0) h (inv .3),
+        omega (arith, inv .2, c .before .before .before .before .before .before .before .before .give-block .ensures .long, pre .2 .room),
+      ),
+    )
+
+walk-size-of-requires : (t : ℕ) → walk-lts.Need-size-of-requires (
+  give-block-reads.Asked,
+  give-block-reads.Learnt,
+  entry-reads.Asked,
+  entry-reads.Learnt,
+  own-of-reads.Asked,
+  own-of-reads.Learnt,
+  enter-below t,
+  enter.Post,
+  size-of-reads.Asked,
+  size-of-reads.Learnt,
+) (walk-at t) walk.Post walk-Inv-loop walk-μ-loop
+walk-size-of-requires t c κs =
+    let pre = c .before .before .before .before .before .before .before .before .before .before .before .before .before .before .before .pre .1 in
+    (pre .0, row-known _ _ _ _ _ _ (pre .0) (pre .2 .known) (c .before .before .before .before .before .before .before .before .entry .ensures .0) (c .before .before .before .before .before .before .before .entry2 .ensures .0) (c .before .before .before .before .before .loop .inv .0) (c .before .before .before .before .loop-test .taken))
+
+walk-add-b-2 : (t : ℕ) → walk-lts.Need-add-b-2 (
+  give-block-reads.Asked,
+  give-block-reads.Learnt,
+  entry-reads.Asked,
+  entry-reads.Learnt,
+  own-of-reads.Asked,
+  own-of-reads.Learnt,
+  enter-below t,
+  enter.Post,
+  size-of-reads.Asked,
+  size-of-reads.Learnt,
+) (walk-at t) walk.Post walk-Inv-loop walk-μ-loop
+walk-add-b-2 t c =
+    let pre = c .before .before .before .before .before .before .before .before .before .before .before .before .before .before .before .before .pre .1 in
+    let inv = c .before .before .before .before .before .before .loop .inv in
+    omega (
+      arith,
+      next-small _ _ _ (pre .0) _ _ _ _ _ _ _ (pre .2 .known) (c .before .before .before .before .before .before .before .before .before .entry .ensures .0) (c .before .before .before .before .before .before .before .before .entry2 .ensures .0) _ _ _ _ _ _ _ (pre .2) (inv .0)
+          (c .before .before .before .before .before .loop-test .taken) (inv .3) (c .size-of .ensures),
+    )
+
+walk-add-r : (t : ℕ) → walk-lts.Need-add-r (
+  give-block-reads.Asked,
+  give-block-reads.Learnt,
+  entry-reads.Asked,
+  entry-reads.Learnt,
+  own-of-reads.Asked,
+  own-of-reads.Learnt,
+  enter-below t,
+  enter.Post,
+  size-of-reads.Asked,
+  size-of-reads.Learnt,
+) (walk-at t) walk.Post walk-Inv-loop walk-μ-loop
+walk-add-r t c = search needs
+
+walk-loop-less : (t : ℕ) → walk-lts.Need-loop-less (
+  give-block-reads.Asked,
+  give-block-reads.Learnt,
+  entry-reads.Asked,
+  entry-reads.Learnt,
+  own-of-reads.Asked,
+  own-of-reads.Learnt,
+  enter-below t,
+  enter.Post,
+  size-of-reads.Asked,
+  size-of-reads.Learnt,
+) (walk-at t) walk.Post walk-Inv-loop walk-μ-loop
+walk-loop-less t c = search needs
+
+walk-loop-again : (t : ℕ) → walk-lts.Need-loop-again (
+  give-block-reads.Asked,
+  give-block-reads.Learnt,
+  entry-reads.Asked,
+  entry-reads.Learnt,
+  own-of-reads.Asked,
+  own-of-reads.Learnt,
+  enter-below t,
+  enter.Post,
+  size-of-reads.Asked,
+  size-of-reads.Learnt,
+) (walk-at t) walk.Post walk-Inv-loop walk-μ-loop
+walk-loop-again t c =
+    let pre = c .before .before .before .before .before .before .before .before .before .before .before .before .before .before .before .before .pre .1 in
+    let inv = c .before .before .before .before .before .before .loop .inv in
+    let h = c .before .before .before .before .before .loop-test .taken in (
+      omega arith,
+      omega arith,
+      c .before .before .before .enter .ensures .long ∙ inv .2,
+      going-on _ _ _ (pre .0) _ _ _ _ _ _ _ (pre .2 .known) (c .before .before .before .before .before .before .before .before .before .entry .ensures .0) (c .before .before .before .before .before .before .before .before .entry2 .ensures .0) _ _ _ _ _ _ _ (inv .0) h (inv .3) (c .before .before .before .enter .ensures)
+          (c .size-of .ensures),
+    )
+
+walk-same-length : (t : ℕ) → walk-lts.Need-same-length (
+  give-block-reads.Asked,
+  give-block-reads.Learnt,
+  entry-reads.Asked,
+  entry-reads.Learnt,
+  own-of-reads.Asked,
+  own-of-reads.Learnt,
+  enter-below t,
+  enter.Post,
+  size-of-reads.Asked,
+  size-of-reads.Learnt,
+) (walk-at t) walk.Post walk-Inv-loop walk-μ-loop
+walk-same-length t c = search needs
+
+walk-returns : (t : ℕ) → walk-lts.Need-returns (
+  give-block-reads.Asked,
+  give-block-reads.Learnt,
+  entry-reads.Asked,
+  entry-reads.Learnt,
+  own-of-reads.Asked,
+  own-of-reads.Learnt,
+  enter-below t,
+  enter.Post,
+  size-of-reads.Asked,
+  size-of-reads.Learnt,
+) (walk-at t) walk.Post walk-Inv-loop walk-μ-loop
+walk-returns t c =
+    let pre = c .before .before .before .before .before .before .before .before .before .before .before .pre .1 in
+    let inv = c .before .loop .inv in
+    going-end _ _ _ (pre .0) _ _ _ _ _ _ _ (pre .2 .known) (c .before .before .before .before .entry .ensures .0) (c .before .before .before .entry2 .ensures .0) _ _ _ _ _ _ (omega arith) (inv .1)
+    (c .loop-test .left) (c .before .before .before .before .before .before .before .give-block .ensures) (inv .3)
+
+pub +enter+walk-spec : {M : Type 1} → statement M
++enter+walk-spec = close μ-enter μ-walk (λ t. enter-lts.spec (
+  door-reads.Asked,
+  door-reads.Learnt,
+  value-reads.Asked,
+  value-reads.Learnt,
+  wide-reads.Asked,
+  wide-reads.Learnt,
+  walk-below t,
+  walk.Post,
+)
+    (enter-at t)
+    enter.Post
+    (enter-door-requires t)
+    (enter-returns t)
+    (enter-value-requires t)
+    (enter-wide-requires t)
+    (enter-walk-requires t)
+    (enter-same-length t)
+    (enter-returns-2 t))
+    λ t. walk-lts.spec (
+      give-block-reads.Asked,
+      give-block-reads.Learnt,
+      entry-reads.Asked,
+      entry-reads.Learnt,
+      own-of-reads.Asked,
+      own-of-reads.Learnt,
+      enter-below t,
+      enter.Post,
+      size-of-reads.Asked,
+      size-of-reads.Learnt,
+    )
+    (walk-at t)
+    walk.Post
+    walk-Inv-loop
+    walk-μ-loop
+    (walk-give-block-requires t)
+    (walk-entry-requires t)
+    (walk-entry-requires-2 t)
+    (walk-own-of-requires t)
+    (walk-add-b t)
+    (walk-loop-holds t)
+    (walk-enter-requires t)
+    (walk-size-of-requires t)
+    (walk-add-b-2 t)
+    (walk-add-r t)
+    (walk-loop-less t)
+    (walk-loop-again t)
+    (walk-same-length t)
+    (walk-returns t)

@@ -1,0 +1,11 @@
+pub mod Picked
+pub mod Filled
+pub mod Near
+pub mod Ground
+pub mod Marks
+pub mod Tables
+pub mod Walks
+pub mod Joins
+pub mod Stands
+pub mod Answer
+pub mod Whole

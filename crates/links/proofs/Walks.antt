@@ -1,0 +1,327 @@
+-- Laws of the walk: what each part of it gives to the page.
+use Prim.Native.Nat.{ℕ, zero, suc, _+_, _*_, _-_, _≤_, _<_}
+use native.Mathlib.Omega.{arith}
+use native.Mathlib.Decide.{ℕ-discrete, decLt}
+use mathlib.Core.Path.{_≡_, refl, sym, _∙_, ap}
+use mathlib.Core.List.{List, [], _∷_, _++_, append-nil, List·Memᴰ}
+use lib.ListN.{length, getD, take, drop}
+use lib.Seq.{take-suc, split-at, take-all}
+use Rattle.model.specs.Rows.{cell}
+use Rattle.model.specs.Blocks.{Link, Use, Block, blockAt, joinsOf, ownOf, sumOver, total, blocksOf}
+use Rattle.model.specs.Unfolding.{links}
+use Rattle.theory.specs.WellFormed.{Cue}
+use Rattle.theory.proofs.AtBlock.{joins-small}
+use Rattle.theory.proofs.Choices.{lt-then, lt-else, eq-then, eq-else}
+use Rattle.theory.proofs.Ranges.{Copy, copies, copies-range, Spot, number, all-links, meets, cueAt-own}
+use Rattle.theory.proofs.BlockAt.{spot, links-at, ownOf-at, joinsOf-at, total-at}
+use Rattle.theory.proofs.Locality.{Sound, Part, part-own, part-sound, copies-here}
+use Rattle.rules.specs.Index.{useAt}
+use Rattle.links.specs.declared.Ask.{Ask}
+use Rattle.links.specs.Picks.{Picked, wanted}
+use Rattle.links.specs.Near.{Flag, Near, Marks, ExactBelow, TableTo}
+use Rattle.links.specs.Pages.{Gives}
+use Rattle.links.specs.Walks.{stepList, ownList, copyList, May, MayDoor, Walked, Entered, Door, Going}
+use Rattle.links.specs.Ground.{Ground, UseRow, PlaceIs}
+use Rattle.links.proofs.Picked.{wanted-append, wanted-nil, wanted-yes, wanted-not, wanted-under, wanted-low}
+use Rattle.links.proofs.Filled.{gives-nil, gives-full, gives-append}
+use Rattle.links.proofs.Ground.{use-block, use-column, uses-rows, usesFrom-length, usesFrom-at}
+use Rattle.links.proofs.Near.{near-picked, picked-near, wanted-part, wanted-apart, wanted-clear, join-number, met-at}
+
+-- A cue of a block, by its numbers of cues.
+cue-is : (bs : List Block) (k c : ℕ) → 1 ≤ c → c ≤ ownOf bs k + joinsOf bs k → Cue (blockAt bs k) c
+cue-is bs k c x y = omega (arith, ownOf-at bs k, joinsOf-at bs k)
+
+-- The own cues of a copy.
+module _ (q : Ask) (bs : List Block) (m : List ℕ) (k base : ℕ) (met : List ℕ) (g : Sound (spot bs k base met)) (below : ExactBelow q bs m k)
+    (c : ℕ) (cue : Cue (blockAt bs k) c) (s : List ℕ) (marks : Marks q m (blockAt bs k) c s) where
+  abbrev z : Spot
+  z = spot bs k base met
+
+  abbrev v : ℕ
+  v = number z c
+
+  one : (d : ℕ) → suc d ≤ blockAt bs k .own → wanted q (all-links z) v base (suc d) ≡ wanted q (all-links z) v base d ++ stepList q (getD s (suc d) 0) (base + suc d)
+  unfolding stepList
+  one d h = go (ℕ-discrete (getD s (suc d) 0) 1) (decLt (q .after) (base + suc d))
+    where
+      num : number z (suc d) ≡ base + suc d
+      num = cueAt-own (blockAt bs k .own) base met (suc d) h
+
+      small : suc d < 264
+      small = omega (arith, g .fit .good .own)
+
+      skip : stepList q (getD s (suc d) 0) (base + suc d) ≡ [] → wanted q (all-links z) v base (suc d) ≡ wanted q (all-links z) v base d
+          → wanted q (all-links z) v base (suc d) ≡ wanted q (all-links z) v base d ++ stepList q (getD s (suc d) 0) (base + suc d)
+      skip e w = w ∙ sym (ap (λ zs. wanted q (all-links z) v base d ++ zs) e ∙ append-nil (wanted q (all-links z) v base d))
+
+      go : Dec (getD s (suc d) 0 ≡ 1) → Dec (q .after < base + suc d)
+          → wanted q (all-links z) v base (suc d) ≡ wanted q (all-links z) v base d ++ stepList q (getD s (suc d) 0) (base + suc d)
+      go (yes f) (yes l) =
+          wanted-yes q v (all-links z) base d l (rw num at (near-picked q bs m k base met g below c (suc d) (marks .at (suc d) small .0 f)))
+          ∙ ap (λ zs. wanted q (all-links z) v base d ++ zs) (sym (eq-then (getD s (suc d) 0) 1 _ _ f ∙ lt-then (q .after) (base + suc d) _ _ l))
+      go (yes f) (no l) =
+          skip (eq-then (getD s (suc d) 0) 1 _ _ f ∙ lt-else (q .after) (base + suc d) _ _ (omega arith))
+          (wanted-under q v (all-links z) base d (omega arith))
+      go (no f) e =
+          skip (eq-else (getD s (suc d) 0) 1 _ _ f)
+          (wanted-not q v (all-links z) base d
+          (λ p. f (marks .at (suc d) small .1 (picked-near q bs m k base met g below c (suc d) cue (omega arith, omega arith) (rw num p)))))
+
+  own-wanted : (d : ℕ) → d ≤ blockAt bs k .own → ownList q s base d ≡ wanted q (all-links z) v base d
+  unfolding ownList
+  own-wanted zero h = sym (wanted-nil q v (all-links z) base)
+  own-wanted (suc d) h = ap (λ zs. zs ++ stepList q (getD s (suc d) 0) (base + suc d)) (own-wanted d (omega arith)) ∙ sym (one d h)
+
+pub own-walked : (q : Ask) (bs : List Block) (m : List ℕ) (k base c : ℕ) (p : List ℕ) (w : ℕ) (s p′ : List ℕ) (own wide g : ℕ)
+    → TableTo q bs m k → May q bs k base c p w → own ≡ ownOf bs k → wide ≡ own → Marks q m (blockAt bs k) c s
+    → Gives (q .room) p w (ownList q s base wide) p′ g → Walked q bs k base c base p w (ownOf bs k) p′ g
+own-walked q bs m k base c p w s p′ own wide g tab may x y marks gives =
+    record {
+      long = gives .long;
+      bound = gives .bound;
+      gives = λ met sound.
+          let e : wide ≡ blockAt bs k .own = y ∙ x ∙ ownOf-at bs k in
+          let r : ownList q s base (blockAt bs k .own) ≡ wanted q (all-links (spot bs k base met)) (number (spot bs k base met) c) base (blockAt bs k .own) =
+          own-wanted q bs m k base met sound (tab .below) c (cue-is bs k c (may .low) (may .high)) s marks (blockAt bs k .own) (omega arith) in
+          rw (links-at bs (sound .good) k base met, ownOf-at bs k, ← r) (rw e at gives);
+    }
+
+pub own-fits : (q : Ask) (xs t : List ℕ) (k base c : ℕ) (p : List ℕ) (w own wide : ℕ) → Ground xs t → May q (blocksOf xs) k base c p w
+    → own ≡ ownOf (blocksOf xs) k → wide ≡ own → base + wide ≤ 2147483647
+own-fits q xs t k base c p w own wide g may x y =
+    omega (arith, may .small, total-at (blocksOf xs) (g .show .good) k 0 [], ownOf-at (blocksOf xs) k)
+
+-- Nothing to give in the copy of a use.
+door-shut : (q : Ask) (xs : List ℕ) (k r place c w : ℕ) → ((page : List ℕ) → Entered q xs k r place c page w page w) → Door q xs k r place c w 0
+door-shut q xs k r place c w h =
+    record { shut = λ e. h; at = 0; within = λ n. absurd (n refl); cue = λ n. absurd (n refl); meets = λ n. absurd (n refl) }
+
+door-nil : (q : Ask) (xs : List ℕ) (k r place c w : ℕ) → w ≤ q .room + 1
+    → ((base : ℕ) (met : List ℕ) → Sound (spot (blocksOf xs) k base met)
+    → Part (spot (blocksOf xs) k base met) (record { of = useAt xs (blocksOf xs) r; base = place })
+    → wanted q (all-links (spot (blocksOf xs) k base met)) (number (spot (blocksOf xs) k base met) c) place (total (blocksOf xs) (cell xs r 2)) ≡ [])
+    → Door q xs k r place c w 0
+door-nil q xs k r place c w b h =
+    door-shut q xs k r place c w
+    (λ page. record {
+      long = refl;
+      bound = b;
+      gives = λ base met sound part. gives-nil (q .room) page w _ ((rw (links-at (blocksOf xs) (sound .good) k base met) (h base met sound part))) b;
+    })
+
+module _ (q : Ask) (xs t m : List ℕ) (g : Ground xs t) (k r place c w : ℕ) (may : MayDoor q xs k r place c w) where
+  pub door-full : q .room < w → Door q xs k r place c w 0
+  door-full h =
+      door-shut q xs k r place c w
+      (λ page. record { long = refl; bound = may .bound; gives = λ base met sound part. gives-full (q .room) page w _ h (may .bound) })
+
+  pub door-low : (size : ℕ) → size ≡ total (blocksOf xs) (cell xs r 2) → place + size ≤ q .after → Door q xs k r place c w 0
+  door-low size e h = door-nil q xs k r place c w (may .bound) (λ base met sound part. wanted-low q _ _ place _ (omega arith))
+
+  module _ (x j joins i : ℕ) (o : UseRow xs k r) (y₁ : x ≡ cell xs r 2) (y₂ : j ≡ x) (n : joins ≡ joinsOf (blocksOf xs) j) (few : joins ≤ 8)
+      (p : PlaceIs xs r joins c i) (tab : TableTo q (blocksOf xs) m k) where
+    arity : length (useAt xs (blocksOf xs) r .at) ≡ joins
+    arity = o .arity ∙ ap (joinsOf (blocksOf xs)) (sym (y₂ ∙ y₁)) ∙ sym n
+
+    use-at : (a : ℕ) → a < joins → getD (useAt xs (blocksOf xs) r .at) a 0 ≡ cell xs r (3 + a)
+    use-at a h = use-column xs (blocksOf xs) r a (omega (arith, o .arity, arity)) (omega arith)
+
+    pub door-apart : joins ≤ i → Door q xs k r place c w 0
+    unfolding useAt
+    door-apart h =
+        door-nil q xs k r place c w (may .bound)
+        (λ base met sound part. wanted-apart q (blocksOf xs) m k base met sound (tab .below) (record { of = useAt xs (blocksOf xs) r; base = place }) part c
+        (cue-is (blocksOf xs) k c (may .low) (may .high))
+        (λ a l e. p .before a (omega (arith, arity)) (sym (use-at a (omega (arith, arity))) ∙ e)))
+
+    pub door-clear : i < joins → (getD m (72 * j + 9 * i + 8) 0 ≡ 1 → ⊥) → Door q xs k r place c w 0
+    unfolding useAt
+    door-clear h f =
+        door-nil q xs k r place c w (may .bound)
+        (λ base met sound part. wanted-clear q (blocksOf xs) m k base met sound (tab .below) (record { of = useAt xs (blocksOf xs) r; base = place }) part c i
+        (omega (arith, arity)) (use-at i h ∙ p .found h) (rw (y₂, y₁) at f))
+
+    pub door-open : (own : ℕ) → own ≡ ownOf (blocksOf xs) j → i < joins → Door q xs k r place c w (own + 1 + i)
+    door-open own e h =
+        let s : j ≡ cell xs r 2 = y₂ ∙ y₁ in
+        record {
+          shut = λ z. absurd (omega arith);
+          at = i;
+          within = λ z. (let b : joins ≡ joinsOf (blocksOf xs) (cell xs r 2) = rw s at n in omega arith);
+          cue = λ z. (let b : own ≡ ownOf (blocksOf xs) (cell xs r 2) = rw s at e in omega arith);
+          meets = λ z. p .found h;
+        }
+
+-- The copy of a use is not walked, or walked.
+pub enter-shut : (q : Ask) (xs : List ℕ) (k r place c w d : ℕ) (page : List ℕ) → Door q xs k r place c w d → d ≡ 0 → Entered q xs k r place c page w page w
+enter-shut q xs k r place c w d page door e = door .shut e page
+
+module _ (q : Ask) (xs t m : List ℕ) (g : Ground xs t) (k r place c w d x j : ℕ) (page : List ℕ) (o : UseRow xs k r) (door : Door q xs k r place c w d)
+    (open-door : d ≡ 0 → ⊥) (y₁ : x ≡ cell xs r 2) (y₂ : j ≡ x) where
+  pub may-walk : MayDoor q xs k r place c w → q .room ≤ length page → May q (blocksOf xs) j place d page w
+  may-walk may l =
+      let e : j ≡ cell xs r 2 = y₂ ∙ y₁ in
+      rw e
+      (record {
+        known = omega (arith, o .lower, o .known);
+        low = omega (arith, door .cue open-door);
+        high = omega (arith, door .cue open-door, door .within open-door);
+        small = may .small;
+        room = l;
+        fits = may .fits;
+        bound = may .bound;
+      })
+
+  pub table-less : TableTo q (blocksOf xs) m k → TableTo q (blocksOf xs) m j
+  table-less tab = record { long = tab .long; below = record { at = λ a i h l. tab .below .at a i (omega (arith, o .lower)) l } }
+
+  pub enter-walk : (after : List ℕ) (f : ℕ) → TableTo q (blocksOf xs) m k
+      → Walked q (blocksOf xs) j place d place page w (total (blocksOf xs) j) after f → Entered q xs k r place c page w after f
+  unfolding useAt
+  enter-walk after f tab walked =
+      record {
+        long = walked .long;
+        bound = walked .bound;
+        gives = λ base met sound part.
+            let e : j ≡ cell xs r 2 = y₂ ∙ y₁ in
+            let p : Copy = record { of = useAt xs bs r; base = place } in
+            let z : Spot = spot bs k base met in
+            let inside : Sound (spot bs (cell xs r 2) place (meets z p)) = part-sound sound p part in
+            let i : ℕ = door .at in
+            let h : i < length (useAt xs bs r .at) = omega (arith, o .arity, door .within open-door) in
+            let n : number (spot bs (cell xs r 2) place (meets z p)) d ≡ number z c =
+            rw (cue-at) (join-number q bs m (cell xs r 2) place (meets z p) inside lower-table i
+            ∙ met-at q bs m k base met sound (tab .below) p i c h (use-column xs bs r i (door .within open-door) (omega (arith, door .within open-door, few)) ∙ door .meets open-door)) in
+            rw (links-at bs (sound .good) k base met, wanted-part q bs m k base met sound (tab .below) p part (number z c), ← n)
+            ((rw e at walked) .gives (meets z p) inside);
+      }
+    where
+      bs : List Block
+      bs = blocksOf xs
+
+      few : joinsOf bs (cell xs r 2) ≤ 8
+      few = joins-small (cell xs r 2) (g .show .good)
+
+      cue-at : d ≡ blockAt bs (cell xs r 2) .own + 1 + door .at
+      cue-at = omega (arith, door .cue open-door, ownOf-at bs (cell xs r 2))
+
+      lower-table : ExactBelow q bs m (cell xs r 2)
+      lower-table = record { at = λ a i h l. tab .below .at a i (omega (arith, o .lower)) l }
+
+-- The uses up to one more.
+sum-append : (f : ℕ → ℕ) (us ws : List Use) → sumOver f (us ++ ws) ≡ sumOver f us + sumOver f ws
+unfolding sumOver
+sum-append f [] ws = omega arith
+sum-append f (u ∷ us) ws = omega (arith, sum-append f us ws)
+
+sum-one : (f : ℕ → ℕ) (u : Use) → sumOver f (u ∷ []) ≡ f (u .block)
+unfolding sumOver
+sum-one f u = omega arith
+
+abbrev pub noUse : Use
+noUse = record { block = 0; at = [] }
+
+module _ (xs t : List ℕ) (g : Ground xs t) (k base a e : ℕ) (known : k < length (blocksOf xs))
+    (y₁ : a ≡ getD t (4 * k + 1) 0) (y₂ : e ≡ getD t (4 * k + 2) 0) where
+  abbrev bs : List Block
+  bs = blocksOf xs
+
+  abbrev us : List Use
+  us = blockAt bs k .uses
+
+  pub many : length us ≡ e - a
+  many = ap length (uses-rows g k known) ∙ usesFrom-length xs bs _ _ ∙ (rw (← y₁, ← y₂) refl)
+
+  pub use-here : (r : ℕ) → a ≤ r → r < e → getD us (r - a) noUse ≡ useAt xs bs r
+  use-here r x y =
+      let z : a + (r - a) ≡ r = omega arith in
+      rw (uses-rows g k known, ← y₁, ← y₂) (usesFrom-at xs bs a (e - a) (r - a) noUse (omega arith) ∙ ap (useAt xs bs) z)
+
+  size-all : total bs k ≡ ownOf bs k + sumOver (total bs) us
+  size-all = omega (arith, total-at bs (g .show .good) k 0 [], ownOf-at bs k)
+
+  pub sum-next : (r : ℕ) → a ≤ r → r < e
+      → sumOver (total bs) (take (r + 1 - a) us) ≡ sumOver (total bs) (take (r - a) us) + total bs (cell xs r 2)
+  sum-next r x y =
+      let n : r + 1 - a ≡ suc (r - a) = omega arith in
+      rw (n, take-suc us (r - a) noUse (omega (arith, many)), use-here r x y)
+      (sum-append (total bs) (take (r - a) us) (useAt xs bs r ∷ [])
+      ∙ ap (λ i. sumOver (total bs) (take (r - a) us) + i) (sum-one (total bs) (useAt xs bs r) ∙ ap (total bs) (use-block xs bs r)))
+
+  part-here : (r b : ℕ) → a ≤ r → r < e → b ≡ base + ownOf bs k + sumOver (total bs) (take (r - a) us)
+      → (met : List ℕ) → Part (spot bs k base met) (record { of = useAt xs bs r; base = b })
+  part-here r b x y h met =
+      let s : us ≡ take (r - a) us ++ useAt xs bs r ∷ drop (suc (r - a)) us = rw (← use-here r x y) (split-at us (r - a) noUse (omega (arith, many))) in
+      let o : base + ownOf bs k ≡ base + blockAt bs k .own = ap (λ n. base + n) (ownOf-at bs k) in
+      let p : List·Memᴰ (record { of = useAt xs bs r; base = base + blockAt bs k .own + sumOver (total bs) (take (r - a) us) })
+      (copies (total bs) (base + blockAt bs k .own) (take (r - a) us ++ useAt xs bs r ∷ drop (suc (r - a)) us)) =
+      copies-here (total bs) (base + blockAt bs k .own) (take (r - a) us) (useAt xs bs r) (drop (suc (r - a)) us) in
+      let h′ : b ≡ base + blockAt bs k .own + sumOver (total bs) (take (r - a) us) = rw o at h in
+      rw h′ (rw (← s) at p)
+
+  -- The next copy lies inside.
+  pub next-fits : (r b : ℕ) → a ≤ r → r < e → b ≡ base + ownOf bs k + sumOver (total bs) (take (r - a) us)
+      → b + total bs (cell xs r 2) ≤ base + total bs k
+  unfolding useAt
+  next-fits r b x y h =
+      omega (arith, size-all, ownOf-at bs k, copies-range (total bs) (base + blockAt bs k .own) us _ (part-here r b x y h []))
+
+module _ (q : Ask) (xs t : List ℕ) (g : Ground xs t) (k base c a e : ℕ) (page : List ℕ) (w : ℕ) (known : k < length (blocksOf xs))
+    (y₁ : a ≡ getD t (4 * k + 1) 0) (y₂ : e ≡ getD t (4 * k + 2) 0) where
+  pub may-enter : (r b f v : ℕ) (after first : List ℕ) → May q (blocksOf xs) k base c first v → a ≤ r → r < e → Going q xs k base c a page w r b after f
+      → MayDoor q xs k r b c f
+  may-enter r b f v after first may x y go =
+      record {
+        low = may .low;
+        high = may .high;
+        small = omega (arith, may .small, next-fits xs t g k base a e known y₁ y₂ r b x y (go .at));
+        fits = may .fits;
+        bound = go .walked .bound;
+      }
+
+  pub next-small : (r b f size v : ℕ) (after first : List ℕ) → May q (blocksOf xs) k base c first v → a ≤ r → r < e → Going q xs k base c a page w r b after f
+      → size ≡ total (blocksOf xs) (cell xs r 2) → b + size ≤ 2147483647
+  next-small r b f size v after first may x y go z = omega (arith, may .small, next-fits xs t g k base a e known y₁ y₂ r b x y (go .at))
+
+  pub going-begin : (own : ℕ) → own ≡ ownOf (blocksOf xs) k → w ≤ q .room + 1 → Going q xs k base c a page w a (base + own) page w
+  unfolding sumOver
+  going-begin own z l =
+      let n : a - a ≡ 0 = omega arith in
+      let m : base + own - (base + ownOf (blocksOf xs) k) ≡ 0 = omega arith in
+      record {
+        at = rw n (omega arith);
+        walked = record { long = refl; bound = l; gives = λ met sound. rw m (gives-nil (q .room) page w _ (wanted-nil q _ _ _) l) };
+      }
+
+  pub going-on : (r b f h size : ℕ) (p₁ p₂ : List ℕ) → a ≤ r → r < e → Going q xs k base c a page w r b p₁ f → Entered q xs k r b c p₁ f p₂ h
+      → size ≡ total (blocksOf xs) (cell xs r 2) → Going q xs k base c a page w (r + 1) (b + size) p₂ h
+  going-on r b f h size p₁ p₂ x y go entered z =
+      record {
+        at = omega (arith, go .at, sum-next xs t g k base a e known y₁ y₂ r x y);
+        walked = record {
+          long = entered .long ∙ go .walked .long;
+          bound = entered .bound;
+          gives = λ met sound.
+              let o : ℕ = base + ownOf (blocksOf xs) k in
+              let l : o + (b - o) ≡ b = omega (arith, go .at) in
+              let n : b + size - o ≡ (b - o) + total (blocksOf xs) (cell xs r 2) = omega (arith, go .at) in
+              let v : ℕ = number (spot (blocksOf xs) k base met) c in
+              rw (n, wanted-append q v (links (blocksOf xs) k base met) o (b - o) (total (blocksOf xs) (cell xs r 2)), l)
+              (gives-append (q .room) page w _ _ p₁ p₂ f h (go .walked .gives met sound) (entered .gives base met sound (part-here xs t g k base a e known y₁ y₂ r b x y (go .at) met)));
+        };
+      }
+
+  pub going-end : (r b f v : ℕ) (after first : List ℕ) → a ≤ e → r ≤ e → e ≤ r → Walked q (blocksOf xs) k base c base first v (ownOf (blocksOf xs) k) page w
+      → Going q xs k base c a page w r b after f → Walked q (blocksOf xs) k base c base first v (total (blocksOf xs) k) after f
+  going-end r b f v after first x y z own go =
+      let n : r ≡ e = omega arith in
+      let all : take (r - a) (blockAt (blocksOf xs) k .uses) ≡ (blockAt (blocksOf xs) k .uses) = take-all (r - a) (blockAt (blocksOf xs) k .uses) (omega (arith, many xs t g k base a e known y₁ y₂)) in
+      let s : b ≡ base + ownOf (blocksOf xs) k + sumOver (total (blocksOf xs)) (blockAt (blocksOf xs) k .uses) = rw all at (go .at) in
+      let d : total (blocksOf xs) k ≡ ownOf (blocksOf xs) k + (b - (base + ownOf (blocksOf xs) k)) = omega (arith, size-all xs t g k base a e known y₁ y₂) in
+      record {
+        long = go .walked .long ∙ own .long;
+        bound = go .walked .bound;
+        gives = λ met sound.
+            rw (d, wanted-append q (number (spot (blocksOf xs) k base met) c) (links (blocksOf xs) k base met) base (ownOf (blocksOf xs) k) (b - (base + ownOf (blocksOf xs) k)))
+            (gives-append (q .room) first v _ _ page after w f (own .gives met sound) (go .walked .gives met sound));
+      }

@@ -1,0 +1,323 @@
+-- What is listed from a cue's own copy is the list of the model: all links of the show at the cue are links of its copy, their labels all
+-- lie in the range that is asked for, and the page is filled as the model says.
+use Prim.Native.Nat.{ℕ, zero, suc, _+_, _*_, _-_, _≤_, _<_, min}
+use native.Mathlib.Omega.{arith}
+use native.Mathlib.Decide.{decLt, decLe}
+use mathlib.Core.Path.{_≡_, refl, sym, _∙_, ap}
+use mathlib.Core.Logic.{_↔_, _⊎_, inl, inr, _≢_}
+use mathlib.Core.Bool.{Bool, true, false, true≢false}
+use mathlib.Core.List.{List, [], _∷_, _++_, map, append-nil, List·Memᴰ, List·Memᴰ·append-cases, List·Memᴰ·not-nil}
+use lib.ListN.{length, getD, take}
+use lib.Seq.{take-all}
+use lib.Dec.{eqb, ltb}
+use borrow.Author.Tests.{lt-ltb, le-ltb}
+use Rattle.model.specs.Choice.{ifLt, ifEq, ifTrue}
+use Rattle.model.specs.Limits.{maxLabel, maxTotal}
+use Rattle.model.specs.Blocks.{Link, Use, Block, blockAt, joinsOf, ownOf, total, lastBlock, count, blocksOf}
+use Rattle.model.specs.Unfolding.{cueAt, renamed, usesLinks, links, showLinks}
+use Rattle.model.specs.Paths.{numberIn}
+use Rattle.model.specs.Lists.{isLinked, range, keep, cuesAfter, isOut, isInto, overwrite}
+use Rattle.theory.specs.Accepted.{Show}
+use Rattle.theory.specs.WellFormed.{GoodBlock, Good, more}
+use Rattle.theory.specs.Lists.{Leads}
+use Rattle.theory.proofs.Choices.{lt-then, lt-else, eq-then, eq-else, true-then, true-else}
+use Rattle.theory.proofs.Members.{map-mem, range-length}
+use Rattle.theory.proofs.AtBlock.{links-hit, links-skip}
+use Rattle.theory.proofs.Ranges.{Within, inner, join, Spot, Copy, number, uses-copy, cueAt-own, links-within, all-links, extent}
+use Rattle.theory.proofs.BlockAt.{spot, links-at, ownOf-at, joinsOf-at, total-at}
+use Rattle.theory.proofs.Lists.{linked}
+use Rattle.theory.proofs.Locality.{Sound, Low, Numbered, Under, under-link, link-under, under-numbered, show-spot, show-sound, show-links-at, show-count}
+use Rattle.theory.proofs.Trails.{after, Steps, steps-after, Arrives, arrives}
+use Rattle.model.specs.Verdicts.{verdict}
+use Rattle.model.specs.declared.Verdict.the-variants.{Accepted}
+use Rattle.theory.proofs.Accepted.{accepted-show}
+use Rattle.rules.specs.Index.{Indexed}
+use Rattle.links.specs.declared.Ask.{Ask}
+use Rattle.links.specs.declared.Listed.{Listed}
+use Rattle.links.specs.Picks.{nearEnd, here, there, fits, picks, Picked, wants, wanted}
+use Rattle.links.specs.Ground.{Ground}
+use Rattle.links.specs.Pages.{Filled, puts, Gives}
+use Rattle.links.specs.Stands.{Standing, Trail}
+use Rattle.links.specs.Answer.{cueOf, linkedCues, IsListed, MayAnswer, Answered}
+use Rattle.links.proofs.Picked.{both-ends, ends-here, picked, keep-same, wanted-append, wanted-none, wanted-low, wanted-same}
+use Rattle.links.proofs.Filled.{puts-all}
+use Rattle.links.proofs.Near.{picked-in}
+
+-- Every link of an unfolding has a label in the range of labels.
+abbrev Labelled : Link → Type 0
+Labelled l = (1 ≤ l .label) × (l .label ≤ 255)
+
+no-links : (k base : ℕ) (met : List ℕ) (l : Link) → List·Memᴰ l (links [] k base met) → ⊥
+unfolding links
+no-links k base met l i = List·Memᴰ·not-nil i
+
+labels : (bs : List Block) → Good bs → (k base : ℕ) (met : List ℕ) (l : Link) → List·Memᴰ l (links bs k base met) → Labelled l
+unfolding renamed
+labels [] good k base met l i = absurd (no-links k base met l i)
+labels (b ∷ earlier) (more ok good) k base met l i = go (labels earlier good) (eqb k (length earlier)) refl
+  where
+    own : List·Memᴰ l (map (renamed (cueAt (b .own) base met)) (b .links)) → Labelled l
+    own j = let (o, n, e) = map-mem (renamed (cueAt (b .own) base met)) l (b .links) j in rw e (ok .links o n .label)
+
+    go : ((k base : ℕ) (met : List ℕ) (l : Link) → List·Memᴰ l (links earlier k base met) → Labelled l) → (t : Bool) → eqb k (length earlier) ≡ t → Labelled l
+    go below false e = below k base met l (rw (links-skip b earlier k base met e) at i)
+    go below true e = at (List·Memᴰ·append-cases (map (renamed (cueAt (b .own) base met)) (b .links)) (rw (links-hit b earlier k base met e) at i))
+      where
+        at : List·Memᴰ l (map (renamed (cueAt (b .own) base met)) (b .links))
+            ⊎ List·Memᴰ l (usesLinks (total earlier) (links earlier) (cueAt (b .own) base met) (base + b .own) (b .uses)) → Labelled l
+        at (inl j) = own j
+        at (inr j) =
+            let (p, n, o) = uses-copy (total earlier) (links earlier) (cueAt (b .own) base met) (base + b .own) (b .uses) l j in
+            below (p .of .block) (p .base) (map (cueAt (b .own) base met) (p .of .at)) l o
+
+-- So with labels 1 to 255 the links that are picked are those that lead out, or in.
+pub record AllLabels (q : Ask) : Type 0 where
+  pub lo : q .lo ≡ 1
+  pub hi : q .hi ≡ 255
+
+fits-all : (q : Ask) → AllLabels q → (l : Link) → Labelled l → fits q (l .label) ≡ true
+unfolding fits
+fits-all q a l h = lt-else (l .label) (q .lo) _ _ (omega (arith, a .lo)) ∙ lt-else (q .hi) (l .label) _ _ (omega (arith, a .hi))
+
+module _ (q : Ask) (a : AllLabels q) (E : List Link) (fit : (l : Link) → List·Memᴰ l E → Labelled l) (v u : ℕ) where
+  bool-same : (s t : Bool) → (s ≡ true → t ≡ true) → (t ≡ true → s ≡ true) → s ≡ t
+  bool-same true true f g = refl
+  bool-same false false f g = refl
+  bool-same true false f g = sym (f refl)
+  bool-same false true f g = g refl
+
+  picks-out : q .inward ≡ false → picks q E v u ≡ isOut E v u
+  unfolding isOut nearEnd
+  picks-out e = bool-same (picks q E v u) (isLinked E v u) (λ t. linked E v u .1 (to (picked q v u E .0 t))) (λ t. picked q v u E .1 (from (linked E v u .0 t)))
+    where
+      to : Picked q E v u → Leads E v u
+      to p = (p .link, p .member, sym (true-else (q .inward) _ _ e) ∙ p .from, sym (true-else (q .inward) _ _ e) ∙ p .to)
+
+      from : Leads E v u → Picked q E v u
+      from (l, i, x, y) = record { link = l; member = i; label = fits-all q a l (fit l i); from = true-else (q .inward) _ _ e ∙ x; to = true-else (q .inward) _ _ e ∙ y }
+
+  picks-in : q .inward ≡ true → picks q E v u ≡ isInto E v u
+  unfolding isInto nearEnd
+  picks-in e = bool-same (picks q E v u) (isLinked E u v) (λ t. linked E u v .1 (to (picked q v u E .0 t))) (λ t. picked q v u E .1 (from (linked E u v .0 t)))
+    where
+      to : Picked q E v u → Leads E u v
+      to p = (p .link, p .member, sym (true-then (q .inward) _ _ e) ∙ p .to, sym (true-then (q .inward) _ _ e) ∙ p .from)
+
+      from : Leads E u v → Picked q E v u
+      from (l, i, x, y) = record { link = l; member = i; label = fits-all q a l (fit l i); from = true-then (q .inward) _ _ e ∙ y; to = true-then (q .inward) _ _ e ∙ x }
+
+-- The cues asked for of all are those after n.
+wanted-after : (q : Ask) (E : List Link) (v cues : ℕ) (test : ℕ → Bool) → ((u : ℕ) → picks q E v u ≡ test u)
+    → wanted q E v 0 cues ≡ cuesAfter test cues (q .after)
+unfolding cuesAfter wanted wants keep range
+wanted-after q E v cues test same = go (decLe (q .after) cues)
+  where
+    go : Dec (q .after ≤ cues) → wanted q E v 0 cues ≡ cuesAfter test cues (q .after)
+    go (yes h) =
+        let e : cues ≡ q .after + (cues - q .after) = omega arith in
+        let z : 0 + q .after ≡ q .after = omega arith in
+        ap (wanted q E v 0) e
+        ∙ wanted-append q v E 0 (q .after) (cues - q .after)
+        ∙ rw (wanted-low q v E 0 (q .after) (omega arith), z) refl
+        ∙ keep-same (wants q E v) test (suc (q .after)) (cues - q .after) (λ u x y. lt-then (q .after) u _ _ (omega arith) ∙ same u)
+    go (no h) =
+        let e : cues - q .after ≡ 0 = omega arith in
+        rw e (wanted-low q v E 0 cues (omega arith))
+
+-- A cue's own copy: it is sound, the links of the show at the cue are its links, and they lead to no cue behind it.
+module _ (bs : List Block) (good : Good bs) (closed : joinsOf bs (lastBlock bs) ≡ 0) (path : List ℕ) (c : ℕ) (has : cueOf bs path c ≢ 0)
+    (k base : ℕ) (met : List ℕ) (at : after (show-spot bs) path ≡ spot bs k base met) where
+  abbrev z : Spot
+  z = spot bs k base met
+
+  there-is : Arrives bs good path c
+  there-is = arrives bs good closed path c has
+
+  pub copy-sound : Sound z
+  copy-sound = rw at at (there-is .sound)
+
+  pub copy-low : Low z
+  copy-low = rw at at (there-is .low)
+
+  copy-under : Under (show-spot bs) z
+  copy-under = rw at at (there-is .under)
+
+  pub copy-own : (1 ≤ c) × (c ≤ blockAt bs k .own)
+  copy-own = rw at at (there-is .own)
+
+  pub copy-number : number z c ≡ cueOf bs path c
+  copy-number = rw at at (there-is .number-is)
+
+  number-is : number z c ≡ base + c
+  number-is = cueAt-own (blockAt bs k .own) base met c (copy-own .1)
+
+  numbered : Numbered z (number z c)
+  numbered = rw number-is (omega (arith, copy-own), omega (arith, copy-own))
+
+  within-count : base + total bs k ≤ count bs
+  within-count =
+      omega (
+        arith,
+        under-numbered (show-sound bs good closed) copy-under (base + extent z) (omega (arith, copy-own), omega arith),
+        show-count bs good,
+        total-at bs good k base met,
+      )
+
+  module _ (q : Ask) where
+    down : (u : ℕ) → Picked q (showLinks bs) (number z c) u → Picked q (links bs k base met) (number z c) u
+    down u p =
+        picked-in p
+        (rw (links-at bs good k base met)
+        (under-link (show-sound bs good closed) copy-under (p .link) (rw (show-links-at bs good) at (p .member))
+        (ends-here q (p .link) (Numbered z) (rw (p .from) numbered))))
+
+    up : (u : ℕ) → Picked q (links bs k base met) (number z c) u → Picked q (showLinks bs) (number z c) u
+    up u p =
+        picked-in p
+        (rw (show-links-at bs good) (link-under (show-sound bs good closed) copy-under (p .link) (rw (links-at bs good k base met) at (p .member))))
+
+    behind : (u : ℕ) → base + total bs k < u → Picked q (showLinks bs) (number z c) u → ⊥
+    behind u h p = go (down u p)
+      where
+        fits : length met ≡ joinsOf bs k
+        fits = copy-sound .fit .fits ∙ sym (joinsOf-at bs k)
+
+        go : Picked q (links bs k base met) (number z c) u → ⊥
+        go d = at-end (both-ends q (d .link) (Within base (total bs k) met) (links-within bs good k base met fits (d .link) (d .member)) .1)
+          where
+            at-end : Within base (total bs k) met (there q (d .link)) → ⊥
+            at-end (inner x y) = omega (arith, d .to)
+            at-end (join i) = omega (arith, d .to, copy-low (there q (d .link)) i)
+
+    pub copy-list : wanted q (links bs k base met) (number z c) 0 (base + total bs k) ≡ wanted q (showLinks bs) (number z c) 0 (count bs)
+    copy-list =
+        let e : count bs ≡ base + total bs k + (count bs - (base + total bs k)) = omega (arith, within-count) in
+        let o : 0 + (base + total bs k) ≡ base + total bs k = omega arith in
+        let v : ℕ = number z c in
+        sym
+        (ap (wanted q (showLinks bs) v 0) e
+        ∙ wanted-append q v (showLinks bs) 0 (base + total bs k) (count bs - (base + total bs k))
+        ∙ ap (λ zs. wanted q (showLinks bs) v 0 (base + total bs k) ++ zs)
+        (rw o (wanted-none q v (showLinks bs) (base + total bs k) (count bs - (base + total bs k)) (λ u x y p. behind u x p)))
+        ∙ append-nil (wanted q (showLinks bs) v 0 (base + total bs k))
+        ∙ wanted-same q v (showLinks bs) (links bs k base met) 0 (base + total bs k) (λ u x y p. down u p) (λ u x y p. up u p))
+
+    pub copy-cues : AllLabels q → wanted q (links bs k base met) (number z c) 0 (base + total bs k) ≡ linkedCues (q .inward) bs (cueOf bs path c) (q .after)
+    unfolding linkedCues showLinks
+    copy-cues all = copy-list ∙ ap (λ v. wanted q (showLinks bs) v 0 (count bs)) copy-number ∙ go (q .inward) refl
+      where
+        v : ℕ
+        v = cueOf bs path c
+
+        fit : (l : Link) → List·Memᴰ l (showLinks bs) → Labelled l
+        fit l i = labels bs good (lastBlock bs) 0 [] l i
+
+        go : (b : Bool) → q .inward ≡ b → wanted q (showLinks bs) v 0 (count bs) ≡ linkedCues (q .inward) bs v (q .after)
+        go true e =
+            wanted-after q (showLinks bs) v (count bs) (isInto (showLinks bs) v) (λ u. picks-in q all (showLinks bs) fit v u e) ∙ sym (true-then (q .inward) _ _ e)
+        go false e =
+            wanted-after q (showLinks bs) v (count bs) (isOut (showLinks bs) v) (λ u. picks-out q all (showLinks bs) fit v u e) ∙ sym (true-else (q .inward) _ _ e)
+
+-- How long a list is.
+keep-short : (test : ℕ → Bool) (xs : List ℕ) → length (keep test xs) ≤ length xs
+unfolding keep ifTrue
+keep-short test [] = omega arith
+keep-short test (x ∷ xs) = go (keep-short test xs) (test x) refl
+  where
+    go : length (keep test xs) ≤ length xs → (b : Bool) → test x ≡ b → length (keep test (x ∷ xs)) ≤ suc (length xs)
+    go h true e = rw (e, keep) (omega arith)
+    go h false e = rw (e, keep) (omega arith)
+
+after-short : (test : ℕ → Bool) (cues n : ℕ) → length (cuesAfter test cues n) ≤ cues
+unfolding cuesAfter
+after-short test cues n = omega (arith, keep-short test (range (suc n) (cues - n)), range-length (suc n) (cues - n))
+
+pub linked-short : (inward : Bool) (bs : List Block) (v n : ℕ) → length (linkedCues inward bs v n) ≤ count bs
+unfolding linkedCues ifTrue
+linked-short true bs v n = after-short (isInto (showLinks bs) v) (count bs) n
+linked-short false bs v n = after-short (isOut (showLinks bs) v) (count bs) n
+
+-- The page that was filled.
+module _ (room g : ℕ) (cues page after : List ℕ) (x : Gives room page 0 cues after g) (cap : room ≡ min (length page) 2147483647) (few : length cues ≤ 2147483647) where
+  state : _≡_ {A = Filled} (record { page = after; given = g }) (record { page = overwrite (take room cues) page; given = ifLt room (length cues) (room + 1) (length cues) })
+  state = x .is ∙ puts-all room page cues (omega arith)
+
+  page-is : after ≡ overwrite (take room cues) page
+  page-is = ap (λ (s : Filled). s .page) state
+
+  given-is : g ≡ ifLt room (length cues) (room + 1) (length cues)
+  given-is = ap (λ (s : Filled). s .given) state
+
+  pub list-more : room < g → IsListed cues page after (record { written = room; more = true })
+  list-more h = go (decLt room (length cues))
+    where
+      go : Dec (room < length cues) → IsListed cues page after (record { written = room; more = true })
+      go (yes l) =
+          let e : room ≡ length page = omega arith in
+          record { written = omega arith; more = sym (lt-ltb (length page) (length cues) (omega arith)); filled = rw e at page-is }
+      go (no l) = absurd (omega (arith, given-is, lt-else room (length cues) (room + 1) (length cues) (omega arith)))
+
+  pub list-end : g ≤ room → IsListed cues page after (record { written = g; more = false })
+  list-end h = go (decLt room (length cues))
+    where
+      go : Dec (room < length cues) → IsListed cues page after (record { written = g; more = false })
+      go (yes l) = absurd (omega (arith, given-is, lt-then room (length cues) (room + 1) (length cues) l))
+      go (no l) =
+          let e : g ≡ length cues = given-is ∙ lt-else room (length cues) (room + 1) (length cues) (omega arith) in
+          record {
+            written = omega arith;
+            more = sym (le-ltb (length page) (length cues) (omega arith));
+            filled = page-is ∙ ap (λ us. overwrite us page) (take-all room cues (omega arith) ∙ sym (take-all (length page) cues (omega arith)));
+          }
+
+-- What the question starts from, and what it comes to.
+abbrev pub ask : Bool → ℕ → ℕ → Ask
+ask inward n room = record { inward = inward; lo = 1; hi = 255; after = n; room = room }
+
+module _ (xs t path : List ℕ) (depth c : ℕ) (ok : verdict xs ≡ Accepted) (index : Indexed xs t) (long : depth ≤ length path)
+    (has : cueOf (blocksOf xs) (take depth path) c ≢ 0) where
+  abbrev bs : List Block
+  bs = blocksOf xs
+
+  show : Show xs
+  show = accepted-show xs ok
+
+  pub ground : Ground xs t
+  ground = record { show = show; indexed = index }
+
+  pub trail : Trail bs path depth
+  trail = record { long = long; steps = steps-after bs (show .good) (lastBlock bs) 0 [] (take depth path) c has .0 }
+
+  module _ (k base : ℕ) (met : List ℕ) (s : Standing bs (take depth path) k base met) (inward : Bool) (n room : ℕ) (page : List ℕ)
+      (cap : room ≡ min (length page) 2147483647) where
+    pub may-answer : MayAnswer (ask inward n room) bs k base c page
+    may-answer =
+        let own : (1 ≤ c) × (c ≤ blockAt bs k .own) = copy-own bs (show .good) (show .no-joins) (take depth path) c has k base (take (joinsOf bs k) met) (s .at) in
+        record {
+          known = s .known;
+          low = own .0;
+          high = omega (arith, ownOf-at bs k);
+          small = s .small;
+          room = omega arith;
+          fits = omega arith;
+        }
+
+    module _ (after : List ℕ) (g : ℕ) (answer : Answered (ask inward n room) bs k base met c page after g) where
+      abbrev cues : List ℕ
+      cues = linkedCues inward bs (cueOf bs (take depth path) c) n
+
+      given : Gives room page 0 cues after g
+      given =
+          rw (copy-cues bs (show .good) (show .no-joins) (take depth path) c has k base (take (joinsOf bs k) met) (s .at) (ask inward n room) (record { lo = refl; hi = refl })) at
+          (answer .gives (copy-sound bs (show .good) (show .no-joins) (take depth path) c has k base (take (joinsOf bs k) met) (s .at))
+          (copy-low bs (show .good) (show .no-joins) (take depth path) c has k base (take (joinsOf bs k) met) (s .at)))
+
+      few : length cues ≤ 2147483647
+      unfolding count
+      few = omega (arith, linked-short inward bs (cueOf bs (take depth path) c) n, show .totals (lastBlock bs))
+
+      pub listed-more : room < g → IsListed cues page after (record { written = room; more = true })
+      listed-more h = list-more room g cues page after given cap few h
+
+      pub listed-end : g ≤ room → IsListed cues page after (record { written = g; more = false })
+      listed-end h = list-end room g cues page after given cap few h

@@ -1,0 +1,23 @@
+-- `links::give_if` meets its contract: the cue is given if it is marked and high enough.
+use borrow.Author.Needs.{needs}
+use Rattle.links.proofs.Filled.{step-yes, step-low, step-no}
+use Rattle.links.proofs.give_if.Statement.{statement}
+use Rattle.links.proofs.give_if.Tie as tie
+
+give-requires : tie.Need-give-requires
+give-requires c κs = search needs
+
+same-length : tie.Need-same-length
+same-length c = search needs
+
+returns : tie.Need-returns
+returns c = search (step-yes, needs)
+
+returns-2 : tie.Need-returns-2
+returns-2 c = search (step-low, needs)
+
+returns-3 : tie.Need-returns-3
+returns-3 c = search (step-no, needs)
+
+pub give-if-spec : {M : Type 1} → statement M
+give-if-spec = tie.close (tie.spec give-requires same-length returns returns-2 returns-3)

@@ -1,0 +1,50 @@
+-- `links::give_joins` meets its contract: the loop gives the next cue each turn, and the cue rises.
+use borrow.Author.Needs.{needs}
+use Prim.Native.Nat.{_-_}
+use mathlib.Core.Path.{_≡_}
+use lib.ListN.{length}
+use Rattle.links.specs.Joins.{JoinsGoing}
+use Rattle.links.proofs.Joins.{joins-begin, joins-on, joins-end, next-falls}
+use Rattle.links.proofs.give_joins.Statement.{statement}
+use Rattle.links.proofs.give_joins.Tie as tie
+
+abbrev Inv-loop : tie.InvT-loop
+Inv-loop q s from joins met page₀ g₀ last₀ page g last = (length page ≡ length page₀) × JoinsGoing q s from joins met last page₀ 0 page g
+
+abbrev μ-loop : tie.MeasureT-loop
+μ-loop q s from joins met page₀ g₀ last₀ page g last = 4294967296 - last
+
+loop-holds : tie.Need-loop-holds Inv-loop μ-loop
+loop-holds c = search (joins-begin, needs)
+
+next-join-requires : tie.Need-next-join-requires Inv-loop μ-loop
+next-join-requires c κs = search needs
+
+same-length : tie.Need-same-length Inv-loop μ-loop
+same-length c = search needs
+
+returns : tie.Need-returns Inv-loop μ-loop
+returns c = search (joins-end, needs) fits 20000
+
+give-requires : tie.Need-give-requires Inv-loop μ-loop
+give-requires c κs = search needs
+
+loop-less : tie.Need-loop-less Inv-loop μ-loop
+loop-less c = search (next-falls, needs)
+
+loop-again : tie.Need-loop-again Inv-loop μ-loop
+loop-again c = search (joins-on, needs) fits 20000
+
+pub give-joins-spec : {M : Type 1} → statement M
+give-joins-spec =
+    tie.close
+    (tie.spec
+    Inv-loop
+    μ-loop
+    loop-holds
+    next-join-requires
+    same-length
+    returns
+    give-requires
+    loop-less
+    loop-again)

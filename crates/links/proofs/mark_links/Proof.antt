@@ -1,0 +1,40 @@
+-- `links::mark_links` meets its contract: the loop marks by one row more each turn.
+use borrow.Author.Needs.{needs}
+use Prim.Native.Nat.{_-_, _≤_}
+use mathlib.Core.Path.{_≡_}
+use lib.ListN.{length}
+use Rattle.rules.specs.Index.{linksFrom}
+use Rattle.links.specs.Picks.{Picked}
+use Rattle.links.specs.Ground.{Added}
+use Rattle.links.proofs.Marks.{links-begin, links-on, links-end, added-long}
+use Rattle.links.proofs.mark_links.Statement.{statement}
+use Rattle.links.proofs.mark_links.Tie as tie
+
+abbrev Inv-loop : tie.InvT-loop
+Inv-loop xs q a e c s₀ r₀ s r = (a ≤ r) × (r ≤ e) × (length s ≡ 297) × Added (Picked q (linksFrom xs a (r - a)) c) s₀ s
+
+abbrev μ-loop : tie.MeasureT-loop
+μ-loop xs q a e c s₀ r₀ s r = e - r
+
+loop-holds : tie.Need-loop-holds Inv-loop μ-loop
+loop-holds c = search (links-begin, needs)
+
+mark-link-requires : tie.Need-mark-link-requires Inv-loop μ-loop
+mark-link-requires c κs = search needs
+
+add-r : tie.Need-add-r Inv-loop μ-loop
+add-r c = search needs
+
+loop-less : tie.Need-loop-less Inv-loop μ-loop
+loop-less c = search needs
+
+loop-again : tie.Need-loop-again Inv-loop μ-loop
+loop-again c = search (links-on, added-long, needs)
+
+returns : tie.Need-returns Inv-loop μ-loop
+returns c = search (links-end, needs)
+
+pub mark-links-spec : {M : Type 1} → statement M
+mark-links-spec =
+    tie.close
+    (tie.spec Inv-loop μ-loop loop-holds mark-link-requires add-r loop-less loop-again returns)

@@ -1,0 +1,55 @@
+-- `links::mark_row` meets its contract: the loop marks by one column more each turn.
+use borrow.Author.Needs.{needs}
+use Prim.Native.Nat.{_-_, _≤_}
+use mathlib.Core.Path.{_≡_}
+use lib.ListN.{length}
+use Rattle.links.specs.Near.{ByRow}
+use Rattle.links.specs.Ground.{Added}
+use Rattle.links.proofs.Marks.{row-begin, row-on, row-end, added-long}
+use Rattle.links.proofs.mark_row.Statement.{statement}
+use Rattle.links.proofs.mark_row.Tie as tie
+
+abbrev Inv-loop : tie.InvT-loop
+Inv-loop xs m r at joins s₀ j₀ s j = (j ≤ joins) × (length s ≡ 297) × Added (ByRow xs m r at j) s₀ s
+
+abbrev μ-loop : tie.MeasureT-loop
+μ-loop xs m r at joins s₀ j₀ s j = joins - j
+
+loop-holds : tie.Need-loop-holds Inv-loop μ-loop
+loop-holds c = search (row-begin, needs)
+
+add-flag : tie.Need-add-flag Inv-loop μ-loop
+add-flag c = search needs
+
+element-copy-out-flag : tie.Need-element-copy-out-flag Inv-loop μ-loop
+element-copy-out-flag c = search needs
+
+mark-column-requires : tie.Need-mark-column-requires Inv-loop μ-loop
+mark-column-requires c κs = search needs
+
+add-j : tie.Need-add-j Inv-loop μ-loop
+add-j c = search needs
+
+loop-less : tie.Need-loop-less Inv-loop μ-loop
+loop-less c = search needs
+
+loop-again : tie.Need-loop-again Inv-loop μ-loop
+loop-again c = search (row-on, added-long, needs)
+
+returns : tie.Need-returns Inv-loop μ-loop
+returns c = search (row-end, needs)
+
+pub mark-row-spec : {M : Type 1} → statement M
+mark-row-spec =
+    tie.close
+    (tie.spec
+    Inv-loop
+    μ-loop
+    loop-holds
+    add-flag
+    element-copy-out-flag
+    mark-column-requires
+    add-j
+    loop-less
+    loop-again
+    returns)

@@ -1,0 +1,60 @@
+-- `links::next_join` meets its contract: x is the least one of the joins so far.
+use borrow.Author.Needs.{needs}
+use Prim.Native.Nat.{_-_, _≤_}
+use Rattle.links.specs.Joins.{Next}
+use Rattle.links.proofs.Joins.{next-begin, next-on, next-end}
+use Rattle.links.proofs.next_join.Statement.{statement}
+use Rattle.links.proofs.next_join.Tie as tie
+
+abbrev Inv-loop : tie.InvT-loop
+Inv-loop s from joins last met x₀ j₀ x j = (j ≤ joins) × Next s from j met last x
+
+abbrev μ-loop : tie.MeasureT-loop
+μ-loop s from joins last met x₀ j₀ x j = joins - j
+
+loop-holds : tie.Need-loop-holds Inv-loop μ-loop
+loop-holds c = search (next-begin, needs)
+
+add-flag : tie.Need-add-flag Inv-loop μ-loop
+add-flag c = search needs
+
+element-copy-out-flag : tie.Need-element-copy-out-flag Inv-loop μ-loop
+element-copy-out-flag c = search needs
+
+mul-y : tie.Need-mul-y Inv-loop μ-loop
+mul-y c = search needs
+
+array-read-y : tie.Need-array-read-y Inv-loop μ-loop
+array-read-y c = search needs
+
+lesser-of-requires : tie.Need-lesser-of-requires Inv-loop μ-loop
+lesser-of-requires c κs = search needs
+
+add-j : tie.Need-add-j Inv-loop μ-loop
+add-j c = search needs
+
+loop-less : tie.Need-loop-less Inv-loop μ-loop
+loop-less c = search needs
+
+loop-again : tie.Need-loop-again Inv-loop μ-loop
+loop-again c = search (next-on, needs) fits 20000
+
+returns : tie.Need-returns Inv-loop μ-loop
+returns c = search (next-end, needs)
+
+pub next-join-spec : {M : Type 1} → statement M
+next-join-spec =
+    tie.close
+    (tie.spec
+    Inv-loop
+    μ-loop
+    loop-holds
+    add-flag
+    element-copy-out-flag
+    mul-y
+    array-read-y
+    lesser-of-requires
+    add-j
+    loop-less
+    loop-again
+    returns)
