@@ -5,7 +5,8 @@
  * a list of at least three; a shorter one is refusal 11.
  *
  * Lengths are in elements. The lists of one call do not overlap; a list of length 0 may be any pointer that is not null. Nothing is
- * allocated, and no call keeps a pointer. Reading takes about 80 kB of the stack.
+ * allocated, and no call keeps a pointer. All five
+ * functions, on a show of depth 127, were run with a stack of 72 kB; this is measured, not proved.
  *
  * Link with libshow_c.a. */
 #ifndef SHOW_H
