@@ -2,18 +2,25 @@
 // model's definition of the question: what is returned, in document 01's numbers, and what the lent list that is written holds
 // afterwards, refused calls included. What is lent to be read stays as it was.
 ghost use mathlib.Core.Path.{_≡_};
-ghost use Prim.Native.Nat.{_≤_};
+ghost use mathlib.Core.Bool.{true, false};
+ghost use Prim.Native.Nat.{_≤_, _<_};
 ghost use lib.ListN.{length};
-ghost use Rattle.model.specs.Answers.{ofRead, ofWrite, ofCount, ofLocate, ofNumber};
+ghost use Rattle.model.specs.Answers.{ofRead, ofWrite, ofCount, ofLocate, ofNumber, ofList, ofFewest};
 ghost use Rattle.model.specs.Rows.{rowsOf, fileText};
 ghost use Rattle.model.specs.Verdicts.{verdict, byLine};
 ghost use Rattle.model.specs.declared.Verdict.the-variants.{Accepted};
 ghost use Rattle.model.specs.Blocks.{blocksOf};
 ghost use Rattle.model.specs.Lists.{overwrite};
-ghost use Rattle.model.specs.Questions.{outcome, readInto, readAsked, writeInto, writeAsked, countAsked, locateAsked, locateIn, numberAsked, numbered};
+ghost use Rattle.model.specs.Rules.{isCue};
+ghost use Rattle.model.specs.Questions.{outcome, readInto, readAsked, writeInto, writeAsked, countAsked, locateAsked, locateIn, numberAsked, numbered, outAsked, inAsked, fewestIn, fewestAsked};
 ghost use Rattle.show.specs.Ready.{Ready, readNumbers};
+ghost use Rattle.show.specs.Linked.{Holds, Leads, listOf, listAsked, ofAnswer, between};
 use codec::Parsed;
+use cues::Place;
+use distance::Answer;
 use model::CountAnswer;
+use model::FewestAnswer;
+use model::ListAnswer;
 use model::LocateAnswer;
 use model::NumberAnswer;
 use model::ReadAnswer;
@@ -207,5 +214,177 @@ pub fn write(rows: &[u32], out: &mut [u8]) -> WriteAnswer
     match verdict {
         Verdict::Accepted => write_rows(rows, out),
         Verdict::Refused(refusal) => WriteAnswer::Refused(refusal),
+    }
+}
+
+// v is a cue of a show that has so many.
+fn is_cue(cues: u32, v: u32) -> bool
+    ensures { λ r. ⌜ r ≡ isCue cues v ⌝ }
+{
+    if v < 1 {
+        return false;
+    }
+    if cues < v {
+        return false;
+    }
+    true
+}
+
+fn wide(x: u32) -> usize
+    ensures { λ r. ⌜ (r ≡ x) × (r < 4294967296) ⌝ }
+{
+    x as usize
+}
+
+// Where cue v is: its path goes to a list that is long enough for every path.
+fn find(rows: &[u32], table: &[u32; 512], blocks: u32, v: u32, path: &mut [u32; 127]) -> Place
+    requires { ⌜ Holds (now rows) (now table) blocks v ⌝ }
+    ensures { λ r. ⌜ Leads (now (rows .entry)) v (now (path .exit)) (r .depth) (r .own) ⌝ }
+{
+    cues::locate(rows, table, blocks, v, path)
+}
+
+// The list of cue v of accepted rows.
+fn list_of(rows: &[u32], index: Index, inward: bool, v: u32, n: u32, page: &mut [u32]) -> ListAnswer
+    requires { ⌜ Ready (now rows) index ⌝ }
+    ensures { λ r. ⌜ outcome (ofList r) (now (page .exit)) ≡ listOf inward (blocksOf (now (rows .entry))) v n (now (page .entry)) ⌝ }
+{
+    let known = is_cue(rules::cues(index), v);
+    if !known {
+        return ListAnswer::Refused(Refusal {
+            number: 12,
+            place: 0,
+        });
+    }
+    let table = index.table;
+    let blocks = index.blocks;
+    let mut path = [0u32; 127];
+    let place = find(rows, &table, blocks, v, &mut path);
+    let depth = wide(place.depth);
+    let listed = links::list(
+        rows,
+        &table,
+        blocks,
+        inward,
+        &path,
+        depth,
+        place.own,
+        n,
+        page,
+    );
+    ListAnswer::Page(listed.written, listed.more)
+}
+
+// The cues linked to cue v, out or in.
+fn list(rows: &[u32], inward: bool, v: u32, n: u32, page: &mut [u32]) -> ListAnswer
+    ensures { λ r. ⌜ outcome (ofList r) (now (page .exit)) ≡ listAsked inward (now (rows .entry)) v n (now (page .entry)) ⌝ }
+{
+    let checked = rules::check(rows);
+    let verdict = checked.verdict;
+    let index = checked.index;
+    match verdict {
+        Verdict::Accepted => list_of(rows, index, inward, v, n, page),
+        Verdict::Refused(refusal) => ListAnswer::Refused(refusal),
+    }
+}
+
+// The cues that follow on from cue v, those above n: as many as the page has room for, rising, and whether there are more.
+pub fn list_out(rows: &[u32], v: u32, n: u32, page: &mut [u32]) -> ListAnswer
+    ensures { λ r. ⌜ outcome (ofList r) (now (page .exit)) ≡ outAsked (now (rows .entry)) v n (now (page .entry)) ⌝ }
+{
+    list(rows, false, v, n, page)
+}
+
+// The cues from which cue v follows on, in the same way.
+pub fn list_in(rows: &[u32], v: u32, n: u32, page: &mut [u32]) -> ListAnswer
+    ensures { λ r. ⌜ outcome (ofList r) (now (page .exit)) ≡ inAsked (now (rows .entry)) v n (now (page .entry)) ⌝ }
+{
+    list(rows, true, v, n, page)
+}
+
+// The answer of the search, as an answer of the library.
+fn told(answer: Answer) -> FewestAnswer
+    ensures { λ r. ⌜ ofFewest r ≡ ofAnswer answer ⌝ }
+{
+    match answer {
+        Answer::Steps(n) => FewestAnswer::Steps(n),
+        Answer::None => FewestAnswer::None,
+    }
+}
+
+// The fewest follow-ons between two cues of accepted rows. The work area is large enough.
+fn least(
+    rows: &[u32],
+    table: &[u32; 512],
+    blocks: u32,
+    s: u32,
+    t: u32,
+    work: &mut [u32],
+) -> FewestAnswer
+    requires { ⌜ Holds (now rows) (now table) blocks s × Holds (now rows) (now table) blocks t × (16384 ≤ length (now work)) ⌝ }
+    ensures { λ r. ⌜ outcome (ofFewest r) (now (work .exit)) ≡ between (blocksOf (now (rows .entry))) s t (now (work .entry)) ⌝ }
+{
+    let mut from = [0u32; 127];
+    let start = find(rows, table, blocks, s, &mut from);
+    let mut to = [0u32; 127];
+    let end = find(rows, table, blocks, t, &mut to);
+    let many = wide(blocks);
+    distance::summarise(rows, table, many, work);
+    let deep = wide(start.depth);
+    let depth = wide(end.depth);
+    told(distance::fewest(
+        rows,
+        table,
+        many,
+        &from,
+        deep,
+        start.own,
+        &to,
+        depth,
+        end.own,
+        work,
+    ))
+}
+
+// The fewest follow-ons from cue s to cue t of accepted rows.
+fn fewest_in(rows: &[u32], index: Index, s: u32, t: u32, work: &mut [u32]) -> FewestAnswer
+    requires { ⌜ Ready (now rows) index ⌝ }
+    ensures { λ r. ⌜ outcome (ofFewest r) (now (work .exit)) ≡ fewestIn (blocksOf (now (rows .entry))) s t (now (work .entry)) ⌝ }
+{
+    if work.len() < 16384 {
+        return FewestAnswer::Refused(Refusal {
+            number: 11,
+            place: 0,
+        });
+    }
+    let cues = rules::cues(index);
+    let starts = is_cue(cues, s);
+    if !starts {
+        return FewestAnswer::Refused(Refusal {
+            number: 12,
+            place: 0,
+        });
+    }
+    let ends = is_cue(cues, t);
+    if !ends {
+        return FewestAnswer::Refused(Refusal {
+            number: 12,
+            place: 0,
+        });
+    }
+    let table = index.table;
+    least(rows, &table, index.blocks, s, t, work)
+}
+
+// The fewest follow-ons from cue s to cue t, or none. The work area holds the summaries of all blocks afterwards.
+pub fn fewest(rows: &[u32], s: u32, t: u32, work: &mut [u32]) -> FewestAnswer
+    ensures { λ r. ⌜ outcome (ofFewest r) (now (work .exit)) ≡ fewestAsked (now (rows .entry)) s t (now (work .entry)) ⌝ }
+{
+    let checked = rules::check(rows);
+    let verdict = checked.verdict;
+    let index = checked.index;
+    match verdict {
+        Verdict::Accepted => fewest_in(rows, index, s, t, work),
+        Verdict::Refused(refusal) => FewestAnswer::Refused(refusal),
     }
 }

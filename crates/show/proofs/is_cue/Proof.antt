@@ -1,0 +1,26 @@
+use borrow.Author.Needs.{needs}
+use native.Mathlib.Omega.{arith}
+use Rattle.theory.proofs.Choices.{ifs}
+use Rattle.model.specs.Rules.{isCue}
+use Rattle.show.proofs.is_cue.Statement.{statement}
+use Rattle.show.proofs.is_cue.Tie as tie
+use Rattle.show.proofs.is_cue.Reads as reads
+use Rattle.show.proofs.is_cue.Lts as lts
+
+-- src/lib.rt:225:9
+returns : tie.Need-returns
+unfolding isCue
+returns c = search (ifs, needs) depth 14
+
+-- src/lib.rt:228:9
+returns-2 : tie.Need-returns-2
+unfolding isCue
+returns-2 c = search (ifs, needs) depth 14
+
+-- src/lib.rt:221:1
+returns-3 : tie.Need-returns-3
+unfolding isCue
+returns-3 c = search (ifs, needs) depth 14
+
+pub is-cue-spec : {M : Type 1} → statement M
+is-cue-spec = tie.close (tie.spec returns returns-2 returns-3)
