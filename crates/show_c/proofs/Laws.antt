@@ -2,12 +2,13 @@
 use Prim.Native.Nat.{ℕ, suc, _+_, _*_, _≤_, _<_}
 use native.Mathlib.Omega.{arith}
 use mathlib.Core.Path.{_≡_, refl, sym, _∙_, ap}
+use mathlib.Core.Bool.{Bool, true, false}
 use mathlib.Core.List.{List, [], _∷_, _++_}
 use lib.ListN.{length, drop, set, getD}
 use Rattle.model.specs.Verdicts.{refusal, refused, verdict, andThen, Numbers, Unread, readFile, readVerdict, fileVerdict, inLines, numbersOf}
 use Rattle.model.specs.Rows.{rowCount}
 use Rattle.model.specs.Lists.{overwrite}
-use Rattle.model.specs.Answers.{Returned, returned, given, ofRead, ofWrite, ofCount, ofLocate, ofNumber}
+use Rattle.model.specs.Answers.{Returned, returned, given, ofRead, ofWrite, ofCount, ofLocate, ofNumber, ofList, ofFewest, flag}
 use Rattle.model.specs.Questions.{Outcome, outcome, refuse, answer, onAccepted, withRoom, readInto, readAsked, writeAsked, countAsked, locateAsked, numberAsked}
 use Rattle.model.specs.declared.Refusal.{Refusal}
 use Rattle.model.specs.declared.Verdict.{Verdict}
@@ -22,11 +23,15 @@ use Rattle.model.specs.declared.LocateAnswer.{LocateAnswer}
 use Rattle.model.specs.declared.LocateAnswer.the-variants.{Found, Refused as LocateRefused}
 use Rattle.model.specs.declared.NumberAnswer.{NumberAnswer}
 use Rattle.model.specs.declared.NumberAnswer.the-variants.{Number, Refused as NumberRefused}
+use Rattle.model.specs.declared.ListAnswer.{ListAnswer}
+use Rattle.model.specs.declared.ListAnswer.the-variants.{Page, Refused as ListRefused}
+use Rattle.model.specs.declared.FewestAnswer.{FewestAnswer}
+use Rattle.model.specs.declared.FewestAnswer.the-variants.{Steps, None, Refused as FewestRefused}
 use Rattle.theory.proofs.Choices.{lt-then, lt-else}
 use Rattle.theory.proofs.Accepted.{accepted-show}
 use Rattle.theory.proofs.RoundTrips.{accepted-file}
 use Rattle.show_c.specs.Interface.{code, givenAfter, withGiven, alsoGiven}
-use Rattle.show_c.specs.Parts.{shortOf, shortRows, shortFile, put1, put3}
+use Rattle.show_c.specs.Parts.{shortOf, shortRows, shortFile, put1, put2, put3}
 
 abbrev pub number : Refusal → ℕ
 number f = f .number * 4294967296 + f .place
@@ -64,6 +69,12 @@ pub put-one : (a : ℕ) (g : List ℕ) → 3 ≤ length g → set g 0 a ≡ put1
 unfolding put1 overwrite
 put-one a [] h = absurd (omega arith)
 put-one a (x ∷ g) h = refl
+
+pub put-two : (a b : ℕ) (g : List ℕ) → 3 ≤ length g → set (set g 0 a) 1 b ≡ put2 a b g
+unfolding put2 overwrite
+put-two a b [] h = absurd (omega arith)
+put-two a b (x ∷ []) h = absurd (omega arith)
+put-two a b (x ∷ y ∷ g) h = refl
 
 pub put-three : (a b c : ℕ) (g : List ℕ) → 3 ≤ length g → set (set (set g 0 a) 1 b) 2 c ≡ put3 a b c g
 unfolding put3 overwrite
@@ -201,6 +212,44 @@ module _ (xs g : List ℕ) where
         → c ≡ number f → a ≡ WriteRefused f → Wrote c g g′ after (alsoGiven g (verdict xs) lent (writeAsked xs lent))
     unfolding ofWrite
     write-refused g′ a f c after u h e p q = rw u (wrote-refused g (verdict xs) lent (writeAsked xs lent) c f after h (rw q at e) p)
+
+  -- Lists, out and in, and the fewest question: o is what is asked.
+  module _ (lent : List ℕ) (o : Outcome) where
+    pub list-value : (w : ℕ) (a : ListAnswer) (g′ after : List ℕ) (n m : ℕ) (b : Bool) → w ≡ 0 → 3 ≤ length g → outcome (ofList a) after ≡ o → m ≡ flag b
+        → g′ ≡ put2 n m g → a ≡ Page n b → Wrote w g g′ after (alsoGiven g (verdict xs) lent o)
+    unfolding ofList put2
+    list-value w a g′ after n m b u h e k p q =
+        rw u (wrote-value g (verdict xs) lent o g′ (n ∷ flag b ∷ []) after h (rw q at e) (rw k at p))
+
+    pub list-refused : (g′ : List ℕ) (a : ListAnswer) (f : Refusal) (c : ℕ) (after : List ℕ) → g′ ≡ g → 3 ≤ length g → outcome (ofList a) after ≡ o
+        → c ≡ number f → a ≡ ListRefused f → Wrote c g g′ after (alsoGiven g (verdict xs) lent o)
+    unfolding ofList
+    list-refused g′ a f c after u h e p q = rw u (wrote-refused g (verdict xs) lent o c f after h (rw q at e) p)
+
+    pub fewest-steps : (w : ℕ) (a : FewestAnswer) (g′ after : List ℕ) (x n : ℕ) → w ≡ 0 → 3 ≤ length g → outcome (ofFewest a) after ≡ o → x ≡ 1
+        → g′ ≡ put2 x n g → a ≡ Steps n → Wrote w g g′ after (alsoGiven g (verdict xs) lent o)
+    unfolding ofFewest put2
+    fewest-steps w a g′ after x n u h e k p q =
+        rw u (wrote-value g (verdict xs) lent o g′ (1 ∷ n ∷ []) after h (rw q at e) (rw k at p))
+
+    pub fewest-none : (w : ℕ) (a : FewestAnswer) (g′ after : List ℕ) (x y : ℕ) → w ≡ 0 → 3 ≤ length g → outcome (ofFewest a) after ≡ o → x ≡ 0 → y ≡ 0
+        → g′ ≡ put2 x y g → a ≡ None → Wrote w g g′ after (alsoGiven g (verdict xs) lent o)
+    unfolding ofFewest put2
+    fewest-none w a g′ after x y u h e k l p q =
+        rw u (wrote-value g (verdict xs) lent o g′ (0 ∷ 0 ∷ []) after h (rw q at e) (rw (k, l) at p))
+
+    pub fewest-refused : (g′ : List ℕ) (a : FewestAnswer) (f : Refusal) (c : ℕ) (after : List ℕ) → g′ ≡ g → 3 ≤ length g → outcome (ofFewest a) after ≡ o
+        → c ≡ number f → a ≡ FewestRefused f → Wrote c g g′ after (alsoGiven g (verdict xs) lent o)
+    unfolding ofFewest
+    fewest-refused g′ a f c after u h e p q = rw u (wrote-refused g (verdict xs) lent o c f after h (rw q at e) p)
+
+pub flag-yes : (b : Bool) → b ≡ true → 1 ≡ flag b
+unfolding flag
+flag-yes b e = rw e
+
+pub flag-no : (b : Bool) → b ≡ false → 0 ≡ flag b
+unfolding flag
+flag-no b e = rw e
 
 -- Reading: a list of one number has no room for a row.
 one-short : (f : List ℕ) (xs : List ℕ) → fileVerdict f ≡ Accepted → readFile f ≡ Numbers xs → 1 < length xs

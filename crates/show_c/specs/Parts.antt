@@ -22,5 +22,8 @@ shortFile f = shortOf (fileVerdict f)
 unfoldable pub put1 : ℕ → List ℕ → List ℕ
 put1 a given = overwrite (a ∷ []) given
 
+unfoldable pub put2 : ℕ → ℕ → List ℕ → List ℕ
+put2 a b given = overwrite (a ∷ b ∷ []) given
+
 unfoldable pub put3 : ℕ → ℕ → ℕ → List ℕ → List ℕ
 put3 a b c given = overwrite (a ∷ b ∷ c ∷ []) given

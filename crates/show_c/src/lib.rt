@@ -3,11 +3,14 @@
 ghost use mathlib.Core.Path.{_≡_};
 ghost use Prim.Native.Nat.{_+_, _*_, _≤_, _<_};
 ghost use lib.ListN.{length};
+ghost use Rattle.model.specs.Answers.{flag};
 ghost use Rattle.model.specs.Verdicts.{verdict, fileVerdict};
-ghost use Rattle.model.specs.Questions.{readAsked, writeAsked, countAsked, locateAsked, numberAsked};
+ghost use Rattle.model.specs.Questions.{readAsked, writeAsked, countAsked, locateAsked, numberAsked, outAsked, inAsked, fewestAsked};
 ghost use Rattle.show_c.specs.Interface.{code, givenAfter, withGiven, alsoGiven};
-ghost use Rattle.show_c.specs.Parts.{shortRows, shortFile, put1, put3};
+ghost use Rattle.show_c.specs.Parts.{shortRows, shortFile, put1, put2, put3};
 use model::CountAnswer;
+use model::FewestAnswer;
+use model::ListAnswer;
 use model::LocateAnswer;
 use model::NumberAnswer;
 use model::ReadAnswer;
@@ -48,11 +51,29 @@ fn short_file(file: &[u8]) -> u64
     }
 }
 
+// 1 for yes, 0 for no.
+fn flag_of(yes: bool) -> u32
+    ensures { λ r. ⌜ r ≡ flag yes ⌝ }
+{
+    if yes {
+        return 1;
+    }
+    0
+}
+
 fn put_1(given: &mut [u32], a: u32)
     requires { ⌜ 3 ≤ length (now given) ⌝ }
     ensures { λ _. ⌜ now (given .exit) ≡ put1 a (now (given .entry)) ⌝ }
 {
     given[0] = a;
+}
+
+fn put_2(given: &mut [u32], a: u32, b: u32)
+    requires { ⌜ 3 ≤ length (now given) ⌝ }
+    ensures { λ _. ⌜ now (given .exit) ≡ put2 a b (now (given .entry)) ⌝ }
+{
+    given[0] = a;
+    given[1] = b;
 }
 
 fn put_3(given: &mut [u32], a: u32, b: u32, c: u32)
@@ -154,5 +175,84 @@ pub extern "C" fn show_read(file: &[u8], rows: &mut [u32], given: &mut [u32]) ->
             0
         }
         ReadAnswer::Refused(r) => refused(r),
+    }
+}
+
+// given: cues written, whether there are more (0 or 1)
+#[no_mangle]
+pub extern "C" fn show_list_out(
+    rows: &[u32],
+    v: u32,
+    n: u32,
+    page: &mut [u32],
+    given: &mut [u32],
+) -> u64
+    ensures { λ c. ⌜ c ≡ code (alsoGiven (now (given .entry)) (verdict (now (rows .entry))) (now (page .entry)) (outAsked (now (rows .entry)) v n (now (page .entry))) .answer) ⌝ }
+    ensures { λ c. ⌜ now (given .exit) ≡ givenAfter (alsoGiven (now (given .entry)) (verdict (now (rows .entry))) (now (page .entry)) (outAsked (now (rows .entry)) v n (now (page .entry))) .answer) (now (given .entry)) ⌝ }
+    ensures { λ c. ⌜ now (page .exit) ≡ alsoGiven (now (given .entry)) (verdict (now (rows .entry))) (now (page .entry)) (outAsked (now (rows .entry)) v n (now (page .entry))) .after ⌝ }
+{
+    if given.len() < 3 {
+        return short_rows(rows);
+    }
+    match show::list_out(rows, v, n, page) {
+        ListAnswer::Page(written, more) => {
+            put_2(given, written, flag_of(more));
+            0
+        }
+        ListAnswer::Refused(r) => refused(r),
+    }
+}
+
+// given: cues written, whether there are more (0 or 1)
+#[no_mangle]
+pub extern "C" fn show_list_in(
+    rows: &[u32],
+    v: u32,
+    n: u32,
+    page: &mut [u32],
+    given: &mut [u32],
+) -> u64
+    ensures { λ c. ⌜ c ≡ code (alsoGiven (now (given .entry)) (verdict (now (rows .entry))) (now (page .entry)) (inAsked (now (rows .entry)) v n (now (page .entry))) .answer) ⌝ }
+    ensures { λ c. ⌜ now (given .exit) ≡ givenAfter (alsoGiven (now (given .entry)) (verdict (now (rows .entry))) (now (page .entry)) (inAsked (now (rows .entry)) v n (now (page .entry))) .answer) (now (given .entry)) ⌝ }
+    ensures { λ c. ⌜ now (page .exit) ≡ alsoGiven (now (given .entry)) (verdict (now (rows .entry))) (now (page .entry)) (inAsked (now (rows .entry)) v n (now (page .entry))) .after ⌝ }
+{
+    if given.len() < 3 {
+        return short_rows(rows);
+    }
+    match show::list_in(rows, v, n, page) {
+        ListAnswer::Page(written, more) => {
+            put_2(given, written, flag_of(more));
+            0
+        }
+        ListAnswer::Refused(r) => refused(r),
+    }
+}
+
+// given: whether there is a chain (0 or 1), follow-ons (0 where there is none)
+#[no_mangle]
+pub extern "C" fn show_fewest(
+    rows: &[u32],
+    s: u32,
+    t: u32,
+    work: &mut [u32],
+    given: &mut [u32],
+) -> u64
+    ensures { λ c. ⌜ c ≡ code (alsoGiven (now (given .entry)) (verdict (now (rows .entry))) (now (work .entry)) (fewestAsked (now (rows .entry)) s t (now (work .entry))) .answer) ⌝ }
+    ensures { λ c. ⌜ now (given .exit) ≡ givenAfter (alsoGiven (now (given .entry)) (verdict (now (rows .entry))) (now (work .entry)) (fewestAsked (now (rows .entry)) s t (now (work .entry))) .answer) (now (given .entry)) ⌝ }
+    ensures { λ c. ⌜ now (work .exit) ≡ alsoGiven (now (given .entry)) (verdict (now (rows .entry))) (now (work .entry)) (fewestAsked (now (rows .entry)) s t (now (work .entry))) .after ⌝ }
+{
+    if given.len() < 3 {
+        return short_rows(rows);
+    }
+    match show::fewest(rows, s, t, work) {
+        FewestAnswer::Steps(n) => {
+            put_2(given, 1, n);
+            0
+        }
+        FewestAnswer::None => {
+            put_2(given, 0, 0);
+            0
+        }
+        FewestAnswer::Refused(r) => refused(r),
     }
 }
