@@ -5,8 +5,7 @@
  * a list of at least three; a shorter one is refusal 11.
  *
  * Lengths are in elements. The lists of one call do not overlap; a list of length 0 may be any pointer that is not null. Nothing is
- * allocated, and no call keeps a pointer. All five
- * functions, on a show of depth 127, were run with a stack of 72 kB; this is measured, not proved.
+ * allocated, and no call keeps a pointer. @STACK@
  *
  * Link with libshow_c.a. */
 #ifndef SHOW_H
@@ -24,6 +23,8 @@ enum {
     SHOW_MAX_ROWS = 1024, /* rows of a show */
     SHOW_MAX_FILE = 65536, /* bytes of a file */
     SHOW_PATH = 127,      /* least length of a list lent for a path */
+    SHOW_WORK = 16384,    /* least length of a work area */
+    SHOW_JOINS = 8,       /* joins of a block, at most */
     SHOW_GIVEN = 3        /* least length of `given` */
 };
 
@@ -45,6 +46,19 @@ uint64_t show_locate(const uint32_t *rows, size_t rows_len, uint32_t n, uint32_t
 
 /* The number of a path and an own cue. given: number. */
 uint64_t show_number(const uint32_t *rows, size_t rows_len, const uint32_t *path, size_t path_len, uint32_t own, uint32_t *given, size_t given_len);
+
+/* The cues that follow on from cue v by one link, those above n: rising, each once, as many as the page has room for. No page is too
+ * short, and n is any number: ask again with the last cue of a page for the next one. given: how many were written, 1 if there are
+ * more and 0 if not. */
+uint64_t show_list_out(const uint32_t *rows, size_t rows_len, uint32_t v, uint32_t n, uint32_t *page, size_t page_len, uint32_t *given, size_t given_len);
+
+/* The cues from which cue v follows on, in the same way. */
+uint64_t show_list_in(const uint32_t *rows, size_t rows_len, uint32_t v, uint32_t n, uint32_t *page, size_t page_len, uint32_t *given, size_t given_len);
+
+/* The fewest follow-ons from cue s to cue t. given: 1 and their number, or 0 and 0 if no chain leads from s to t. After an answer the
+ * work area holds, at 64 * k + 8 * (i - 1) + (j - 1), the fewest from join i to join j inside block k, 4294967295 for none, and 0 behind
+ * the last block up to SHOW_WORK numbers. What stood there before does not matter. */
+uint64_t show_fewest(const uint32_t *rows, size_t rows_len, uint32_t s, uint32_t t, uint32_t *work, size_t work_len, uint32_t *given, size_t given_len);
 
 #ifdef __cplusplus
 }
