@@ -114,7 +114,7 @@ cue-high : (cues n : ℕ) → 1 ≤ n → cues < n → isCue cues n ≡ false
 unfolding isCue
 cue-high cues n l h = lt-else _ _ _ _ l ∙ lt-then _ _ _ _ h
 
-cue-yes : (cues n : ℕ) → 1 ≤ n → n ≤ cues → isCue cues n ≡ true
+pub cue-yes : (cues n : ℕ) → 1 ≤ n → n ≤ cues → isCue cues n ≡ true
 unfolding isCue
 cue-yes cues n l h = lt-else _ _ _ _ l ∙ lt-else _ _ _ _ h
 
