@@ -5,7 +5,8 @@
  * a list of at least three; a shorter one is refusal 11.
  *
  * Lengths are in elements. The lists of one call do not overlap; a list of length 0 may be any pointer that is not null. Nothing is
- * allocated, and no call keeps a pointer. @STACK@
+ * allocated, and no call keeps a pointer. No call was seen to use more than 90 kB of stack, on shows of 127 levels too; this is tested, not
+ * proved.
  *
  * Link with libshow_c.a. */
 #ifndef SHOW_H

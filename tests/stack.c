@@ -1,0 +1,74 @@
+/* Asks every question of the shows that are named as arguments, each on a stack of its own, and tells how much of it was used. Ends with
+ * a line 'N passed, M failed': a question passes if it is answered within 256 KB. */
+#define _DEFAULT_SOURCE
+#include "show.h"
+
+#include <stdio.h>
+#include <string.h>
+#include <sys/mman.h>
+#include <ucontext.h>
+
+enum { STACK = 256 * 1024, ROOM = STACK + 64 * 1024, PATTERN = 0xA5, QUESTIONS = 8 };
+
+static uint8_t file[SHOW_MAX_FILE + 1], text[SHOW_MAX_FILE];
+static uint32_t rows[SHOW_ROW * SHOW_MAX_ROWS], work[SHOW_WORK], page[4096], path[SHOW_PATH], given[SHOW_GIVEN];
+static size_t bytes, numbers, depth;
+static uint32_t cues, own;
+static int question;
+static uint64_t returned;
+static ucontext_t here, there;
+
+static const char *const names[QUESTIONS] = {"read", "write", "count", "locate", "number", "list_out", "list_in", "fewest"};
+
+static void ask(void) {
+    switch (question) {
+    case 0: returned = show_read(file, bytes, rows, SHOW_ROW * SHOW_MAX_ROWS, given, SHOW_GIVEN); break;
+    case 1: returned = show_write(rows, numbers, text, SHOW_MAX_FILE, given, SHOW_GIVEN); break;
+    case 2: returned = show_count(rows, numbers, given, SHOW_GIVEN); break;
+    case 3: returned = show_locate(rows, numbers, cues, path, SHOW_PATH, given, SHOW_GIVEN); break;
+    case 4: returned = show_number(rows, numbers, path, depth, own, given, SHOW_GIVEN); break;
+    case 5: returned = show_list_out(rows, numbers, 1, 0, page, 4096, given, SHOW_GIVEN); break;
+    case 6: returned = show_list_in(rows, numbers, 1, 0, page, 4096, given, SHOW_GIVEN); break;
+    case 7: returned = show_fewest(rows, numbers, 1, cues, work, SHOW_WORK, given, SHOW_GIVEN); break;
+    }
+}
+
+/* How much of its stack a question used. */
+static size_t used(uint8_t *stack) {
+    size_t clean = 0;
+    memset(stack, PATTERN, ROOM);
+    getcontext(&there);
+    there.uc_stack.ss_sp = stack;
+    there.uc_stack.ss_size = ROOM;
+    there.uc_link = &here;
+    makecontext(&there, ask, 0);
+    swapcontext(&here, &there);
+    while (clean < ROOM && stack[clean] == PATTERN) clean++;
+    return ROOM - clean;
+}
+
+int main(int many, char **shows) {
+    uint8_t *stack = mmap(NULL, ROOM, PROT_READ | PROT_WRITE, MAP_PRIVATE | MAP_ANONYMOUS, -1, 0);
+    size_t most[QUESTIONS] = {0};
+    unsigned passed = 0, failed = 0;
+    for (int show = 1; show < many; show++) {
+        FILE *from = fopen(shows[show], "rb");
+        bytes = from ? fread(file, 1, sizeof file, from) : 0;
+        if (from) fclose(from);
+        for (question = 0; question < QUESTIONS; question++) {
+            size_t now = used(stack);
+            if (now > most[question]) most[question] = now;
+            if (returned == 0 && now < STACK) {
+                passed++;
+            } else {
+                failed++;
+                printf("%s of %s: returned %llu, %zu bytes of stack\n", names[question], shows[show], (unsigned long long)returned, now);
+            }
+            if (question == 0) numbers = given[0] * (size_t)SHOW_ROW, cues = given[2];
+            if (question == 3) depth = given[0], own = given[2];
+        }
+    }
+    for (question = 0; question < QUESTIONS; question++) printf("%s: at most %zu bytes of stack\n", names[question], most[question]);
+    printf("%u passed, %u failed\n", passed, failed);
+    return failed != 0;
+}
