@@ -12,7 +12,7 @@ use Rattle.show.proofs.least.Reads as least-reads
 
 -- src/lib.rt:355:9
 returns : tie.Need-returns
-returns c = search (fewest-room, needs)
+returns c = fewest-room _ _ _ _ (omega arith)
 
 -- src/lib.rt:360:9
 cues-requires : tie.Need-cues-requires

@@ -1,6 +1,7 @@
 use borrow.Author.Needs.{needs}
+use mathlib.Core.Path.{refl}
 use native.Mathlib.Omega.{arith}
-use Rattle.theory.proofs.Choices.{ifs}
+use Rattle.theory.proofs.Choices.{lt-yes, lt-no}
 use Rattle.model.specs.Rules.{isCue}
 use Rattle.show.proofs.is_cue.Statement.{statement}
 use Rattle.show.proofs.is_cue.Tie as tie
@@ -10,17 +11,17 @@ use Rattle.show.proofs.is_cue.Lts as lts
 -- src/lib.rt:225:9
 returns : tie.Need-returns
 unfolding isCue
-returns c = search (ifs, needs) depth 14
+returns c = lt-yes _ _ _ _ _ (omega arith) refl
 
 -- src/lib.rt:228:9
 returns-2 : tie.Need-returns-2
 unfolding isCue
-returns-2 c = search (ifs, needs) depth 14
+returns-2 c = lt-no _ _ _ _ _ (omega arith) (lt-yes _ _ _ _ _ (omega arith) refl)
 
 -- src/lib.rt:221:1
 returns-3 : tie.Need-returns-3
 unfolding isCue
-returns-3 c = search (ifs, needs) depth 14
+returns-3 c = lt-no _ _ _ _ _ (omega arith) (lt-no _ _ _ _ _ (omega arith) refl)
 
 pub is-cue-spec : {M : Type 1} → statement M
 is-cue-spec = tie.close (tie.spec returns returns-2 returns-3)

@@ -1,4 +1,5 @@
 use borrow.Author.Needs.{needs}
+use mathlib.Core.Path.{refl}
 use native.Mathlib.Omega.{arith}
 use Rattle.show.proofs.Linked.{list-in}
 use Rattle.show.proofs.list_in.Statement.{statement}
@@ -17,7 +18,7 @@ same-length c = search needs
 
 -- src/lib.rt:299:1
 returns : tie.Need-returns
-returns c = search (list-in, needs)
+returns c = list-in _ _ _ _ _ _ refl (c .before .before .list .ensures)
 
 pub list-in-spec : {M : Type 1} → statement M
 list-in-spec = tie.close (tie.spec list-requires same-length returns)

@@ -1,4 +1,5 @@
 use borrow.Author.Needs.{needs}
+use mathlib.Core.Path.{refl}
 use native.Mathlib.Omega.{arith}
 use Rattle.show.proofs.Linked.{list-out}
 use Rattle.show.proofs.list_out.Statement.{statement}
@@ -17,7 +18,7 @@ same-length c = search needs
 
 -- src/lib.rt:292:1
 returns : tie.Need-returns
-returns c = search (list-out, needs)
+returns c = list-out _ _ _ _ _ _ refl (c .before .before .list .ensures)
 
 pub list-out-spec : {M : Type 1} → statement M
 list-out-spec = tie.close (tie.spec list-requires same-length returns)

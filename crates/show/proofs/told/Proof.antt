@@ -16,11 +16,11 @@ enum-told c = search needs
 
 -- src/lib.rt:306:1
 returns : tie.Need-returns
-returns c = search (told-steps, needs)
+returns c = told-steps _ _ (search needs)
 
 -- src/lib.rt:306:1
 returns-2 : tie.Need-returns-2
-returns-2 c = search (told-none, needs)
+returns-2 c = told-none _ (search needs)
 
 pub told-spec : {M : Type 1} → statement M
 told-spec = tie.close (tie.spec enum-known-answer enum-told returns returns-2)
