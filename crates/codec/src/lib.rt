@@ -3,7 +3,8 @@ use model::Refusal;
 ghost use mathlib.Core.Path.{_≡_};
 ghost use mathlib.Core.Bool.{true};
 ghost use Prim.Native.Nat.{ℕ, _+_, _*_, _≤_, _<_};
-ghost use lib.ListN.{length, take, getD};
+ghost use lib.ListN.{length, take, drop, getD};
+ghost use lib.Seq.{sets};
 ghost use Rattle.model.specs.Choice.{ifLt};
 ghost use Rattle.model.specs.Text.{names, ends, digits, digitAt};
 ghost use Rattle.model.specs.Rows.{rowsFrom, rowLines, fileText};
@@ -11,10 +12,14 @@ ghost use Rattle.model.specs.Lists.{overwrite};
 ghost use Rattle.model.specs.Verdicts.{same, readFile};
 ghost use Rattle.codec.specs.Scanning.{figureAt, endedAt, valueAt, lineAt, LineSays, RowSays, startsNamed};
 ghost use Rattle.codec.specs.Parsing.{Parses};
-ghost use Rattle.codec.specs.Writing.{one, two, valueText, rowText, Puts};
+ghost use Rattle.codec.specs.Writing.{one, two, valueText, rowText, Puts, Spills, shortTexts};
 
 // The line of names.
 const NAMES: [u8; 33] = *b"block,kind,label,a,b,c,d,e,f,g,h\n";
+
+// The values below 264, each with its comma in four bytes, filled up with commas. No value of accepted rows is larger.
+const TEXTS: [u8; 1056] =
+    *b"0,,,1,,,2,,,3,,,4,,,5,,,6,,,7,,,8,,,9,,,10,,11,,12,,13,,14,,15,,16,,17,,18,,19,,20,,21,,22,,23,,24,,25,,26,,27,,28,,29,,30,,31,,32,,33,,34,,35,,36,,37,,38,,39,,40,,41,,42,,43,,44,,45,,46,,47,,48,,49,,50,,51,,52,,53,,54,,55,,56,,57,,58,,59,,60,,61,,62,,63,,64,,65,,66,,67,,68,,69,,70,,71,,72,,73,,74,,75,,76,,77,,78,,79,,80,,81,,82,,83,,84,,85,,86,,87,,88,,89,,90,,91,,92,,93,,94,,95,,96,,97,,98,,99,,100,101,102,103,104,105,106,107,108,109,110,111,112,113,114,115,116,117,118,119,120,121,122,123,124,125,126,127,128,129,130,131,132,133,134,135,136,137,138,139,140,141,142,143,144,145,146,147,148,149,150,151,152,153,154,155,156,157,158,159,160,161,162,163,164,165,166,167,168,169,170,171,172,173,174,175,176,177,178,179,180,181,182,183,184,185,186,187,188,189,190,191,192,193,194,195,196,197,198,199,200,201,202,203,204,205,206,207,208,209,210,211,212,213,214,215,216,217,218,219,220,221,222,223,224,225,226,227,228,229,230,231,232,233,234,235,236,237,238,239,240,241,242,243,244,245,246,247,248,249,250,251,252,253,254,255,256,257,258,259,260,261,262,263,";
 
 // What a file says: how many rows it has, or why it is refused.
 pub enum Parsed {
@@ -248,8 +253,14 @@ pub fn parse(file: &[u8], rows: &mut [u32; 11264]) -> Parsed
     refuse(2, 1)
 }
 
+fn wide(x: u32) -> usize
+    ensures { λ r. ⌜ r ≡ x ⌝ }
+{
+    x as usize
+}
+
 // 1 where v reaches a limit, and 0 below it.
-fn reaches(v: u32, limit: u32) -> usize
+fn reaches(v: u32, limit: u32) -> u32
     ensures { λ r. ⌜ r ≡ ifLt v limit 0 1 ⌝ }
     ensures { λ r. ⌜ r ≤ 1 ⌝ }
 {
@@ -260,7 +271,7 @@ fn reaches(v: u32, limit: u32) -> usize
 }
 
 // How many digits a number is written with.
-fn width(v: u32) -> usize
+fn width(v: u32) -> u32
     ensures { λ r. ⌜ r ≡ length (digits v) ⌝ }
     ensures { λ r. ⌜ r ≤ 5 ⌝ }
 {
@@ -273,13 +284,13 @@ pub fn measure(xs: &[u32], n: usize) -> usize
     ensures { λ r. ⌜ r ≡ length (fileText (rowsFrom (now (xs .entry)) 0 n)) ⌝ }
 {
     let m = n * 11;
-    let mut sum: usize = 33;
+    let mut sum: u32 = 33;
     let mut i = 0;
     while i < m {
         sum = sum + width(xs[i]) + 1;
         i += 1;
     }
-    sum
+    wide(sum)
 }
 
 // The last digit of a number.
@@ -341,19 +352,46 @@ fn put_value(v: u32, end: u8, out: &mut [u8], at: usize) -> usize
     i + 1
 }
 
+// Copies four bytes.
+fn copy_four(from: &[u8], i: usize, out: &mut [u8], at: usize)
+    requires { ⌜ (i + 4 ≤ length (now from)) × (at + 4 ≤ length (now out)) ⌝ }
+    ensures { λ _. ⌜ now (out .exit) ≡ sets (now (out .entry)) at (take 4 (drop i (now (from .entry)))) ⌝ }
+{
+    let a = from[i];
+    let b = from[i + 1];
+    let c = from[i + 2];
+    let d = from[i + 3];
+    out[at] = a;
+    out[at + 1] = b;
+    out[at + 2] = c;
+    out[at + 3] = d;
+}
+
+// Writes a value and a comma. Up to two bytes behind them change too: what is written next goes there.
+fn put_comma(v: u32, texts: &[u8], out: &mut [u8], at: usize) -> usize
+    requires { ⌜ (now texts ≡ shortTexts 0 264) × (at + length (valueText v 44) + 2 ≤ length (now out)) ⌝ }
+    ensures { λ r. ⌜ Spills (valueText v 44) (now (out .entry)) at r (now (out .exit)) ⌝ }
+{
+    if v < 264 {
+        copy_four(texts, wide(v) * 4, out, at);
+        return at + 2 + wide(reaches(v, 10) + reaches(v, 100));
+    }
+    put_value(v, 44, out, at)
+}
+
 // Writes the line of row r.
-fn put_row(xs: &[u32], r: usize, out: &mut [u8], from: usize) -> usize
-    requires { ⌜ (r * 11 + 11 ≤ length (now xs)) × (from + length (rowText (now xs) r) ≤ length (now out)) ⌝ }
+fn put_row(xs: &[u32], r: usize, texts: &[u8], out: &mut [u8], from: usize) -> usize
+    requires { ⌜ (r * 11 + 11 ≤ length (now xs)) × (now texts ≡ shortTexts 0 264) × (from + length (rowText (now xs) r) ≤ length (now out)) ⌝ }
     ensures { λ p. ⌜ Puts (rowText (now (xs .entry)) r) (now (out .entry)) from p (now (out .exit)) ⌝ }
 {
     let a = r * 11;
     let mut at = from;
     let mut c = 0;
-    while c < 11 {
-        at = put_value(xs[a + c], end_of(c), out, at);
+    while c < 10 {
+        at = put_comma(xs[a + c], texts, out, at);
         c += 1;
     }
-    at
+    put_value(xs[a + 10], 10, out, at)
 }
 
 // Writes bytes to the start of a list.
@@ -377,18 +415,26 @@ fn put_names(out: &mut [u8]) -> usize
     put_bytes(&NAMES, out)
 }
 
-// Writes the lines of n rows.
-fn put_rows(xs: &[u32], n: usize, out: &mut [u8], from: usize) -> usize
-    requires { ⌜ (n * 11 ≤ length (now xs)) × (from + length (rowLines (rowsFrom (now xs) 0 n)) ≤ length (now out)) ⌝ }
+// Writes the lines of n rows, with the table of texts.
+fn put_lines(xs: &[u32], n: usize, texts: &[u8], out: &mut [u8], from: usize) -> usize
+    requires { ⌜ (n * 11 ≤ length (now xs)) × (now texts ≡ shortTexts 0 264) × (from + length (rowLines (rowsFrom (now xs) 0 n)) ≤ length (now out)) ⌝ }
     ensures { λ p. ⌜ Puts (rowLines (rowsFrom (now (xs .entry)) 0 n)) (now (out .entry)) from p (now (out .exit)) ⌝ }
 {
     let mut at = from;
     let mut r = 0;
     while r < n {
-        at = put_row(xs, r, out, at);
+        at = put_row(xs, r, texts, out, at);
         r += 1;
     }
     at
+}
+
+// Writes the lines of n rows.
+fn put_rows(xs: &[u32], n: usize, out: &mut [u8], from: usize) -> usize
+    requires { ⌜ (n * 11 ≤ length (now xs)) × (from + length (rowLines (rowsFrom (now xs) 0 n)) ≤ length (now out)) ⌝ }
+    ensures { λ p. ⌜ Puts (rowLines (rowsFrom (now (xs .entry)) 0 n)) (now (out .entry)) from p (now (out .exit)) ⌝ }
+{
+    put_lines(xs, n, &TEXTS, out, from)
 }
 
 // Writes the file of n rows.
