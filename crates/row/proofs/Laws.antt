@@ -7,6 +7,7 @@ use mathlib.Core.Bool.{Bool, true, false, cond}
 use mathlib.Core.List.{List, [], _∷_, _++_}
 use lib.ListN.{length, getD}
 use lib.Dec.{eqb, ltb}
+use lib.Bits.{bitOr, or-add-and, and-le-l, and-le-r}
 use Rattle.model.specs.Choice.{ifLt, ifEq, ifTrue}
 use Rattle.model.specs.Rules.{every, isCue, isZero, differs, distinct, isBelow}
 use Rattle.theory.proofs.Choices.{lt-then, lt-else, eq-then, eq-else, true-then, true-else, lt-bool}
@@ -79,7 +80,7 @@ pub differs-no : (x y : ℕ) → x ≡ y → differs x y ≡ false
 unfolding differs
 differs-no x y e = eq-then _ _ _ _ e
 
--- Of eight numbers those behind the first m are 0: what is left to test after the first i, where sum of these failed.
+-- Of eight numbers those behind the first m are 0: what is left to test after the first i, if all that was read is 0.
 eq-same : (a b : ℕ) → ifEq a b false false ≡ false
 eq-same a b = go (ℕ-discrete a b)
   where
@@ -95,51 +96,53 @@ eq-bool a b = bool (eqb a b)
     bool true = refl
     bool false = refl
 
+or-test : (a b : ℕ) (t : Bool) → ifEq (bitOr a b) 0 t false ≡ ifEq a 0 (ifEq b 0 t false) false
+or-test a b t = go (ℕ-discrete a 0) (ℕ-discrete b 0)
+  where
+    go : Dec (a ≡ 0) → Dec (b ≡ 0) → ifEq (bitOr a b) 0 t false ≡ ifEq a 0 (ifEq b 0 t false) false
+    go (yes x) (yes y) =
+        eq-then _ _ _ _ (omega (arith, or-add-and a b)) ∙ sym (eq-then a 0 _ _ x ∙ eq-then b 0 _ _ y)
+    go (yes x) (no y) =
+        eq-else _ _ _ _ (λ e. omega (arith, or-add-and a b, and-le-l a b)) ∙ sym (eq-then a 0 _ _ x ∙ eq-else b 0 _ _ y)
+    go (no x) d = eq-else _ _ _ _ (λ e. omega (arith, or-add-and a b, and-le-r a b)) ∙ sym (eq-else a 0 _ _ x)
+
 module _ (xs : List ℕ) (p m : ℕ) where
   abbrev pub ZeroRest : ℕ → ℕ → Type 0
-  ZeroRest i sum =
-      every isZero (cells xs (p + m) (8 - m)) ≡ ifEq sum 0 (every isZero (cells xs (p + m + (i - m)) (8 - m - (i - m)))) false
+  ZeroRest i all =
+      every isZero (cells xs (p + m) (8 - m)) ≡ ifEq all 0 (every isZero (cells xs (p + m + (i - m)) (8 - m - (i - m)))) false
 
   pub zeros-begin : ZeroRest 0 0
   zeros-begin = let e : 0 - m ≡ 0 = omega arith in every-begin isZero xs (p + m) (8 - m) ∙ sym (rw e (eq-then 0 0 _ _ refl))
 
   zeros-next : (i : ℕ) → m ≤ i → i < 8
       → every isZero (cells xs (p + m + (i - m)) (8 - m - (i - m)))
-      ≡ ifTrue (isZero (getD xs (p + i) 0)) (every isZero (cells xs (p + m + (i + 1 - m)) (8 - m - (i + 1 - m)))) false
+      ≡ ifEq (getD xs (p + i) 0) 0 (every isZero (cells xs (p + m + (i + 1 - m)) (8 - m - (i + 1 - m)))) false
   unfolding every
   zeros-next i h k =
       let f : i + 1 - m ≡ i - m + 1 = omega arith in
       let g : p + i ≡ p + m + (i - m) = omega arith in
-      ap (every isZero) (cells-next xs (p + m) (8 - m) (i - m) (omega arith)) ∙ rw (f, g)
-
-  pub zeros-on : (i sum w : ℕ) → ZeroRest i sum → i < 8 → w ≡ ifLt i m 0 (ifEq (getD xs (p + i) 0) 0 0 1) → ZeroRest (i + 1) (sum + w)
-  zeros-on i sum w e k q = go (decLt i m) (ℕ-discrete (getD xs (p + i) 0) 0)
+      ap (every isZero) (cells-next xs (p + m) (8 - m) (i - m) (omega arith))
+      ∙ rw (f, g) (go (getD xs (p + m + (i - m)) 0) (ℕ-discrete (getD xs (p + m + (i - m)) 0) 0) _)
     where
-      go : Dec (i < m) → Dec (getD xs (p + i) 0 ≡ 0) → ZeroRest (i + 1) (sum + w)
-      go (yes h) d =
+      go : (x : ℕ) → Dec (x ≡ 0) → (t : Bool) → ifTrue (isZero x) t false ≡ ifEq x 0 t false
+      go x (yes z) t = true-then _ _ _ (zero-yes x z) ∙ sym (eq-then _ _ _ _ z)
+      go x (no z) t = true-else _ _ _ (zero-no x z) ∙ sym (eq-else _ _ _ _ z)
+
+  pub zeros-on : (i all w : ℕ) → ZeroRest i all → i < 8 → w ≡ ifLt i m 0 (getD xs (p + i) 0) → ZeroRest (i + 1) (bitOr all w)
+  zeros-on i all w e k q = go (decLt i m)
+    where
+      go : Dec (i < m) → ZeroRest (i + 1) (bitOr all w)
+      go (yes h) =
           let n : w ≡ 0 = q ∙ lt-then _ _ _ _ h in
           let f : i + 1 - m ≡ i - m = omega arith in
-          let g : sum + w ≡ sum = omega arith in
-          rw (f, g) e
-      go (no h) (yes z) =
-          let n : w ≡ 0 = q ∙ lt-else _ _ _ _ (omega arith) ∙ eq-then _ _ _ _ z in
-          let g : sum + w ≡ sum = omega arith in
-          rw g
-          (e
-          ∙ ap (λ (t : Bool). ifEq sum 0 t false)
-          (zeros-next i (omega arith) k ∙ true-then _ _ _ (zero-yes _ z)))
-      go (no h) (no z) =
-          let n : w ≡ 1 = q ∙ lt-else _ _ _ _ (omega arith) ∙ eq-else _ _ _ _ z in
-          e
-          ∙ ap (λ (t : Bool). ifEq sum 0 t false)
-          (zeros-next i (omega arith) k ∙ true-else _ _ _ (zero-no _ z))
-          ∙ eq-same sum 0
-          ∙ sym (eq-else (sum + w) 0 _ _ (λ y. omega arith))
+          rw f (e ∙ sym (or-test all w _ ∙ ap (λ (t : Bool). ifEq all 0 t false) (eq-then w 0 _ _ n)))
+      go (no h) =
+          let n : w ≡ getD xs (p + i) 0 = q ∙ lt-else _ _ _ _ (omega arith) in
+          e ∙ ap (λ (t : Bool). ifEq all 0 t false) (zeros-next i (omega arith) k ∙ rw (← n)) ∙ sym (or-test all w _)
 
-  pub zeros-done : (i sum : ℕ) → ZeroRest i sum → 8 ≤ i → eqb sum 0 ≡ every isZero (cells xs (p + m) (8 - m))
+  pub zeros-done : (i all : ℕ) → ZeroRest i all → 8 ≤ i → eqb all 0 ≡ every isZero (cells xs (p + m) (8 - m))
   unfolding every
-  zeros-done i sum e h =
-      eq-bool sum 0 ∙ sym (e ∙ rw (cells-end xs (p + m) (8 - m) (i - m) (omega arith)))
+  zeros-done i all e h = eq-bool all 0 ∙ sym (e ∙ rw (cells-end xs (p + m) (8 - m) (i - m) (omega arith)))
 
 -- The seven behind the own cues of an opening.
 pub open-zeros : (xs : List ℕ) (p : ℕ) (t : Bool) → t ≡ every isZero (cells xs (p + 3 + 1) (8 - 1)) → t ≡ every isZero (cells xs (p + 4) 7)

@@ -5,13 +5,10 @@ use Rattle.row.proofs.left_over.Statement.{statement}
 use Rattle.row.proofs.left_over.Tie as tie
 
 returns : tie.Need-returns
-returns c = (search (ifs, needs), search needs)
+returns c = search (ifs, needs)
 
 returns-2 : tie.Need-returns-2
-returns-2 c = (search (ifs, needs) depth 8, search needs)
-
-returns-3 : tie.Need-returns-3
-returns-3 c = (search (ifs, needs) depth 8, search needs)
+returns-2 c = search (ifs, needs)
 
 pub left-over-spec : {M : Type 1} → statement M
-left-over-spec = tie.close (tie.spec returns returns-2 returns-3)
+left-over-spec = tie.close (tie.spec returns returns-2)
