@@ -3,12 +3,13 @@ use Prim.Native.Nat.{ℕ, zero, suc, _+_, _*_, _-_, _≤_, _<_}
 use mathlib.Core.Path.{_≡_, refl, sym, _∙_, ap}
 use mathlib.Core.List.{List, [], _∷_, _++_, append-nil, append-assoc}
 use native.Mathlib.Omega.{arith}
+use native.Mathlib.Decide.{decLt}
 use lib.ListN.{length, getD, take, drop, set, length-set, length-append}
-use lib.Seq.{sets, length-sets, length-take-le, drop-cons, set-set, set-comm, take-at, take-append-add, drop-append-add}
+use lib.Seq.{sets, length-sets, length-take-le, drop-cons, set-set, set-comm, take-at, take-take, getD-at, getD-take, getD-drop, take-append-add, drop-append-add}
 use Rattle.model.specs.Choice.{ifLt}
-use Rattle.model.specs.Text.{comma, digits}
-use Rattle.theory.proofs.Choices.{lt-then}
-use Rattle.codec.specs.Writing.{valueText, Puts, Spills, shortText, shortTexts}
+use Rattle.model.specs.Text.{digitZero, comma}
+use Rattle.theory.proofs.Choices.{lt-then, lt-else}
+use Rattle.codec.specs.Writing.{valueText, Puts, Spills, fourBytes, shortText, shortTexts}
 use Rattle.codec.proofs.Stores.{sets-both}
 use Rattle.codec.proofs.DigitStores.{value-long, width-sum}
 
@@ -93,60 +94,95 @@ module _ (w rest a b o p : List ℕ) (from at : ℕ) (e : rest ≡ a ++ b) (h : 
       ap length (sym (s .split)) ∙ rw (e, length-append (s .done) (a ++ b), length-append a b) in
       omega (arith, spills-long (s .spills), s .spills .place)
 
--- The table: four bytes for each value.
+-- The table: four bytes and a digit for each value.
 pub text-some : (v e : ℕ) → 2 ≤ length (valueText v e)
 text-some v e = omega (arith, value-long v e, width-sum v _ _ _ _ refl refl refl refl)
 
-short-long : (v : ℕ) → length (shortText v) ≡ 4
-unfolding shortText
-short-long v =
+four-long : (v : ℕ) → length (fourBytes v) ≡ 4
+unfolding fourBytes
+four-long v =
     length-take-le 4 (valueText v comma ++ (comma ∷ comma ∷ []))
     (rw (length-append (valueText v comma) (comma ∷ comma ∷ [])) (omega (arith, text-some v comma)))
 
-pub texts-long : (v n : ℕ) → length (shortTexts v n) ≡ n * 4
+short-long : (v : ℕ) → length (shortText v) ≡ 5
+unfolding shortText
+short-long v = length-append (fourBytes v) ((digitZero + length (valueText v comma)) ∷ []) ∙ rw (four-long v)
+
+texts-long : (v n : ℕ) → length (shortTexts v n) ≡ n * 5
 unfolding shortTexts
 texts-long v zero = refl
 texts-long v (suc n) =
     length-append (shortText v) (shortTexts (suc v) n) ∙ rw (short-long v, texts-long (suc v) n) (omega arith)
 
-texts-at : (v n k : ℕ) → k < n → take 4 (drop (k * 4) (shortTexts v n)) ≡ shortText (v + k)
+texts-at : (v n k : ℕ) → k < n → take 5 (drop (k * 5) (shortTexts v n)) ≡ shortText (v + k)
 unfolding shortTexts
 texts-at v zero k h = absurd (omega arith)
 texts-at v (suc n) zero h =
     let e : v + 0 ≡ v = omega arith in
-    rw e (take-at (shortText v) (shortTexts (suc v) n) 4 (short-long v))
+    rw e (take-at (shortText v) (shortTexts (suc v) n) 5 (short-long v))
 texts-at v (suc n) (suc k) h =
-    let e : suc k * 4 ≡ length (shortText v) + k * 4 = rw (short-long v) (omega arith) in
+    let e : suc k * 5 ≡ length (shortText v) + k * 5 = rw (short-long v) (omega arith) in
     let f : v + suc k ≡ suc v + k = omega arith in
-    rw (e, f, drop-append-add (shortText v) (shortTexts (suc v) n) (k * 4)) (texts-at (suc v) n k (omega arith))
+    rw (e, f, drop-append-add (shortText v) (shortTexts (suc v) n) (k * 5)) (texts-at (suc v) n k (omega arith))
 
-module _ (v a b : ℕ) (h : v < 264) (p : a ≡ ifLt v 10 0 1) (q : b ≡ ifLt v 100 0 1) where
-  short-wide : length (valueText v comma) ≡ 2 + (a + b)
+at-most-one : (v k : ℕ) → ifLt v k 0 1 ≤ 1
+at-most-one v k = go (decLt v k)
+  where
+    go : Dec (v < k) → ifLt v k 0 1 ≤ 1
+    go (yes h) = let e : _≡_ {A = ℕ} (ifLt v k 0 1) 0 = lt-then v k 0 1 h in omega arith
+    go (no h) = let e : _≡_ {A = ℕ} (ifLt v k 0 1) 1 = lt-else v k 0 1 (omega arith) in omega arith
+
+module _ (v n : ℕ) (ts : List ℕ) (h : v < 264) (e : n ≡ v) (t : ts ≡ shortTexts 0 264) where
+  pub size-room : n * 5 + 4 < length ts
+  size-room = rw (t, texts-long 0 264) (omega arith)
+
+  pub four-room : n * 5 + 4 ≤ length ts
+  four-room = omega (arith, size-room)
+
+  entry : take 5 (drop (n * 5) ts) ≡ shortText v
+  entry = let z : 0 + v ≡ v = omega arith in rw (e, t, texts-at 0 264 v h, z)
+
+  size-at : getD ts (n * 5 + 4) 0 ≡ digitZero + length (valueText v comma)
+  unfolding shortText
+  size-at =
+      sym (getD-drop (n * 5) ts 4 0)
+      ∙ sym (getD-take 5 (drop (n * 5) ts) 4 0 (omega arith))
+      ∙ rw entry (getD-at (fourBytes v) (digitZero + length (valueText v comma)) [] 0 4 (four-long v))
+
+  four-at : take 4 (drop (n * 5) ts) ≡ fourBytes v
+  unfolding shortText
+  four-at =
+      sym (take-take 4 5 (drop (n * 5) ts) (omega arith))
+      ∙ rw entry (take-at (fourBytes v) ((digitZero + length (valueText v comma)) ∷ []) 4 (four-long v))
+
+  short-wide : length (valueText v comma) ≤ 4
   short-wide =
       omega (
         arith,
         value-long v comma,
-        width-sum v a b 0 0 p q (sym (lt-then v 1000 0 1 (omega arith))) (sym (lt-then v 10000 0 1 (omega arith))),
+        width-sum v _ _ 0 0 refl refl (sym (lt-then v 1000 0 1 (omega arith))) (sym (lt-then v 10000 0 1 (omega arith))),
+        at-most-one v 10,
+        at-most-one v 100,
       )
 
-  pub comma-short : (ts o r : List ℕ) (n at w : ℕ) → a ≤ 1 → b ≤ 1 → w ≡ a + b → ts ≡ shortTexts 0 264 → n ≡ v
-      → r ≡ sets o at (take 4 (drop (n * 4) ts)) → Spills (valueText v comma) o at (at + 2 + w) r
-  unfolding shortText
-  comma-short ts o r n at w i j c t g e =
+  pub size-digit : 48 ≤ getD ts (n * 5 + 4) 0
+  size-digit = omega (arith, size-at)
+
+  pub comma-short : (o r : List ℕ) (at w : ℕ) → r ≡ sets o at (take 4 (drop (n * 5) ts)) → w ≡ getD ts (n * 5 + 4) 0 - 48
+      → Spills (valueText v comma) o at (at + w) r
+  unfolding fourBytes
+  comma-short o r at w g s =
       let rest = comma ∷ comma ∷ [] in
-      let z : 0 + v ≡ v = omega arith in
-      let m = 2 - (a + b) in
+      let m = 4 - length (valueText v comma) in
       let k : 4 ≡ length (valueText v comma) + m = omega (arith, short-wide) in
-      let f : shortText v ≡ valueText v comma ++ take m rest = rw k (take-append-add (valueText v comma) rest m) in
+      let f : fourBytes v ≡ valueText v comma ++ take m rest =
+      ap (λ (j : ℕ). take j (valueText v comma ++ rest)) k ∙ take-append-add (valueText v comma) rest m in
       record {
         more = take m rest;
-        few = omega (arith, length-take-le m rest (omega arith));
-        place = omega (arith, short-wide);
-        bytes = e ∙ rw (t, g, texts-at 0 264 v h, z) (ap (sets o at) f);
+        few = omega (arith, length-take-le m rest (omega (arith, text-some v comma)), text-some v comma);
+        place = omega (arith, size-at);
+        bytes = g ∙ rw four-at (ap (sets o at) f);
       }
-
-pub four-room : (v n : ℕ) (ts : List ℕ) → v < 264 → n ≡ v → ts ≡ shortTexts 0 264 → n * 4 + 4 ≤ length ts
-four-room v n ts h e t = rw (t, texts-long 0 264) (omega arith)
 
 pub comma-room : (v at : ℕ) (o : List ℕ) → at + length (valueText v comma) + 2 ≤ length o → at + 4 ≤ length o
 comma-room v at o h = omega (arith, text-some v comma)

@@ -4,7 +4,7 @@ use mathlib.Core.Path.{_≡_}
 use mathlib.Core.List.{List, [], _∷_, _++_}
 use lib.ListN.{length, take}
 use lib.Seq.{sets}
-use Rattle.model.specs.Text.{comma, ends, digitAt, digits, lineText}
+use Rattle.model.specs.Text.{digitZero, comma, ends, digitAt, digits, lineText}
 use Rattle.model.specs.Rows.{rowAt, rowValues}
 
 -- The last digit of a number, and the last two.
@@ -34,9 +34,12 @@ pub record Spills (text out : List ℕ) (at next : ℕ) (after : List ℕ) : Typ
   pub place : next ≡ at + length text
   pub bytes : after ≡ sets out at (text ++ more)
 
--- A value and its comma in four bytes, and those of n values from v on.
+-- A value and its comma in four bytes, with a digit behind them that says how many bytes count; and those of n values from v on.
+unfoldable pub fourBytes : ℕ → List ℕ
+fourBytes v = take 4 (valueText v comma ++ (comma ∷ comma ∷ []))
+
 unfoldable pub shortText : ℕ → List ℕ
-shortText v = take 4 (valueText v comma ++ (comma ∷ comma ∷ []))
+shortText v = fourBytes v ++ ((digitZero + length (valueText v comma)) ∷ [])
 
 unfoldable pub shortTexts : ℕ → ℕ → List ℕ
 shortTexts v zero = []

@@ -1,35 +1,29 @@
 -- A value and a comma are stored: four bytes of the table, or digit by digit.
 use borrow.Author.Needs.{needs}
-use Rattle.codec.proofs.Spills.{four-room, comma-room, comma-short, puts-spill}
+use Rattle.codec.proofs.Spills.{four-room, size-room, size-digit, comma-room, comma-short, puts-spill}
 use Rattle.codec.proofs.put_comma.Statement.{statement}
 use Rattle.codec.proofs.put_comma.Tie as tie
 
 wide-requires : tie.Need-wide-requires
 wide-requires c κs = search needs
 
-mul-copy-four : tie.Need-mul-copy-four
-mul-copy-four c = search needs
+mul-i : tie.Need-mul-i
+mul-i c = search needs
 
 copy-four-requires : tie.Need-copy-four-requires
 copy-four-requires c κs = (search (four-room, needs), search (comma-room, needs))
 
+add-number-of : tie.Need-add-number-of
+add-number-of c = search needs
+
+shared-slice-read-number-of : tie.Need-shared-slice-read-number-of
+shared-slice-read-number-of c = search (size-room, needs)
+
+number-of-requires : tie.Need-number-of-requires
+number-of-requires c κs = search (size-digit, needs)
+
 add-result : tie.Need-add-result
 add-result c = search needs
-
-reaches-requires : tie.Need-reaches-requires
-reaches-requires c κs = search needs
-
-reaches-requires-2 : tie.Need-reaches-requires-2
-reaches-requires-2 c κs = search needs
-
-add-wide : tie.Need-add-wide
-add-wide c = search needs
-
-wide-requires-2 : tie.Need-wide-requires-2
-wide-requires-2 c κs = search needs
-
-add-result-2 : tie.Need-add-result-2
-add-result-2 c = search needs
 
 same-length : tie.Need-same-length
 same-length c = search needs
@@ -51,14 +45,12 @@ put-comma-spec =
     tie.close
     (tie.spec
     wide-requires
-    mul-copy-four
+    mul-i
     copy-four-requires
+    add-number-of
+    shared-slice-read-number-of
+    number-of-requires
     add-result
-    reaches-requires
-    reaches-requires-2
-    add-wide
-    wide-requires-2
-    add-result-2
     same-length
     returns
     put-value-requires

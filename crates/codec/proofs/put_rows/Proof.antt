@@ -3,7 +3,7 @@ use mathlib.Core.Path.{refl}
 use borrow.Author.Needs.{needs}
 use Rattle.model.specs.Choice.{ifLt}
 use Rattle.model.specs.Text.{digits, digitAt}
-use Rattle.codec.specs.Writing.{valueText, shortText, shortTexts}
+use Rattle.codec.specs.Writing.{valueText, fourBytes, shortText, shortTexts}
 use Rattle.codec.proofs.put_rows.Statement.{statement}
 use Rattle.codec.proofs.put_rows.Tie as tie
 
@@ -11,7 +11,7 @@ slice-aggregate-put-lines : tie.Need-slice-aggregate-put-lines
 slice-aggregate-put-lines c = search needs
 
 put-lines-requires : tie.Need-put-lines-requires
-unfolding shortTexts shortText valueText digits digitAt ifLt
+unfolding shortTexts shortText fourBytes valueText digits digitAt ifLt
 put-lines-requires c κs = (search needs, refl, search needs)
 
 same-length : tie.Need-same-length
