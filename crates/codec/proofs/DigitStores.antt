@@ -90,7 +90,7 @@ pub puts-two : (q at i j : ℕ) (o p r : List ℕ) → Puts (one (q / 10)) o at 
 puts-two q at i j o p r s t = puts-as (two-is q) (puts-both s t)
 
 -- A value and the byte behind it.
-value-long : (v e : ℕ) → length (valueText v e) ≡ length (digits v) + 1
+pub value-long : (v e : ℕ) → length (valueText v e) ≡ length (digits v) + 1
 unfolding valueText
 value-long v e = length-append (digits v) (e ∷ [])
 

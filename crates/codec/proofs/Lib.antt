@@ -6,4 +6,5 @@ pub mod FileScan
 pub mod Sofar
 pub mod Stores
 pub mod DigitStores
+pub mod Spills
 pub mod RowStores

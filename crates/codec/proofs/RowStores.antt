@@ -6,11 +6,13 @@ use native.Mathlib.Omega.{arith}
 use native.Mathlib.Numerals.{add-one}
 use lib.ListN.{length, getD, take, drop, set, length-append, length-drop, take-append-drop, drop-of-length-le}
 use lib.Seq.{length-take-le, drop-cons, drop-drop, take-add, take-all, take-suc, getD-take, getD-drop}
-use Rattle.model.specs.Text.{names, ends, digits, lineText}
+use Rattle.model.specs.Text.{comma, lineFeed, names, ends, digits, lineText}
 use Rattle.model.specs.Rows.{Row, cell, rowAt, rowsFrom, rowValues, rowLines, fileText}
 use Rattle.model.specs.Lists.{overwrite}
 use Rattle.theory.proofs.FlatRows.{first-values}
-use Rattle.codec.specs.Writing.{valueText, rowText, Puts}
+use Rattle.codec.specs.Writing.{valueText, rowText, Puts, Spills}
+use Rattle.codec.proofs.Values.{comma-at, feed-at}
+use Rattle.codec.proofs.Spills.{Spilled, spilled-begin, spilled-on, spilled-end, spilled-room, text-some}
 use Rattle.codec.proofs.Stores.{
   puts-byte,
   puts-both,
@@ -56,28 +58,55 @@ row-next xs r c h k =
     rw (add-one, drop-cons ends c 10 k, drop-cons vs c 0 long, v)
     (sym (append-assoc (digits (getD xs (r * 11 + c) 0)) (getD ends c 10 ∷ []) (lineText (drop (suc c) ends) (drop (suc c) vs))))
 
-pub row-done : (xs : List ℕ) (r c : ℕ) → 11 ≤ c → rowLeft xs r c ≡ []
+row-done : (xs : List ℕ) (r c : ℕ) → 11 ≤ c → rowLeft xs r c ≡ []
 unfolding rowLeft lineText ends
 row-done xs r c k = rw (drop-of-length-le ends {i = c} k)
 
--- So a row's line is stored value by value.
-pub row-begin : (xs : List ℕ) (r from : ℕ) (o : List ℕ) → Stored (rowText xs r) (rowLeft xs r 0) o from from o
+-- So a row's line is stored value by value: the first ten with commas, and bytes behind them.
+pub row-begin : (xs : List ℕ) (r from : ℕ) (o : List ℕ) → Spilled (rowText xs r) (rowLeft xs r 0) o from from o
 unfolding rowText rowLeft
-row-begin xs r from o = stored-begin _ o from
+row-begin xs r from o = spilled-begin _ o from
+
+row-some : (xs : List ℕ) (r c : ℕ) → r * 11 + 11 ≤ length xs → c < 11 → 2 ≤ length (rowLeft xs r c)
+row-some xs r c h k =
+    let v = getD xs (r * 11 + c) 0 in
+    rw (row-next xs r c h k, length-append (valueText v (getD ends c 10)) (rowLeft xs r (c + 1)))
+    (omega (arith, text-some v (getD ends c 10)))
 
 module _
-    (xs : List ℕ) (r c e from at : ℕ) (o p : List ℕ) (k : c < 11) (h : r * 11 + 11 ≤ length xs) (end : e ≡ getD ends c 10)
-    (s : Stored (rowText xs r) (rowLeft xs r c) o from at p)
+    (xs : List ℕ) (r c from at : ℕ) (o p : List ℕ) (h : r * 11 + 11 ≤ length xs)
+    (s : Spilled (rowText xs r) (rowLeft xs r c) o from at p)
   where
-    left : rowLeft xs r c ≡ valueText (getD xs (r * 11 + c) 0) e ++ rowLeft xs r (c + 1)
-    left = rw end (row-next xs r c h k)
+    module _ (k : c < 10) where
+      left : rowLeft xs r c ≡ valueText (getD xs (r * 11 + c) 0) comma ++ rowLeft xs r (c + 1)
+      left = row-next xs r c h (omega arith) ∙ rw (← comma-at c k)
 
-    pub row-room : from + length (rowText xs r) ≤ length o → at + length (valueText (getD xs (r * 11 + c) 0) e) ≤ length p
-    row-room l = stored-room _ _ (valueText (getD xs (r * 11 + c) 0) e) (rowLeft xs r (c + 1)) o p from at left s l
+      pub row-room : from + length (rowText xs r) ≤ length o → at + length (valueText (getD xs (r * 11 + c) 0) comma) + 2 ≤ length p
+      row-room l =
+          let v = getD xs (r * 11 + c) 0 in
+          let g : at + length (valueText v comma) + length (rowLeft xs r (c + 1)) ≤ length p =
+          spilled-room _ _ (valueText v comma) (rowLeft xs r (c + 1)) o p from at left (text-some v comma) s l in
+          omega (arith, row-some xs r (c + 1) h (omega arith))
 
-    pub row-on : (q : List ℕ) (next : ℕ) → Puts (valueText (getD xs (r * 11 + c) 0) e) p at next q
-        → Stored (rowText xs r) (rowLeft xs r (c + 1)) o from next q
-    row-on q next t = stored-on _ _ _ _ o p from at left s q next t
+      pub row-on : (q : List ℕ) (next : ℕ) → Spills (valueText (getD xs (r * 11 + c) 0) comma) p at next q
+          → Spilled (rowText xs r) (rowLeft xs r (c + 1)) o from next q
+      row-on q next t = spilled-on _ _ _ _ o p from at left (text-some (getD xs (r * 11 + c) 0) comma) s q next t
+
+    module _ (k : c ≤ 10) (m : 10 ≤ c) where
+      last : rowLeft xs r c ≡ valueText (getD xs (r * 11 + 10) 0) lineFeed ++ rowLeft xs r 11
+      last = let e : c ≡ 10 = omega arith in rw e (row-next xs r 10 h (omega arith) ∙ rw (← feed-at 10 (omega arith)))
+
+      pub last-room : from + length (rowText xs r) ≤ length o → at + length (valueText (getD xs (r * 11 + 10) 0) lineFeed) ≤ length p
+      last-room l =
+          let v = getD xs (r * 11 + 10) 0 in
+          let g : at + length (valueText v lineFeed) + length (rowLeft xs r 11) ≤ length p =
+          spilled-room _ _ (valueText v lineFeed) (rowLeft xs r 11) o p from at last (text-some v lineFeed) s l in
+          omega arith
+
+      pub row-end : (q : List ℕ) (next : ℕ) → Puts (valueText (getD xs (r * 11 + 10) 0) lineFeed) p at next q
+          → Puts (rowText xs r) o from next q
+      row-end q next t =
+          spilled-end _ _ _ _ o p from at last (text-some (getD xs (r * 11 + 10) 0) lineFeed) s q next (row-done xs r 11 (omega arith)) t
 
 -- Bytes that are copied from the start on.
 pub copy-turn : (bs o p : List ℕ) (i : ℕ) → i < length bs → Puts (take i bs) o 0 i p
@@ -169,10 +198,10 @@ unfolding textWidth
 width-turn xs sum i w m p h k e =
     rw (add-one i, take-suc xs i 0 (omega arith), width-both (take i xs) (getD xs i 0 ∷ [])) (omega arith)
 
-pub width-end : (xs : List ℕ) (sum i n : ℕ) → sum ≡ 33 + textWidth (take i xs) → i ≤ n * 11 → n * 11 ≤ i → n * 11 ≤ length xs
-    → sum ≡ length (fileText (rowsFrom xs 0 n))
+pub width-end : (xs : List ℕ) (sum i n w : ℕ) → sum ≡ 33 + textWidth (take i xs) → i ≤ n * 11 → n * 11 ≤ i → n * 11 ≤ length xs
+    → w ≡ sum → w ≡ length (fileText (rowsFrom xs 0 n))
 unfolding fileText names
-width-end xs sum i n p h k l =
+width-end xs sum i n w p h k l f =
     let e : i ≡ n * 11 = omega arith in
-    let w : length (rowLines (rowsFrom xs 0 n)) ≡ textWidth (take (n * 11) xs) = rows-width xs 0 n (omega arith) in
-    p ∙ rw (e, length-append names (rowLines (rowsFrom xs 0 n)), w)
+    let g : length (rowLines (rowsFrom xs 0 n)) ≡ textWidth (take (n * 11) xs) = rows-width xs 0 n (omega arith) in
+    f ∙ p ∙ rw (e, length-append names (rowLines (rowsFrom xs 0 n)), g)

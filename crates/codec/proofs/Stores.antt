@@ -8,7 +8,7 @@ use lib.Seq.{sets, length-sets, sets-eq}
 use Rattle.model.specs.Lists.{overwrite}
 use Rattle.codec.specs.Writing.{Puts}
 
-sets-both : (a b o : List ℕ) (at : ℕ) → sets (sets o at a) (at + length a) b ≡ sets o at (a ++ b)
+pub sets-both : (a b o : List ℕ) (at : ℕ) → sets (sets o at a) (at + length a) b ≡ sets o at (a ++ b)
 sets-both [] b o at = let k : at + 0 ≡ at = omega arith in rw k
 sets-both (x ∷ a) b o at =
     let k : at + suc (length a) ≡ suc at + length a = omega arith in

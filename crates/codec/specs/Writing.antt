@@ -1,10 +1,10 @@
 -- Writing as the code does it: bytes at a place of the output.
-use Prim.Native.Nat.{ℕ, _+_}
+use Prim.Native.Nat.{ℕ, zero, suc, _+_, _≤_}
 use mathlib.Core.Path.{_≡_}
 use mathlib.Core.List.{List, [], _∷_, _++_}
-use lib.ListN.{length}
+use lib.ListN.{length, take}
 use lib.Seq.{sets}
-use Rattle.model.specs.Text.{ends, digitAt, digits, lineText}
+use Rattle.model.specs.Text.{digitZero, comma, ends, digitAt, digits, lineText}
 use Rattle.model.specs.Rows.{rowAt, rowValues}
 
 -- The last digit of a number, and the last two.
@@ -26,3 +26,21 @@ rowText xs r = lineText ends (rowValues (rowAt xs r))
 pub record Puts (text out : List ℕ) (at next : ℕ) (after : List ℕ) : Type 0 where
   pub place : next ≡ at + length text
   pub bytes : after ≡ sets out at text
+
+-- The same, but up to two bytes behind the text are stored too: the next text overwrites them.
+pub record Spills (text out : List ℕ) (at next : ℕ) (after : List ℕ) : Type 0 where
+  pub more : List ℕ
+  pub few : length more ≤ 2
+  pub place : next ≡ at + length text
+  pub bytes : after ≡ sets out at (text ++ more)
+
+-- A value and its comma in four bytes, with a digit behind them that says how many bytes count; and those of n values from v on.
+unfoldable pub fourBytes : ℕ → List ℕ
+fourBytes v = take 4 (valueText v comma ++ (comma ∷ comma ∷ []))
+
+unfoldable pub shortText : ℕ → List ℕ
+shortText v = fourBytes v ++ ((digitZero + length (valueText v comma)) ∷ [])
+
+unfoldable pub shortTexts : ℕ → ℕ → List ℕ
+shortTexts v zero = []
+shortTexts v (suc n) = shortText v ++ shortTexts (suc v) n

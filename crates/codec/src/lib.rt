@@ -2,8 +2,9 @@
 use model::Refusal;
 ghost use mathlib.Core.Path.{_≡_};
 ghost use mathlib.Core.Bool.{true};
-ghost use Prim.Native.Nat.{ℕ, _+_, _*_, _≤_, _<_};
-ghost use lib.ListN.{length, take, getD};
+ghost use Prim.Native.Nat.{ℕ, _+_, _*_, _-_, _≤_, _<_};
+ghost use lib.ListN.{length, take, drop, getD};
+ghost use lib.Seq.{sets};
 ghost use Rattle.model.specs.Choice.{ifLt};
 ghost use Rattle.model.specs.Text.{names, ends, digits, digitAt};
 ghost use Rattle.model.specs.Rows.{rowsFrom, rowLines, fileText};
@@ -11,10 +12,15 @@ ghost use Rattle.model.specs.Lists.{overwrite};
 ghost use Rattle.model.specs.Verdicts.{same, readFile};
 ghost use Rattle.codec.specs.Scanning.{figureAt, endedAt, valueAt, lineAt, LineSays, RowSays, startsNamed};
 ghost use Rattle.codec.specs.Parsing.{Parses};
-ghost use Rattle.codec.specs.Writing.{one, two, valueText, rowText, Puts};
+ghost use Rattle.codec.specs.Writing.{one, two, valueText, rowText, Puts, Spills, shortTexts};
 
 // The line of names.
 const NAMES: [u8; 33] = *b"block,kind,label,a,b,c,d,e,f,g,h\n";
+
+// The values below 264, each with its comma in four bytes, filled up with commas, and then how many of the four count. No value of
+// accepted rows is larger.
+const TEXTS: [u8; 1320] =
+    *b"0,,,21,,,22,,,23,,,24,,,25,,,26,,,27,,,28,,,29,,,210,,311,,312,,313,,314,,315,,316,,317,,318,,319,,320,,321,,322,,323,,324,,325,,326,,327,,328,,329,,330,,331,,332,,333,,334,,335,,336,,337,,338,,339,,340,,341,,342,,343,,344,,345,,346,,347,,348,,349,,350,,351,,352,,353,,354,,355,,356,,357,,358,,359,,360,,361,,362,,363,,364,,365,,366,,367,,368,,369,,370,,371,,372,,373,,374,,375,,376,,377,,378,,379,,380,,381,,382,,383,,384,,385,,386,,387,,388,,389,,390,,391,,392,,393,,394,,395,,396,,397,,398,,399,,3100,4101,4102,4103,4104,4105,4106,4107,4108,4109,4110,4111,4112,4113,4114,4115,4116,4117,4118,4119,4120,4121,4122,4123,4124,4125,4126,4127,4128,4129,4130,4131,4132,4133,4134,4135,4136,4137,4138,4139,4140,4141,4142,4143,4144,4145,4146,4147,4148,4149,4150,4151,4152,4153,4154,4155,4156,4157,4158,4159,4160,4161,4162,4163,4164,4165,4166,4167,4168,4169,4170,4171,4172,4173,4174,4175,4176,4177,4178,4179,4180,4181,4182,4183,4184,4185,4186,4187,4188,4189,4190,4191,4192,4193,4194,4195,4196,4197,4198,4199,4200,4201,4202,4203,4204,4205,4206,4207,4208,4209,4210,4211,4212,4213,4214,4215,4216,4217,4218,4219,4220,4221,4222,4223,4224,4225,4226,4227,4228,4229,4230,4231,4232,4233,4234,4235,4236,4237,4238,4239,4240,4241,4242,4243,4244,4245,4246,4247,4248,4249,4250,4251,4252,4253,4254,4255,4256,4257,4258,4259,4260,4261,4262,4263,4";
 
 // What a file says: how many rows it has, or why it is refused.
 pub enum Parsed {
@@ -248,8 +254,14 @@ pub fn parse(file: &[u8], rows: &mut [u32; 11264]) -> Parsed
     refuse(2, 1)
 }
 
+fn wide(x: u32) -> usize
+    ensures { λ r. ⌜ r ≡ x ⌝ }
+{
+    x as usize
+}
+
 // 1 where v reaches a limit, and 0 below it.
-fn reaches(v: u32, limit: u32) -> usize
+fn reaches(v: u32, limit: u32) -> u32
     ensures { λ r. ⌜ r ≡ ifLt v limit 0 1 ⌝ }
     ensures { λ r. ⌜ r ≤ 1 ⌝ }
 {
@@ -260,7 +272,7 @@ fn reaches(v: u32, limit: u32) -> usize
 }
 
 // How many digits a number is written with.
-fn width(v: u32) -> usize
+fn width(v: u32) -> u32
     ensures { λ r. ⌜ r ≡ length (digits v) ⌝ }
     ensures { λ r. ⌜ r ≤ 5 ⌝ }
 {
@@ -273,13 +285,13 @@ pub fn measure(xs: &[u32], n: usize) -> usize
     ensures { λ r. ⌜ r ≡ length (fileText (rowsFrom (now (xs .entry)) 0 n)) ⌝ }
 {
     let m = n * 11;
-    let mut sum: usize = 33;
+    let mut sum: u32 = 33;
     let mut i = 0;
     while i < m {
         sum = sum + width(xs[i]) + 1;
         i += 1;
     }
-    sum
+    wide(sum)
 }
 
 // The last digit of a number.
@@ -341,19 +353,55 @@ fn put_value(v: u32, end: u8, out: &mut [u8], at: usize) -> usize
     i + 1
 }
 
+// The number that a digit stands for.
+fn number_of(b: u8) -> usize
+    requires { ⌜ 48 ≤ b ⌝ }
+    ensures { λ r. ⌜ (r ≡ b - 48) × (r < 256) ⌝ }
+{
+    (b - 48) as usize
+}
+
+// Copies four bytes.
+fn copy_four(from: &[u8], i: usize, out: &mut [u8], at: usize)
+    requires { ⌜ (i + 4 ≤ length (now from)) × (at + 4 ≤ length (now out)) ⌝ }
+    ensures { λ _. ⌜ now (out .exit) ≡ sets (now (out .entry)) at (take 4 (drop i (now (from .entry)))) ⌝ }
+{
+    let a = from[i];
+    let b = from[i + 1];
+    let c = from[i + 2];
+    let d = from[i + 3];
+    out[at] = a;
+    out[at + 1] = b;
+    out[at + 2] = c;
+    out[at + 3] = d;
+}
+
+// Writes a value and a comma. Up to two bytes behind them change too: what is written next goes there.
+fn put_comma(v: u32, texts: &[u8], out: &mut [u8], at: usize) -> usize
+    requires { ⌜ (now texts ≡ shortTexts 0 264) × (at + length (valueText v 44) + 2 ≤ length (now out)) ⌝ }
+    ensures { λ r. ⌜ Spills (valueText v 44) (now (out .entry)) at r (now (out .exit)) ⌝ }
+{
+    if v < 264 {
+        let i = wide(v) * 5;
+        copy_four(texts, i, out, at);
+        return at + number_of(texts[i + 4]);
+    }
+    put_value(v, 44, out, at)
+}
+
 // Writes the line of row r.
-fn put_row(xs: &[u32], r: usize, out: &mut [u8], from: usize) -> usize
-    requires { ⌜ (r * 11 + 11 ≤ length (now xs)) × (from + length (rowText (now xs) r) ≤ length (now out)) ⌝ }
+fn put_row(xs: &[u32], r: usize, texts: &[u8], out: &mut [u8], from: usize) -> usize
+    requires { ⌜ (r * 11 + 11 ≤ length (now xs)) × (now texts ≡ shortTexts 0 264) × (from + length (rowText (now xs) r) ≤ length (now out)) ⌝ }
     ensures { λ p. ⌜ Puts (rowText (now (xs .entry)) r) (now (out .entry)) from p (now (out .exit)) ⌝ }
 {
     let a = r * 11;
     let mut at = from;
     let mut c = 0;
-    while c < 11 {
-        at = put_value(xs[a + c], end_of(c), out, at);
+    while c < 10 {
+        at = put_comma(xs[a + c], texts, out, at);
         c += 1;
     }
-    at
+    put_value(xs[a + 10], 10, out, at)
 }
 
 // Writes bytes to the start of a list.
@@ -377,18 +425,26 @@ fn put_names(out: &mut [u8]) -> usize
     put_bytes(&NAMES, out)
 }
 
-// Writes the lines of n rows.
-fn put_rows(xs: &[u32], n: usize, out: &mut [u8], from: usize) -> usize
-    requires { ⌜ (n * 11 ≤ length (now xs)) × (from + length (rowLines (rowsFrom (now xs) 0 n)) ≤ length (now out)) ⌝ }
+// Writes the lines of n rows, with the table of texts.
+fn put_lines(xs: &[u32], n: usize, texts: &[u8], out: &mut [u8], from: usize) -> usize
+    requires { ⌜ (n * 11 ≤ length (now xs)) × (now texts ≡ shortTexts 0 264) × (from + length (rowLines (rowsFrom (now xs) 0 n)) ≤ length (now out)) ⌝ }
     ensures { λ p. ⌜ Puts (rowLines (rowsFrom (now (xs .entry)) 0 n)) (now (out .entry)) from p (now (out .exit)) ⌝ }
 {
     let mut at = from;
     let mut r = 0;
     while r < n {
-        at = put_row(xs, r, out, at);
+        at = put_row(xs, r, texts, out, at);
         r += 1;
     }
     at
+}
+
+// Writes the lines of n rows.
+fn put_rows(xs: &[u32], n: usize, out: &mut [u8], from: usize) -> usize
+    requires { ⌜ (n * 11 ≤ length (now xs)) × (from + length (rowLines (rowsFrom (now xs) 0 n)) ≤ length (now out)) ⌝ }
+    ensures { λ p. ⌜ Puts (rowLines (rowsFrom (now (xs .entry)) 0 n)) (now (out .entry)) from p (now (out .exit)) ⌝ }
+{
+    put_lines(xs, n, &TEXTS, out, from)
 }
 
 // Writes the file of n rows.

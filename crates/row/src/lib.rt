@@ -2,6 +2,7 @@
 ghost use mathlib.Core.Path.{_≡_};
 ghost use Prim.Native.Nat.{ℕ, _+_, _*_, _-_, _≤_, _<_};
 ghost use lib.ListN.{length, getD};
+ghost use Rattle.model.specs.Choice.{ifLt};
 ghost use Rattle.model.specs.Rules.{every, isCue, isZero, differs, distinct};
 ghost use Rattle.row.specs.Cells.{cells, keyBelow};
 ghost use Rattle.row.specs.Faults.{namedFault, openFault, linkOrder, useOrder, linkFault, useFault, faultOf};
@@ -34,22 +35,31 @@ fn every_cue(xs: &[u32], p: usize, n: usize, cues: u32) -> bool
     true
 }
 
-// They are all 0.
-fn every_zero(xs: &[u32], p: usize, n: usize) -> bool
-    requires { ⌜ p + n ≤ length (now xs) ⌝ }
-    ensures { λ r. ⌜ r ≡ every isZero (cells (now (xs .entry)) p n) ⌝ }
+// Number i, or 0 where it is one of the first `many`.
+fn left_over(x: u32, i: usize, many: usize) -> u32
+    ensures { λ r. ⌜ r ≡ ifLt i many 0 x ⌝ }
 {
-    let mut i = 0;
-    while i < n {
-        if xs[p + i] != 0 {
-            return false;
-        }
-        i += 1;
+    if i < many {
+        return 0;
     }
-    true
+    x
 }
 
-// They all differ from x.
+// Of the eight numbers from p on, all behind the first `many` are 0. All eight are read, with no exit: that is the fastest.
+fn every_zero(xs: &[u32], p: usize, many: usize) -> bool
+    requires { ⌜ (p + 8 ≤ length (now xs)) × (many ≤ 8) ⌝ }
+    ensures { λ r. ⌜ r ≡ every isZero (cells (now (xs .entry)) (p + many) (8 - many)) ⌝ }
+{
+    let mut all = 0;
+    let mut i = 0;
+    while i < 8 {
+        all = all | left_over(xs[p + i], i, many);
+        i += 1;
+    }
+    all == 0
+}
+
+// The n numbers from p on all differ from x.
 fn every_other(xs: &[u32], p: usize, n: usize, x: u32) -> bool
     requires { ⌜ p + n ≤ length (now xs) ⌝ }
     ensures { λ r. ⌜ r ≡ every (differs x) (cells (now (xs .entry)) p n) ⌝ }
@@ -64,15 +74,15 @@ fn every_other(xs: &[u32], p: usize, n: usize, x: u32) -> bool
     true
 }
 
-// No number stands twice among them.
+// No number stands twice among them: each differs from all before it.
 fn all_distinct(xs: &[u32], p: usize, n: usize) -> bool
     requires { ⌜ p + n ≤ length (now xs) ⌝ }
     ensures { λ r. ⌜ r ≡ distinct (cells (now (xs .entry)) p n) ⌝ }
 {
-    let mut i = 0;
+    let mut i = 1;
     while i < n {
         let x = xs[p + i];
-        let apart = every_other(xs, p + i + 1, n - i - 1, x);
+        let apart = every_other(xs, p, i, x);
         if !apart {
             return false;
         }
@@ -107,7 +117,7 @@ fn named_fault(xs: &[u32], p: usize, many: usize, cues: u32) -> u32
     ensures { λ r. ⌜ r ≡ namedFault (now (xs .entry)) p many cues ⌝ }
 {
     if every_cue(xs, p + 3, many, cues) {
-        if every_zero(xs, p + 3 + many, 8 - many) {
+        if every_zero(xs, p + 3, many) {
             if all_distinct(xs, p + 3, many) {
                 return 0;
             }
@@ -134,7 +144,7 @@ fn open_fault(xs: &[u32], p: usize, blocks: u32) -> u32
     if MAX_OWN < xs[p + 3] {
         return 6;
     }
-    if every_zero(xs, p + 4, 7) {
+    if every_zero(xs, p + 3, 1) {
         return 0;
     }
     6

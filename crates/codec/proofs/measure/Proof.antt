@@ -44,6 +44,9 @@ loop-less c = search needs
 loop-again : tie.Need-loop-again Inv-loop μ-loop
 loop-again c = (search needs, search needs, search (width-turn, needs))
 
+wide-requires : tie.Need-wide-requires Inv-loop μ-loop
+wide-requires c κs = search needs
+
 returns : tie.Need-returns Inv-loop μ-loop
 returns c = search (width-end, needs)
 
@@ -63,4 +66,5 @@ measure-spec =
     add-i
     loop-less
     loop-again
+    wide-requires
     returns)

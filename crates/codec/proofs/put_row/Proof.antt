@@ -4,17 +4,17 @@ use mathlib.Core.Path.{_≡_}
 use lib.ListN.{length}
 use borrow.Author.Needs.{needs}
 use Rattle.codec.specs.Writing.{rowText}
-use Rattle.codec.proofs.RowStores.{rowLeft, row-begin, row-room, row-on, row-done}
-use Rattle.codec.proofs.Stores.{Stored, stored-end}
+use Rattle.codec.proofs.RowStores.{rowLeft, row-begin, row-room, row-on, last-room, row-end}
+use Rattle.codec.proofs.Spills.{Spilled}
 use Rattle.codec.proofs.put_row.Statement.{statement}
 use Rattle.codec.proofs.put_row.Tie as tie
 
 abbrev Inv-loop : tie.InvT-loop
-Inv-loop xs r out₀ from a at₀ c₀ out at c =
-    (c ≤ 11) × (length out ≡ length out₀) × Stored (rowText xs r) (rowLeft xs r c) out₀ from at out
+Inv-loop xs r texts out₀ from a at₀ c₀ out at c =
+    (c ≤ 10) × (length out ≡ length out₀) × Spilled (rowText xs r) (rowLeft xs r c) out₀ from at out
 
 abbrev μ-loop : tie.MeasureT-loop
-μ-loop xs r out₀ from a at₀ c₀ out at c = 11 - c
+μ-loop xs r texts out₀ from a at₀ c₀ out at c = 10 - c
 
 mul-a : tie.Need-mul-a Inv-loop μ-loop
 mul-a c = search needs
@@ -22,20 +22,17 @@ mul-a c = search needs
 loop-holds : tie.Need-loop-holds Inv-loop μ-loop
 loop-holds c = (search needs, search needs, search (row-begin, needs))
 
-add-put-value : tie.Need-add-put-value Inv-loop μ-loop
-add-put-value c = search needs
+add-put-comma : tie.Need-add-put-comma Inv-loop μ-loop
+add-put-comma c = search needs
 
-mul-put-value : tie.Need-mul-put-value Inv-loop μ-loop
-mul-put-value c = search needs
+mul-put-comma : tie.Need-mul-put-comma Inv-loop μ-loop
+mul-put-comma c = search needs
 
-shared-slice-read-put-value : tie.Need-shared-slice-read-put-value Inv-loop μ-loop
-shared-slice-read-put-value c = search needs
+shared-slice-read-put-comma : tie.Need-shared-slice-read-put-comma Inv-loop μ-loop
+shared-slice-read-put-comma c = search needs
 
-end-of-requires : tie.Need-end-of-requires Inv-loop μ-loop
-end-of-requires c κs = search needs
-
-put-value-requires : tie.Need-put-value-requires Inv-loop μ-loop
-put-value-requires c κs = search (row-room, needs)
+put-comma-requires : tie.Need-put-comma-requires Inv-loop μ-loop
+put-comma-requires c κs = (search needs, search (row-room, needs))
 
 add-c : tie.Need-add-c Inv-loop μ-loop
 add-c c = search needs
@@ -46,11 +43,23 @@ loop-less c = search needs
 loop-again : tie.Need-loop-again Inv-loop μ-loop
 loop-again c = (search needs, search needs, search (row-on, needs))
 
+add-put-value : tie.Need-add-put-value Inv-loop μ-loop
+add-put-value c = search needs
+
+mul-put-value : tie.Need-mul-put-value Inv-loop μ-loop
+mul-put-value c = search needs
+
+shared-slice-read-put-value : tie.Need-shared-slice-read-put-value Inv-loop μ-loop
+shared-slice-read-put-value c = search needs
+
+put-value-requires : tie.Need-put-value-requires Inv-loop μ-loop
+put-value-requires c κs = search (last-room, needs)
+
 same-length : tie.Need-same-length Inv-loop μ-loop
 same-length c = search needs
 
 returns : tie.Need-returns Inv-loop μ-loop
-returns c = search (stored-end, row-done, needs)
+returns c = search (row-end, needs)
 
 pub put-row-spec : {M : Type 1} → statement M
 put-row-spec =
@@ -60,13 +69,16 @@ put-row-spec =
     μ-loop
     mul-a
     loop-holds
-    add-put-value
-    mul-put-value
-    shared-slice-read-put-value
-    end-of-requires
-    put-value-requires
+    add-put-comma
+    mul-put-comma
+    shared-slice-read-put-comma
+    put-comma-requires
     add-c
     loop-less
     loop-again
+    add-put-value
+    mul-put-value
+    shared-slice-read-put-value
+    put-value-requires
     same-length
     returns)

@@ -1,53 +1,25 @@
--- The lines of rows are stored row by row. The loop's invariant: what is left of them from row r on.
-use Prim.Native.Nat.{_-_, _≤_}
-use mathlib.Core.Path.{_≡_}
-use lib.ListN.{length}
+-- The lines of rows are stored with the table of texts.
+use mathlib.Core.Path.{refl}
 use borrow.Author.Needs.{needs}
-use Rattle.model.specs.Rows.{rowsFrom, rowLines}
-use Rattle.codec.proofs.RowStores.{rows-begin, rows-room, rows-on, rows-done}
-use Rattle.codec.proofs.Stores.{Stored, stored-end}
+use Rattle.model.specs.Choice.{ifLt}
+use Rattle.model.specs.Text.{digits, digitAt}
+use Rattle.codec.specs.Writing.{valueText, fourBytes, shortText, shortTexts}
 use Rattle.codec.proofs.put_rows.Statement.{statement}
 use Rattle.codec.proofs.put_rows.Tie as tie
 
-abbrev Inv-loop : tie.InvT-loop
-Inv-loop xs n out₀ from at₀ r₀ out at r =
-    (r ≤ n) × (length out ≡ length out₀)
-    × Stored (rowLines (rowsFrom xs 0 n)) (rowLines (rowsFrom xs r (n - r))) out₀ from at out
+slice-aggregate-put-lines : tie.Need-slice-aggregate-put-lines
+slice-aggregate-put-lines c = search needs
 
-abbrev μ-loop : tie.MeasureT-loop
-μ-loop xs n out₀ from at₀ r₀ out at r = n - r
+put-lines-requires : tie.Need-put-lines-requires
+unfolding shortTexts shortText fourBytes valueText digits digitAt ifLt
+put-lines-requires c κs = (search needs, refl, search needs)
 
-loop-holds : tie.Need-loop-holds Inv-loop μ-loop
-loop-holds c = (search needs, search needs, search (rows-begin, needs))
-
-put-row-requires : tie.Need-put-row-requires Inv-loop μ-loop
-put-row-requires c κs = (search needs, search (rows-room, needs))
-
-add-r : tie.Need-add-r Inv-loop μ-loop
-add-r c = search needs
-
-loop-less : tie.Need-loop-less Inv-loop μ-loop
-loop-less c = search needs
-
-loop-again : tie.Need-loop-again Inv-loop μ-loop
-loop-again c = (search needs, search needs, search (rows-on, needs))
-
-same-length : tie.Need-same-length Inv-loop μ-loop
+same-length : tie.Need-same-length
 same-length c = search needs
 
-returns : tie.Need-returns Inv-loop μ-loop
-returns c = search (stored-end, rows-done, needs)
+returns : tie.Need-returns
+returns c = search needs
 
 pub put-rows-spec : {M : Type 1} → statement M
 put-rows-spec =
-    tie.close
-    (tie.spec
-    Inv-loop
-    μ-loop
-    loop-holds
-    put-row-requires
-    add-r
-    loop-less
-    loop-again
-    same-length
-    returns)
+    tie.close (tie.spec slice-aggregate-put-lines put-lines-requires same-length returns)

@@ -1,56 +1,42 @@
+-- All eight numbers are read. The loop's invariant: what is left to test, if all so far are 0.
+use Prim.Native.Nat.{_-_, _≤_}
 use borrow.Author.Needs.{needs}
-use native.Mathlib.Omega.{arith}
-use Prim.Native.Nat.{_+_, _-_, _≤_}
-use mathlib.Core.Path.{_≡_}
-use Rattle.model.specs.Rules.{every, isCue, isZero, differs, distinct}
-use Rattle.row.specs.Cells.{cells}
-use Rattle.row.proofs.Laws.{every-begin, every-stop, every-on, every-done, zero-yes, zero-no}
+use Rattle.row.proofs.Laws.{ZeroRest, zeros-begin, zeros-on, zeros-done}
 use Rattle.row.proofs.every_zero.Statement.{statement}
 use Rattle.row.proofs.every_zero.Tie as tie
-use Rattle.row.proofs.every_zero.Reads as reads
-use Rattle.row.proofs.every_zero.Lts as lts
 
 abbrev Inv-loop : tie.InvT-loop
-Inv-loop xs p n i₀ i = (i ≤ n) × (every isZero (cells xs p n) ≡ every isZero (cells xs (p + i) (n - i)))
+Inv-loop xs p many all₀ i₀ all i = (i ≤ 8) × ZeroRest xs p many i all
 
 abbrev μ-loop : tie.MeasureT-loop
-μ-loop xs p n i₀ i = n - i
+μ-loop xs p many all₀ i₀ all i = 8 - i
 
--- src/lib.rt:53:5
 loop-holds : tie.Need-loop-holds Inv-loop μ-loop
-loop-holds c = search (every-begin, needs)
+loop-holds c = (search needs, zeros-begin _ _ _)
 
--- src/lib.rt:54:15
-add-if1 : tie.Need-add-if1 Inv-loop μ-loop
-add-if1 c = search needs
+add-left-over : tie.Need-add-left-over Inv-loop μ-loop
+add-left-over c = search needs
 
--- src/lib.rt:54:12
-mul-if1 : tie.Need-mul-if1 Inv-loop μ-loop
-mul-if1 c = search needs
+mul-left-over : tie.Need-mul-left-over Inv-loop μ-loop
+mul-left-over c = search needs
 
--- src/lib.rt:54:12
-shared-slice-read-if1 : tie.Need-shared-slice-read-if1 Inv-loop μ-loop
-shared-slice-read-if1 c = search needs
+shared-slice-read-left-over : tie.Need-shared-slice-read-left-over Inv-loop μ-loop
+shared-slice-read-left-over c = search needs
 
--- src/lib.rt:55:13
-returns : tie.Need-returns Inv-loop μ-loop
-returns c = search (every-stop, zero-no, needs)
+left-over-requires : tie.Need-left-over-requires Inv-loop μ-loop
+left-over-requires c κs = search needs
 
--- src/lib.rt:57:9
 add-i : tie.Need-add-i Inv-loop μ-loop
 add-i c = search needs
 
--- src/lib.rt:53:5
 loop-less : tie.Need-loop-less Inv-loop μ-loop
 loop-less c = search needs
 
--- src/lib.rt:53:5
 loop-again : tie.Need-loop-again Inv-loop μ-loop
-loop-again c = search (every-on, zero-yes, needs)
+loop-again c = (search needs, search (zeros-on, needs))
 
--- src/lib.rt:48:1
-returns-2 : tie.Need-returns-2 Inv-loop μ-loop
-returns-2 c = search (every-done, needs)
+returns : tie.Need-returns Inv-loop μ-loop
+returns c = search (zeros-done, needs)
 
 pub every-zero-spec : {M : Type 1} → statement M
 every-zero-spec =
@@ -59,11 +45,11 @@ every-zero-spec =
     Inv-loop
     μ-loop
     loop-holds
-    add-if1
-    mul-if1
-    shared-slice-read-if1
-    returns
+    add-left-over
+    mul-left-over
+    shared-slice-read-left-over
+    left-over-requires
     add-i
     loop-less
     loop-again
-    returns-2)
+    returns)

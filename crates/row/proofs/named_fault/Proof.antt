@@ -22,14 +22,6 @@ every-cue-requires c κs = search needs
 add-every-zero : tie.Need-add-every-zero
 add-every-zero c = search needs
 
--- src/lib.rt:114:27
-add-every-zero-2 : tie.Need-add-every-zero-2
-add-every-zero-2 c = search needs
-
--- src/lib.rt:114:41
-sub-every-zero : tie.Need-sub-every-zero
-sub-every-zero c = search needs
-
 -- src/lib.rt:114:12
 every-zero-requires : tie.Need-every-zero-requires
 every-zero-requires c κs = search needs
@@ -69,8 +61,6 @@ named-fault-spec =
     add-every-cue
     every-cue-requires
     add-every-zero
-    add-every-zero-2
-    sub-every-zero
     every-zero-requires
     add-all-distinct
     all-distinct-requires

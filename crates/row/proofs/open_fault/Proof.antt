@@ -2,6 +2,7 @@ use borrow.Author.Needs.{needs}
 use native.Mathlib.Omega.{arith}
 use Rattle.theory.proofs.Choices.{ifs}
 use Rattle.row.specs.Faults.{openFault}
+use Rattle.row.proofs.Laws.{open-zeros}
 use Rattle.row.proofs.open_fault.Statement.{statement}
 use Rattle.row.proofs.open_fault.Tie as tie
 use Rattle.row.proofs.open_fault.Reads as reads
@@ -71,12 +72,12 @@ every-zero-requires c κs = search needs
 -- src/lib.rt:142:9
 returns-5 : tie.Need-returns-5
 unfolding openFault
-returns-5 c = search (ifs, needs) depth 14
+returns-5 c = search (ifs, open-zeros, needs) depth 14
 
 -- src/lib.rt:125:1
 returns-6 : tie.Need-returns-6
 unfolding openFault
-returns-6 c = search (ifs, needs) depth 14
+returns-6 c = search (ifs, open-zeros, needs) depth 14
 
 pub open-fault-spec : {M : Type 1} → statement M
 open-fault-spec =
