@@ -7,9 +7,10 @@ use mathlib.Core.Bool.{Bool, true, false}
 use mathlib.Core.Logic.{_⊎_, inl, inr}
 use mathlib.Core.List.{List, [], _∷_}
 use lib.ListN.{length, getD, set, List·getD-eq-default}
+use lib.Seq.{getD-set-same, getD-set-other}
 use Rattle.model.specs.Limits.{noChain}
 use Rattle.model.specs.Rows.{cell}
-use Rattle.distance.specs.Rounds.{orb, sum, Edges, One, Span, LinkEdge, Fan, Mesh, joinsBy, ownBy, UseEdge, BlockEdge, Runs, none, more, Still, Round, quiet, moved, Settled}
+use Rattle.distance.specs.Rounds.{orb, sum, Edges, One, Span, LinkEdge, Fan, Mesh, joinsBy, ownBy, UseEdge, BlockEdge, Lowered, Runs, none, more, Still, Round, quiet, moved, Settled, Fell, same, less}
 
 pub past : (xs : List ℕ) (i : ℕ) → length xs ≤ i → 0 ≡ getD xs i 0
 past xs i h = sym (List·getD-eq-default xs 0 h)
@@ -39,18 +40,40 @@ sum-set (x ∷ d) (suc v) y h = let k : sum (set d v y) < sum d = sum-set d v y 
 -- Runs go on, and over more edges.
 pub runs-on : {W : Edges} {d e f : List ℕ} → Runs W d e → Runs W e f → Runs W d f
 runs-on r (none q) = rw (← q) at r
-runs-on r (more e u v w s m l k q) = more e u v w (runs-on r s) m l k q
+runs-on r (more e s l) = more e (runs-on r s) l
+
+lowered-wider : {W X : Edges} {d e : List ℕ} → ((u v w : ℕ) → W u v w → X u v w) → Lowered W d e → Lowered X d e
+lowered-wider {W} {X} {d} {e} f l = record { lower = l .lower; from = λ v. from v (l .from v) }
+  where
+    from : (v : ℕ) → (getD e v 0 ≡ getD d v 0) ⊎ ((u w : ℕ) × W u v w × (getD e v 0 ≡ getD d u 0 + w))
+        → (getD e v 0 ≡ getD d v 0) ⊎ ((u w : ℕ) × X u v w × (getD e v 0 ≡ getD d u 0 + w))
+    from v (inl p) = inl p
+    from v (inr (u, w, i, p)) = inr (u, w, f u v w i, p)
 
 pub runs-wider : {W X : Edges} {d e : List ℕ} → ((u v w : ℕ) → W u v w → X u v w) → Runs W d e → Runs X d e
 runs-wider f (none q) = none q
-runs-wider f (more e u v w s m l k q) = more e u v w (runs-wider f s) (f u v w m) l k q
+runs-wider f (more e s l) = more e (runs-wider f s) (lowered-wider f l)
 
 -- One edge that improves a label, and one that does not.
-pub round-put : (d : List ℕ) (u v w x y z : ℕ) → x ≡ getD d u 0 → y ≡ getD d v 0 → z ≡ w → x + z < y → y ≤ noChain
-    → Round (One u v w) d true (set d v (x + z))
-round-put d u v w x y z ex ey ez l k =
-    rw (ex, ez)
-    (moved refl (more d u v w (none refl) (refl, refl, refl) (rw (ex, ey, ez) at l) (rw ey at k) refl) (sum-set d v (getD d u 0 + w) (rw (ex, ey, ez) at l)))
+lowered-set : (d : List ℕ) (u v w : ℕ) → getD d u 0 + w < getD d v 0 → Lowered (One u v w) d (set d v (getD d u 0 + w))
+lowered-set d u v w l = record { lower = λ a. lower a (ℕ-discrete a v); from = λ a. from a (ℕ-discrete a v) }
+  where
+    at : getD (set d v (getD d u 0 + w)) v 0 ≡ getD d u 0 + w
+    at = getD-set-same d v (getD d u 0 + w) 0 (inside d v (getD d u 0 + w) l)
+
+    lower : (a : ℕ) → Dec (a ≡ v) → getD (set d v (getD d u 0 + w)) a 0 ≤ getD d a 0
+    lower a (yes p) = rw p (omega (arith, at))
+    lower a (no n) = omega (arith, getD-set-other d v a (getD d u 0 + w) 0 n)
+
+    from : (a : ℕ) → Dec (a ≡ v)
+        → (getD (set d v (getD d u 0 + w)) a 0 ≡ getD d a 0) ⊎ ((b x : ℕ) × One u v w b a x × (getD (set d v (getD d u 0 + w)) a 0 ≡ getD d b 0 + x))
+    from a (yes p) = inr (u, w, (refl, p, refl), rw p at)
+    from a (no n) = inl (getD-set-other d v a (getD d u 0 + w) 0 n)
+
+pub round-put : (d : List ℕ) (u v w x y z : ℕ) → x ≡ getD d u 0 → y ≡ getD d v 0 → z ≡ w → x + z < y → Round (One u v w) d true (set d v (x + z))
+round-put d u v w x y z ex ey ez l =
+    let h : getD d u 0 + w < getD d v 0 = rw (ex, ey, ez) at l in
+    rw (ex, ez) (moved refl (more d (none refl) (lowered-set d u v w h)) (sum-set d v (getD d u 0 + w) h))
 
 pub round-out : (d : List ℕ) (u v w x y z : ℕ) → y ≡ getD d v 0 → x + z < y → length d ≤ v → Round (One u v w) d true d
 round-out d u v w x y z ey l k = let e : getD d v 0 ≡ 0 = sym (past d v k) in absurd (omega arith)
@@ -165,3 +188,17 @@ round-falls (moved p m n) o = n
 pub round-last : {W : Edges} {d e f : List ℕ} {c : Bool} → Runs W d e → Round W e c f → c ≡ false → Settled W d f
 round-last r (quiet p q s) o = record { runs = rw (← q) at r; still = rw (← q) at s }
 round-last r (moved p m n) o = absurd (true-not-false p o)
+
+-- Labels that fell or did not, one after the other.
+pub fell-none : (d : List ℕ) → Fell d false d
+fell-none d = same refl refl
+
+pub fell-put : (d : List ℕ) (v y : ℕ) → y < getD d v 0 → Fell d true (set d v y)
+fell-put d v y h = less refl (sum-set d v y h)
+
+pub fell-more : {d e f : List ℕ} {b c t : Bool} → Fell d b e → Fell e c f → t ≡ orb b c → Fell d t f
+unfolding orb
+fell-more (same p q) (same p′ q′) o = same (o ∙ (rw (p, p′))) (q′ ∙ q)
+fell-more (same p q) (less p′ n) o = less (o ∙ (rw (p, p′))) (rw q at n)
+fell-more (less p n) (same p′ q) o = less (o ∙ (rw p)) (rw (← q) at n)
+fell-more {d} {f = f} (less p n) (less p′ n′) o = let h : sum f < sum d = omega arith in less (o ∙ (rw p)) h

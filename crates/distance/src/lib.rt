@@ -2,11 +2,13 @@
 
 ghost use mathlib.Core.Path.{_≡_};
 ghost use Prim.Native.Nat.{ℕ, _+_, _*_, _-_, _≤_, _<_};
+ghost use mathlib.Core.Logic.{_⊎_};
+ghost use mathlib.Core.Bool.{false};
 ghost use mathlib.Core.List.{_++_};
 ghost use lib.ListN.{length, getD, take, drop, replicate};
 ghost use Rattle.model.specs.Rows.{cell};
 ghost use Rattle.distance.specs.Rounds.{orb, Span, One, LinkEdge, Fan, Mesh, joinsBy, ownBy, UseEdge, Ordered};
-ghost use Rattle.distance.specs.Rounds.{BlockEdge, Round, Settled};
+ghost use Rattle.distance.specs.Rounds.{BlockEdge, Round, Settled, Fell, Least, Line, Lines, Alike};
 ghost use Rattle.distance.specs.Starts.{Nowhere, Cell, Only, Either, MetAt, JoinsAt, PassedOn, Started, Merged, Spread};
 ghost use Rattle.distance.specs.Starts.{RowKept, Filled, Below};
 ghost use Rattle.distance.specs.Copies.{stepRow, blockOn, Gathered, Traced, Fits, cuesBy, FromRow, Source, heldOn};
@@ -77,6 +79,47 @@ fn improve(d: &mut [u32], u: usize, v: usize, w: u32) -> bool
     false
 }
 
+// A label to begin with, where it is less than the one there: says whether it is.
+fn put(d: &mut [u32], v: usize, y: u32) -> bool
+    ensures { λ r. ⌜ Merged (Cell v y) (now (d .entry)) (now (d .exit)) × Fell (now (d .entry)) r (now (d .exit)) ⌝ }
+{
+    if v < d.len() {
+        if y < d[v] {
+            d[v] = y;
+            return true;
+        }
+    }
+    false
+}
+
+// Labels to begin with at m cues that stand from place p on: says whether any is less than the one there.
+fn put_met(xs: &[u32], p: usize, kept: &[u32], q: usize, m: usize, d: &mut [u32]) -> bool
+    requires { ⌜ (p + m < 1099511627776) × (q + m < 1099511627776) ⌝ }
+    ensures { λ r. ⌜ Merged (MetAt (now (xs .entry)) p (now (kept .entry)) q m) (now (d .entry)) (now (d .exit))
+        × Fell (now (d .entry)) r (now (d .exit)) ⌝ }
+{
+    let mut fell = false;
+    let mut i = 0;
+    while i < m {
+        let f = put(d, place(xs, p + i), get(kept, q + i));
+        fell = either(fell, f);
+        i += 1;
+    }
+    fell
+}
+
+// The labels of m cues that stand from place p on, into the first m of e.
+fn gather(xs: &[u32], p: usize, d: &[u32], m: usize, e: &mut [u32])
+    requires { ⌜ (p + m < 1099511627776) × (m ≤ length (now e)) ⌝ }
+    ensures { λ _. ⌜ Gathered (now (xs .entry)) p (now (d .entry)) m (now (e .entry)) (now (e .exit)) ⌝ }
+{
+    let mut i = 0;
+    while i < m {
+        e[i] = get(d, place(xs, p + i));
+        i += 1;
+    }
+}
+
 // The edges of one cue of a use: m is how many it names, from place p on; the weights stand from place q on.
 fn relax_from(
     xs: &[u32],
@@ -120,8 +163,8 @@ fn relax_cue(
     false
 }
 
-// The edges of a use that names m cues.
-fn relax_use(xs: &[u32], work: &[u32], p: usize, q: usize, m: usize, d: &mut [u32]) -> bool
+// The edges of a use that names m cues, one by one.
+fn relax_few(xs: &[u32], work: &[u32], p: usize, q: usize, m: usize, d: &mut [u32]) -> bool
     requires { ⌜ (p + m < 1099511627776) × (q + 9 * m < 1099511627776) ⌝ }
     ensures { λ r. ⌜ Round (Mesh (now (xs .entry)) (now (work .entry)) p q m m) (now (d .entry)) r (now (d .exit)) ⌝ }
 {
@@ -134,6 +177,108 @@ fn relax_use(xs: &[u32], work: &[u32], p: usize, q: usize, m: usize, d: &mut [u3
         i += 1;
     }
     changed
+}
+
+fn least(a: u32, b: u32) -> u32
+    ensures { λ r. ⌜ (r ≤ a) × (r ≤ b) × ((r ≡ a) ⊎ ((r ≡ b) × (b < a))) ⌝ }
+{
+    if b < a { b } else { a }
+}
+
+// The smaller of a label y and the sum of a label x and a weight w.
+fn lowered(y: u32, x: u32, w: u32) -> u32
+    ensures { λ r. ⌜ Least y x w r ⌝ }
+{
+    let room = 4294967295 - x;
+    least(y, x + least(w, room))
+}
+
+// Eight labels, lowered by a label x and the eight weights from place q on.
+fn lower_line(work: &[u32], q: usize, x: u32, e: &mut [u32])
+    requires { ⌜ (q + 8 ≤ length (now work)) × (length (now e) ≡ 8) ⌝ }
+    ensures { λ _. ⌜ Line (now (work .entry)) q x (now (e .entry)) 8 (now (e .exit)) ⌝ }
+{
+    let mut j = 0;
+    while j < 8 {
+        e[j] = lowered(e[j], x, work[q + j]);
+        j += 1;
+    }
+}
+
+// The same, where x is a label at all.
+fn lower_by(work: &[u32], q: usize, x: u32, e: &mut [u32])
+    requires { ⌜ (q + 8 ≤ length (now work)) × (length (now e) ≡ 8) ⌝ }
+    ensures { λ _. ⌜ Line (now (work .entry)) q x (now (e .entry)) 8 (now (e .exit)) ⌝ }
+{
+    if x < 4294967295 {
+        lower_line(work, q, x, e);
+    }
+}
+
+// Eight labels, lowered by the labels g and the 64 weights from place q on.
+fn lower_lines(work: &[u32], q: usize, g: &[u32], e: &mut [u32])
+    requires { ⌜ (q + 64 ≤ length (now work)) × (length (now g) ≡ 8) × (length (now e) ≡ 8) ⌝ }
+    ensures { λ _. ⌜ Lines (now (work .entry)) q (now (g .entry)) (now (e .entry)) 8 (now (e .exit)) ⌝ }
+{
+    let mut i = 0;
+    while i < 8 {
+        lower_by(work, q + 8 * i, g[i], e);
+        i += 1;
+    }
+}
+
+fn unlike(a: u32, b: u32) -> bool
+    ensures { λ r. ⌜ (r ≡ false → a ≡ b) ⌝ }
+{
+    if a == b {
+        return false;
+    }
+    true
+}
+
+// Whether eight labels differ from eight others.
+fn differ(a: &[u32], b: &[u32]) -> bool
+    requires { ⌜ (length (now a) ≡ 8) × (length (now b) ≡ 8) ⌝ }
+    ensures { λ r. ⌜ Alike r (now (a .entry)) (now (b .entry)) 8 ⌝ }
+{
+    let mut found = false;
+    let mut i = 0;
+    while i < 8 {
+        let u = unlike(a[i], b[i]);
+        found = either(found, u);
+        i += 1;
+    }
+    found
+}
+
+// The edges of a use that names m cues, all from the labels before: eight at a time.
+fn relax_many(xs: &[u32], work: &[u32], p: usize, q: usize, m: usize, d: &mut [u32]) -> bool
+    requires { ⌜ (p + m < 1099511627776) × (m ≤ 8) × (q + 64 ≤ length (now work)) ⌝ }
+    ensures { λ r. ⌜ Round (Mesh (now (xs .entry)) (now (work .entry)) p q m m) (now (d .entry)) r (now (d .exit)) ⌝ }
+{
+    let mut old = [4294967295u32; 8];
+    gather(xs, p, d, m, &mut old);
+    let mut new = old;
+    lower_lines(work, q, &old, &mut new);
+    if differ(&old, &new) {
+        return put_met(xs, p, &new, 0, m, d);
+    }
+    false
+}
+
+// The edges of a use that names m cues.
+fn relax_use(xs: &[u32], work: &[u32], p: usize, q: usize, m: usize, d: &mut [u32]) -> bool
+    requires { ⌜ (p + m < 1099511627776) × (q + 9 * m < 1099511627776) ⌝ }
+    ensures { λ r. ⌜ Round (Mesh (now (xs .entry)) (now (work .entry)) p q m m) (now (d .entry)) r (now (d .exit)) ⌝ }
+{
+    if 2 < m {
+        if m <= 8 {
+            if q + 64 <= work.len() {
+                return relax_many(xs, work, p, q, m, d);
+            }
+        }
+    }
+    relax_few(xs, work, p, q, m, d)
 }
 
 // The joins of a block.
@@ -222,17 +367,6 @@ fn clear(d: &mut [u32], n: usize)
     while c <= n {
         d[c] = 4294967295;
         c += 1;
-    }
-}
-
-// A label to begin with.
-fn put(d: &mut [u32], v: usize, y: u32)
-    ensures { λ _. ⌜ Merged (Cell v y) (now (d .entry)) (now (d .exit)) ⌝ }
-{
-    if v < d.len() {
-        if y < d[v] {
-            d[v] = y;
-        }
     }
 }
 
@@ -336,18 +470,6 @@ pub fn summarise(xs: &[u32], t: &[u32; 512], blocks: usize, work: &mut [u32])
     wipe(&mut work[a..16384]);
 }
 
-// Labels to begin with at m cues that stand from place p on.
-fn put_met(xs: &[u32], p: usize, kept: &[u32], q: usize, m: usize, d: &mut [u32])
-    requires { ⌜ (p + m < 1099511627776) × (q + m < 1099511627776) ⌝ }
-    ensures { λ _. ⌜ Merged (MetAt (now (xs .entry)) p (now (kept .entry)) q m) (now (d .entry)) (now (d .exit)) ⌝ }
-{
-    let mut i = 0;
-    while i < m {
-        put(d, place(xs, p + i), get(kept, q + i));
-        i += 1;
-    }
-}
-
 // And at m cues from p on.
 fn put_joins(p: usize, e: &[u32], m: usize, d: &mut [u32])
     requires { ⌜ p + m < 1099511627776 ⌝ }
@@ -356,18 +478,6 @@ fn put_joins(p: usize, e: &[u32], m: usize, d: &mut [u32])
     let mut i = 0;
     while i < m {
         put(d, p + i, get(e, i));
-        i += 1;
-    }
-}
-
-// The labels of m cues that stand from place p on.
-fn gather(xs: &[u32], p: usize, d: &[u32], m: usize, e: &mut [u32])
-    requires { ⌜ (p + m < 1099511627776) × (m ≤ length (now e)) ⌝ }
-    ensures { λ _. ⌜ Gathered (now (xs .entry)) p (now (d .entry)) m (now (e .exit)) ⌝ }
-{
-    let mut i = 0;
-    while i < m {
-        e[i] = get(d, place(xs, p + i));
         i += 1;
     }
 }
