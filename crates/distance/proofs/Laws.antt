@@ -140,6 +140,57 @@ module _ (xs work : List ℕ) (p q : ℕ) where
   unfolding Mesh
   mesh-more m i a x ea y o = span-more (λ i. Fan xs work (getD xs (p + i) 0) p (q + 8 * i) m) 0 i (omega arith) x (rw ea at y) o
 
+  -- Edges from a cue to itself improve none, so that they may be left out.
+  round-loops : {W X : Edges} {d e : List ℕ} {t : Bool} → ((u v w : ℕ) → W u v w → X u v w) → ((u v w : ℕ) → X u v w → W u v w ⊎ (u ≡ v))
+      → Round W d t e → Round X d t e
+  round-loops {W} {X} {d} {e} into back (quiet o r s) = quiet o r (λ u v w i. at u v w (back u v w i))
+    where
+      at : (u v w : ℕ) → W u v w ⊎ (u ≡ v) → getD d v 0 ≤ getD d u 0 + w
+      at u v w (inl i) = s u v w i
+      at u v w (inr h) = rw h (omega arith)
+  round-loops into back (moved o r n) = moved o (runs-wider into r) n
+
+  pub mesh-loop : (m : ℕ) (d : List ℕ) → m < 2 → Round (Mesh xs work p q m m) d false d
+  unfolding Mesh Fan
+  mesh-loop m d h = quiet refl refl still
+    where
+      still : Still (Mesh xs work p q m m) d
+      still u v w (i, _, hi, (j, _, hj, (eu, ev, ew))) =
+          let e : i ≡ j = omega arith in
+          let s : u ≡ v = eu ∙ ap (λ (k : ℕ). getD xs (p + k) 0) e ∙ sym ev in rw s (omega arith)
+
+  -- Two cues: the edges from one to the other.
+  pub mesh-pair : (a b x y : ℕ) {d e f : List ℕ} {s c t : Bool} → a ≡ getD xs p 0 → b ≡ getD xs (p + 1) 0 → x ≡ getD work (q + 1) 0
+      → y ≡ getD work (q + 8) 0 → Round (One a b x) d s e → Round (One b a y) e c f → t ≡ orb s c → Round (Mesh xs work p q 2 2) d t f
+  unfolding Mesh Fan
+  mesh-pair a b x y ea eb ex ey r r′ o =
+      round-loops {W = λ u v w. One a b x u v w ⊎ One b a y u v w} (λ u v w i. into u v w i)
+      (λ u v w (i, _, hi, (j, _, hj, (eu, ev, ew))). back u v w i j hi hj eu ev ew)
+      (round-then (λ u v w i. inl i) (λ u v w i. inr i) (λ u v w i. i) r r′ o)
+    where
+      first : a ≡ getD xs (p + 0) 0
+      first = let z : p ≡ p + 0 = omega arith in ea ∙ ap (λ (k : ℕ). getD xs k 0) z
+
+      forth : x ≡ getD work (q + 8 * 0 + 1) 0
+      forth = let z : q + 1 ≡ q + 8 * 0 + 1 = omega arith in ex ∙ ap (λ (k : ℕ). getD work k 0) z
+
+      up : y ≡ getD work (q + 8 * 1 + 0) 0
+      up = let z : q + 8 ≡ q + 8 * 1 + 0 = omega arith in ey ∙ ap (λ (k : ℕ). getD work k 0) z
+
+      into : (u v w : ℕ) → One a b x u v w ⊎ One b a y u v w → Mesh xs work p q 2 2 u v w
+      into u v w (inl (eu, ev, ew)) = (0, omega arith, omega arith, (1, omega arith, omega arith, (eu ∙ first, ev ∙ eb, ew ∙ forth)))
+      into u v w (inr (eu, ev, ew)) = (1, omega arith, omega arith, (0, omega arith, omega arith, (eu ∙ eb, ev ∙ first, ew ∙ up)))
+
+      back : (u v w i j : ℕ) → i < 2 → j < 2 → u ≡ getD xs (p + i) 0 → v ≡ getD xs (p + j) 0 → w ≡ getD work (q + 8 * i + j) 0
+          → (One a b x u v w ⊎ One b a y u v w) ⊎ (u ≡ v)
+      back u v w zero zero hi hj eu ev ew = inr (eu ∙ sym ev)
+      back u v w zero (suc zero) hi hj eu ev ew = inl (inl (eu ∙ sym first, ev ∙ sym eb, ew ∙ sym forth))
+      back u v w (suc zero) zero hi hj eu ev ew = inl (inr (eu ∙ sym eb, ev ∙ sym first, ew ∙ sym up))
+      back u v w (suc zero) (suc zero) hi hj eu ev ew = inr (eu ∙ sym ev)
+      back u v w zero (suc (suc j)) hi hj eu ev ew = absurd (omega arith)
+      back u v w (suc zero) (suc (suc j)) hi hj eu ev ew = absurd (omega arith)
+      back u v w (suc (suc i)) j hi hj eu ev ew = absurd (omega arith)
+
 -- The rows of a block.
 pub joins-by : (xs t : List ℕ) (b f m : ℕ) → f ≡ getD t (4 * b) 0 → m ≡ getD xs (f * 11 + 2) 0 → m ≡ joinsBy xs t b
 unfolding joinsBy cell

@@ -47,9 +47,6 @@ const KEPT: usize = 1024;
 
 const LABELS: usize = 264;
 
-// Up to this many cues a use is relaxed pair by pair.
-const FEW: usize = 2;
-
 // The fewest follow-ons from one cue to another, or none.
 pub enum Answer {
     Steps(u32),
@@ -192,7 +189,7 @@ fn relax_cue(
 }
 
 // The edges of a use that names m cues, one by one.
-fn relax_few(xs: &[u32], work: &[u32], p: usize, q: usize, m: usize, d: &mut [u32]) -> bool
+fn relax_each(xs: &[u32], work: &[u32], p: usize, q: usize, m: usize, d: &mut [u32]) -> bool
     requires { ⌜ (p + m < 1099511627776) × (q + 9 * m < 1099511627776) ⌝ }
     ensures { λ r. ⌜ Round (Mesh (now (xs .entry)) (now (work .entry)) p q m m) (now (d .entry)) r (now (d .exit)) ⌝ }
 {
@@ -294,19 +291,35 @@ fn relax_many(xs: &[u32], work: &[u32], p: usize, q: usize, m: usize, d: &mut [u
     false
 }
 
-// The edges of a use that names m cues.
+// The edges of a use that names two cues, from one to the other.
+fn relax_pair(xs: &[u32], work: &[u32], p: usize, q: usize, d: &mut [u32]) -> bool
+    requires { ⌜ (p < 1099511627776) × (q < 1099511627776) ⌝ }
+    ensures { λ r. ⌜ Round (Mesh (now (xs .entry)) (now (work .entry)) p q 2 2) (now (d .entry)) r (now (d .exit)) ⌝ }
+{
+    let a = place(xs, p);
+    let b = place(xs, p + 1);
+    let c = improve(d, a, b, get(work, q + 1));
+    let e = improve(d, b, a, get(work, q + JOINS));
+    either(c, e)
+}
+
+// The edges of a use that names m cues; a cue's edge to itself improves nothing.
 fn relax_use(xs: &[u32], work: &[u32], p: usize, q: usize, m: usize, d: &mut [u32]) -> bool
     requires { ⌜ (p + m < 1099511627776) × (q + 9 * m < 1099511627776) ⌝ }
     ensures { λ r. ⌜ Round (Mesh (now (xs .entry)) (now (work .entry)) p q m m) (now (d .entry)) r (now (d .exit)) ⌝ }
 {
-    if FEW < m {
-        if m <= JOINS {
-            if q + SUMMARY <= work.len() {
-                return relax_many(xs, work, p, q, m, d);
-            }
+    if m < 2 {
+        return false;
+    }
+    if m == 2 {
+        return relax_pair(xs, work, p, q, d);
+    }
+    if m <= JOINS {
+        if q + SUMMARY <= work.len() {
+            return relax_many(xs, work, p, q, m, d);
         }
     }
-    relax_few(xs, work, p, q, m, d)
+    relax_each(xs, work, p, q, m, d)
 }
 
 // The joins of a block.

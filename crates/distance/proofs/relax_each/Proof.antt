@@ -1,4 +1,4 @@
--- `distance::relax_few` meets its contract. The invariant: a round over the edges from the cues passed.
+-- `distance::relax_each` meets its contract. The invariant: a round over the edges from the cues passed.
 use Prim.Native.Nat.{_-_, _≤_}
 use native.Mathlib.Omega.{arith}
 use mathlib.Core.Path.{_≡_}
@@ -6,8 +6,8 @@ use lib.ListN.{length}
 use borrow.Author.Needs.{needs}
 use Rattle.distance.specs.Rounds.{Mesh, Round}
 use Rattle.distance.proofs.Laws.{mesh-none, mesh-more}
-use Rattle.distance.proofs.relax_few.Statement.{statement}
-use Rattle.distance.proofs.relax_few.Tie as tie
+use Rattle.distance.proofs.relax_each.Statement.{statement}
+use Rattle.distance.proofs.relax_each.Tie as tie
 
 abbrev Inv-loop : tie.InvT-loop
 Inv-loop xs work p q m d₀ changed₀ i₀ d changed i = (i ≤ m) × (length d ≡ length d₀) × Round (Mesh xs work p q m i) d₀ changed d
@@ -51,8 +51,8 @@ same-length c = search needs
 returns : tie.Need-returns Inv-loop μ-loop
 returns c = let e : c .before .loop .i ≡ c .before .before .before .before .before .args .m = omega arith in rw e at (c .before .loop .inv .2)
 
-pub relax-few-spec : {M : Type 1} → statement M
-relax-few-spec =
+pub relax-each-spec : {M : Type 1} → statement M
+relax-each-spec =
     tie.close
     (tie.spec
     Inv-loop
