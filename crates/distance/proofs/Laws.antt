@@ -8,7 +8,6 @@ use mathlib.Core.Logic.{_⊎_, inl, inr}
 use mathlib.Core.List.{List, [], _∷_}
 use lib.ListN.{length, getD, set, List·getD-eq-default}
 use lib.Seq.{getD-set-same, getD-set-other}
-use Rattle.model.specs.Limits.{noChain}
 use Rattle.model.specs.Rows.{cell}
 use Rattle.distance.specs.Rounds.{orb, sum, Edges, One, Span, LinkEdge, Fan, Mesh, joinsBy, ownBy, UseEdge, BlockEdge, Lowered, Runs, none, more, Still, Round, quiet, moved, Settled, Fell, same, less}
 
@@ -122,14 +121,6 @@ module _ (xs work : List ℕ) (p q : ℕ) where
       → w ≡ getD work (q + j) 0 → Round (One a b w) e c f → t ≡ orb s c → Round (Fan xs work a p q (j + 1)) d t f
   unfolding Fan
   fan-more a j b w x eb ew y o = span-more (λ j. One a (getD xs (p + j) 0) (getD work (q + j) 0)) 0 j (omega arith) x (rw (eb, ew) at y) o
-
-  -- A cue with no label improves none.
-  pub fan-skip : (a m x : ℕ) (d : List ℕ) → x ≡ getD d a 0 → noChain ≤ x → ((c : ℕ) → getD d c 0 ≤ noChain) → Round (Fan xs work a p q m) d false d
-  unfolding Fan
-  fan-skip a m x d ex h most = quiet refl refl still
-    where
-      still : Still (Fan xs work a p q m) d
-      still u v w (j, _, _, (eu, ev, ew)) = omega (arith, most v, ap (λ (c : ℕ). getD d c 0) eu)
 
   pub mesh-none : (m : ℕ) (d : List ℕ) → Round (Mesh xs work p q m 0) d false d
   unfolding Mesh

@@ -25,9 +25,6 @@ ghost use Rattle.rules.specs.Index.{Indexed};
 // No label, and no chain between two joins.
 const NO_CHAIN: u32 = 4294967295;
 
-// The same as a label in 64 bits.
-const NO_LABEL: u64 = 4294967295;
-
 // Values in a row, and numbers of a block in the index.
 const ROW: usize = 11;
 
@@ -168,26 +165,6 @@ fn relax_from(
     changed
 }
 
-// The same, where the cue has a label at all.
-fn relax_cue(
-    xs: &[u32],
-    work: &[u32],
-    a: usize,
-    p: usize,
-    q: usize,
-    m: usize,
-    d: &mut [u32],
-) -> bool
-    requires { ⌜ (p + m < 1099511627776) × (q + m < 1099511627776) ⌝ }
-    ensures { λ r. ⌜ Round (Fan (now (xs .entry)) (now (work .entry)) a p q m) (now (d .entry)) r (now (d .exit)) ⌝ }
-{
-    let x = label(d, a);
-    if x < NO_LABEL {
-        return relax_from(xs, work, a, p, q, m, d);
-    }
-    false
-}
-
 // The edges of a use that names m cues, one by one.
 fn relax_each(xs: &[u32], work: &[u32], p: usize, q: usize, m: usize, d: &mut [u32]) -> bool
     requires { ⌜ (p + m < 1099511627776) × (q + 9 * m < 1099511627776) ⌝ }
@@ -197,7 +174,7 @@ fn relax_each(xs: &[u32], work: &[u32], p: usize, q: usize, m: usize, d: &mut [u
     let mut i = 0;
     while i < m {
         let a = place(xs, p + i);
-        let c = relax_cue(xs, work, a, p, q + JOINS * i, m, d);
+        let c = relax_from(xs, work, a, p, q + JOINS * i, m, d);
         changed = either(changed, c);
         i += 1;
     }
@@ -303,7 +280,8 @@ fn relax_pair(xs: &[u32], work: &[u32], p: usize, q: usize, d: &mut [u32]) -> bo
     either(c, e)
 }
 
-// The edges of a use that names m cues; a cue's edge to itself improves nothing.
+// The edges of a use that names m cues; a cue's edge to itself improves nothing. In accepted rows m is at most 8 and the weights are there,
+// so that the last line is for other rows only.
 fn relax_use(xs: &[u32], work: &[u32], p: usize, q: usize, m: usize, d: &mut [u32]) -> bool
     requires { ⌜ (p + m < 1099511627776) × (q + 9 * m < 1099511627776) ⌝ }
     ensures { λ r. ⌜ Round (Mesh (now (xs .entry)) (now (work .entry)) p q m m) (now (d .entry)) r (now (d .exit)) ⌝ }

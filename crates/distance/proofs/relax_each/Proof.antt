@@ -24,14 +24,14 @@ add-place c = search needs
 place-requires : tie.Need-place-requires Inv-loop μ-loop
 place-requires c κs = search needs
 
-mul-relax-cue : tie.Need-mul-relax-cue Inv-loop μ-loop
-mul-relax-cue c = search needs
+mul-relax-from : tie.Need-mul-relax-from Inv-loop μ-loop
+mul-relax-from c = search needs
 
-add-relax-cue : tie.Need-add-relax-cue Inv-loop μ-loop
-add-relax-cue c = search needs
+add-relax-from : tie.Need-add-relax-from Inv-loop μ-loop
+add-relax-from c = search needs
 
-relax-cue-requires : tie.Need-relax-cue-requires Inv-loop μ-loop
-relax-cue-requires c κs = search needs
+relax-from-requires : tie.Need-relax-from-requires Inv-loop μ-loop
+relax-from-requires c κs = search needs
 
 either-requires : tie.Need-either-requires Inv-loop μ-loop
 either-requires c κs = search needs
@@ -60,9 +60,9 @@ relax-each-spec =
     loop-holds
     add-place
     place-requires
-    mul-relax-cue
-    add-relax-cue
-    relax-cue-requires
+    mul-relax-from
+    add-relax-from
+    relax-from-requires
     either-requires
     add-i
     loop-less
