@@ -4,10 +4,10 @@ use Prim.Native.Nat.{ℕ, zero, suc, _+_, _*_, _-_, _≤_, _<_}
 use native.Mathlib.Omega.{arith}
 use native.Mathlib.Numerals.{add-one}
 use mathlib.Core.Path.{_≡_, refl, sym, _∙_, ap}
-use mathlib.Core.Logic.{inl, inr}
+use mathlib.Core.Logic.{_⊎_, inl, inr}
 use mathlib.Core.List.{List, _∷_, map, List·Memᴰ}
-use lib.ListN.{length, getD, set}
-use lib.Seq.{getD-set-same, getD-set-other, getD-take}
+use lib.ListN.{length, getD}
+use lib.Seq.{getD-take}
 use Rattle.model.specs.Limits.{noChain}
 use Rattle.model.specs.Rows.{cell, rowAt}
 use Rattle.model.specs.Blocks.{Link, Use, Block, blockAt, joinsOf, blocksOf}
@@ -16,13 +16,13 @@ use Rattle.theory.specs.WellFormed.{Cue, GoodUse, Good}
 use Rattle.theory.proofs.AtBlock.{joins-small}
 use Rattle.theory.proofs.Members.{getD-mem, map-mem, mem-map, range-mem, range-bounds}
 use Rattle.theory.proofs.BlockAt.{joinsOf-at, good-at}
+use Rattle.theory.proofs.Walks.{Walk, lone, walk-append}
 use Rattle.theory.proofs.Chains.{each-one}
 use Rattle.theory.proofs.Closure.{Join, met-by, Local, by-link, by-use, Stable, Labels}
 use Rattle.theory.proofs.Summing.{Listed}
-use Rattle.theory.proofs.Relaxing.{Going, Put, going-on, going-done, stable-over}
+use Rattle.theory.proofs.Relaxing.{Going, going-done, stable-over}
 use Rattle.rules.specs.Index.{linkAt, linksFrom, useAt, usesFrom, blockFrom, IndexedBlock}
-use Rattle.distance.specs.Rounds.{Edges, LinkEdge, Fan, Mesh, joinsBy, UseEdge, BlockEdge, Runs, none, more, Still, Settled}
-use Rattle.distance.proofs.Laws.{inside}
+use Rattle.distance.specs.Rounds.{Edges, LinkEdge, Fan, Mesh, joinsBy, UseEdge, BlockEdge, Lowered, Runs, none, more, Still, Settled}
 
 -- The number in the work area for joins i and j of block k.
 abbrev pub numbers : List ℕ → ℕ → ℕ → ℕ → ℕ
@@ -56,19 +56,26 @@ column-at xs r (suc (suc (suc (suc (suc (suc zero)))))) h = ap (λ (k : ℕ). ge
 column-at xs r (suc (suc (suc (suc (suc (suc (suc zero))))))) h = ap (λ (k : ℕ). getD xs k 0) (omega arith)
 column-at xs r (suc (suc (suc (suc (suc (suc (suc (suc n)))))))) h = absurd (omega arith)
 
--- Improving a label puts it in.
-pub put-set : (d : List ℕ) (v y : ℕ) → v < length d → Put (labels d) v y (labels (set d v y))
-put-set d v y h = record { at = getD-set-same d v y 0 h; else = λ c n. getD-set-other d v c y 0 n }
+-- Edges of W that lower labels keep what final labels need, if each is an edge of X from a cue inside.
+lowered-going : {W X : Edges} {In : ℕ → Type 0} {begun : ℕ → ℕ → Type 0} {d e : List ℕ}
+    → ((u v w : ℕ) → W u v w → w < noChain → X u v w × In u) → Going X In noChain begun (labels d) → Lowered W d e
+    → Going X In noChain begun (labels e)
+lowered-going {W} {X} {In} {begun} {d} {e} h g l =
+    record { fallen = λ a x i b. omega (arith, g .fallen a x i b, l .lower a); attained = λ c i k. attained c i k (l .from c) }
+  where
+    attained : (c : ℕ) → In c → getD e c 0 < noChain → (getD e c 0 ≡ getD d c 0) ⊎ ((u w : ℕ) × W u c w × (getD e c 0 ≡ getD d u 0 + w))
+        → (a x m : ℕ) × In a × begun a x × Walk X c a m × (getD e c 0 ≡ x + m)
+    attained c i k (inl p) = let (a, x, m, j, b, y, q) = g .attained c i (omega arith) in (a, x, m, j, b, y, omega arith)
+    attained c i k (inr (u, w, r, p)) =
+        let (r′, i′) = h u c w r (omega arith) in
+        let (a, x, m, j, b, y, q) = g .attained u i′ (omega arith) in
+        (a, x, m + w, j, b, walk-append y (lone r′), omega arith)
 
--- Edges of W that improve labels keep what final labels need, if each is an edge of X from a cue inside.
 pub runs-going : {W X : Edges} {In : ℕ → Type 0} {begun : ℕ → ℕ → Type 0} {d e : List ℕ}
     → ((u v w : ℕ) → W u v w → w < noChain → X u v w × In u) → Going X In noChain begun (labels d) → Runs W d e
     → Going X In noChain begun (labels e)
 runs-going h g (none q) = rw (← q) at g
-runs-going {W} {X} {In} {begun} {d} h g (more {f = f} e u v w s m l k q) =
-    let (x, i) = h u v w m (omega arith) in
-    rw (← q) at
-    (going-on {W = X} {In = In} (runs-going h g s) u v w i x (omega arith) (put-set e v (getD e u 0 + w) (inside e v (getD e u 0 + w) l)))
+runs-going h g (more e s l) = lowered-going h (runs-going h g s) l
 
 module _ (xs t work : List ℕ) (good : Good (blocksOf xs)) (all : (m : ℕ) → m < length (blocksOf xs) → IndexedBlock xs t m) where
   abbrev bs : List Block

@@ -7,9 +7,9 @@ use mathlib.Core.Bool.{Bool, true, false}
 use mathlib.Core.Logic.{_⊎_, inl, inr}
 use mathlib.Core.List.{List, [], _∷_}
 use lib.ListN.{length, getD, set, List·getD-eq-default}
-use Rattle.model.specs.Limits.{noChain}
+use lib.Seq.{getD-set-same, getD-set-other}
 use Rattle.model.specs.Rows.{cell}
-use Rattle.distance.specs.Rounds.{orb, sum, Edges, One, Span, LinkEdge, Fan, Mesh, joinsBy, ownBy, UseEdge, BlockEdge, Runs, none, more, Still, Round, quiet, moved, Settled}
+use Rattle.distance.specs.Rounds.{orb, sum, Edges, One, Span, LinkEdge, Fan, Mesh, joinsBy, ownBy, UseEdge, BlockEdge, Lowered, Runs, none, more, Still, Round, quiet, moved, Settled, Fell, same, less}
 
 pub past : (xs : List ℕ) (i : ℕ) → length xs ≤ i → 0 ≡ getD xs i 0
 past xs i h = sym (List·getD-eq-default xs 0 h)
@@ -39,18 +39,40 @@ sum-set (x ∷ d) (suc v) y h = let k : sum (set d v y) < sum d = sum-set d v y 
 -- Runs go on, and over more edges.
 pub runs-on : {W : Edges} {d e f : List ℕ} → Runs W d e → Runs W e f → Runs W d f
 runs-on r (none q) = rw (← q) at r
-runs-on r (more e u v w s m l k q) = more e u v w (runs-on r s) m l k q
+runs-on r (more e s l) = more e (runs-on r s) l
+
+lowered-wider : {W X : Edges} {d e : List ℕ} → ((u v w : ℕ) → W u v w → X u v w) → Lowered W d e → Lowered X d e
+lowered-wider {W} {X} {d} {e} f l = record { lower = l .lower; from = λ v. from v (l .from v) }
+  where
+    from : (v : ℕ) → (getD e v 0 ≡ getD d v 0) ⊎ ((u w : ℕ) × W u v w × (getD e v 0 ≡ getD d u 0 + w))
+        → (getD e v 0 ≡ getD d v 0) ⊎ ((u w : ℕ) × X u v w × (getD e v 0 ≡ getD d u 0 + w))
+    from v (inl p) = inl p
+    from v (inr (u, w, i, p)) = inr (u, w, f u v w i, p)
 
 pub runs-wider : {W X : Edges} {d e : List ℕ} → ((u v w : ℕ) → W u v w → X u v w) → Runs W d e → Runs X d e
 runs-wider f (none q) = none q
-runs-wider f (more e u v w s m l k q) = more e u v w (runs-wider f s) (f u v w m) l k q
+runs-wider f (more e s l) = more e (runs-wider f s) (lowered-wider f l)
 
 -- One edge that improves a label, and one that does not.
-pub round-put : (d : List ℕ) (u v w x y z : ℕ) → x ≡ getD d u 0 → y ≡ getD d v 0 → z ≡ w → x + z < y → y ≤ noChain
-    → Round (One u v w) d true (set d v (x + z))
-round-put d u v w x y z ex ey ez l k =
-    rw (ex, ez)
-    (moved refl (more d u v w (none refl) (refl, refl, refl) (rw (ex, ey, ez) at l) (rw ey at k) refl) (sum-set d v (getD d u 0 + w) (rw (ex, ey, ez) at l)))
+lowered-set : (d : List ℕ) (u v w : ℕ) → getD d u 0 + w < getD d v 0 → Lowered (One u v w) d (set d v (getD d u 0 + w))
+lowered-set d u v w l = record { lower = λ a. lower a (ℕ-discrete a v); from = λ a. from a (ℕ-discrete a v) }
+  where
+    at : getD (set d v (getD d u 0 + w)) v 0 ≡ getD d u 0 + w
+    at = getD-set-same d v (getD d u 0 + w) 0 (inside d v (getD d u 0 + w) l)
+
+    lower : (a : ℕ) → Dec (a ≡ v) → getD (set d v (getD d u 0 + w)) a 0 ≤ getD d a 0
+    lower a (yes p) = rw p (omega (arith, at))
+    lower a (no n) = omega (arith, getD-set-other d v a (getD d u 0 + w) 0 n)
+
+    from : (a : ℕ) → Dec (a ≡ v)
+        → (getD (set d v (getD d u 0 + w)) a 0 ≡ getD d a 0) ⊎ ((b x : ℕ) × One u v w b a x × (getD (set d v (getD d u 0 + w)) a 0 ≡ getD d b 0 + x))
+    from a (yes p) = inr (u, w, (refl, p, refl), rw p at)
+    from a (no n) = inl (getD-set-other d v a (getD d u 0 + w) 0 n)
+
+pub round-put : (d : List ℕ) (u v w x y z : ℕ) → x ≡ getD d u 0 → y ≡ getD d v 0 → z ≡ w → x + z < y → Round (One u v w) d true (set d v (x + z))
+round-put d u v w x y z ex ey ez l =
+    let h : getD d u 0 + w < getD d v 0 = rw (ex, ey, ez) at l in
+    rw (ex, ez) (moved refl (more d (none refl) (lowered-set d u v w h)) (sum-set d v (getD d u 0 + w) h))
 
 pub round-out : (d : List ℕ) (u v w x y z : ℕ) → y ≡ getD d v 0 → x + z < y → length d ≤ v → Round (One u v w) d true d
 round-out d u v w x y z ey l k = let e : getD d v 0 ≡ 0 = sym (past d v k) in absurd (omega arith)
@@ -100,14 +122,6 @@ module _ (xs work : List ℕ) (p q : ℕ) where
   unfolding Fan
   fan-more a j b w x eb ew y o = span-more (λ j. One a (getD xs (p + j) 0) (getD work (q + j) 0)) 0 j (omega arith) x (rw (eb, ew) at y) o
 
-  -- A cue with no label improves none.
-  pub fan-skip : (a m x : ℕ) (d : List ℕ) → x ≡ getD d a 0 → noChain ≤ x → ((c : ℕ) → getD d c 0 ≤ noChain) → Round (Fan xs work a p q m) d false d
-  unfolding Fan
-  fan-skip a m x d ex h most = quiet refl refl still
-    where
-      still : Still (Fan xs work a p q m) d
-      still u v w (j, _, _, (eu, ev, ew)) = omega (arith, most v, ap (λ (c : ℕ). getD d c 0) eu)
-
   pub mesh-none : (m : ℕ) (d : List ℕ) → Round (Mesh xs work p q m 0) d false d
   unfolding Mesh
   mesh-none m d = span-none (λ i. Fan xs work (getD xs (p + i) 0) p (q + 8 * i) m) 0 d
@@ -116,6 +130,57 @@ module _ (xs work : List ℕ) (p q : ℕ) where
       → Round (Fan xs work a p (q + 8 * i) m) e c f → t ≡ orb s c → Round (Mesh xs work p q m (i + 1)) d t f
   unfolding Mesh
   mesh-more m i a x ea y o = span-more (λ i. Fan xs work (getD xs (p + i) 0) p (q + 8 * i) m) 0 i (omega arith) x (rw ea at y) o
+
+  -- Edges from a cue to itself improve none, so that they may be left out.
+  round-loops : {W X : Edges} {d e : List ℕ} {t : Bool} → ((u v w : ℕ) → W u v w → X u v w) → ((u v w : ℕ) → X u v w → W u v w ⊎ (u ≡ v))
+      → Round W d t e → Round X d t e
+  round-loops {W} {X} {d} {e} into back (quiet o r s) = quiet o r (λ u v w i. at u v w (back u v w i))
+    where
+      at : (u v w : ℕ) → W u v w ⊎ (u ≡ v) → getD d v 0 ≤ getD d u 0 + w
+      at u v w (inl i) = s u v w i
+      at u v w (inr h) = rw h (omega arith)
+  round-loops into back (moved o r n) = moved o (runs-wider into r) n
+
+  pub mesh-loop : (m : ℕ) (d : List ℕ) → m < 2 → Round (Mesh xs work p q m m) d false d
+  unfolding Mesh Fan
+  mesh-loop m d h = quiet refl refl still
+    where
+      still : Still (Mesh xs work p q m m) d
+      still u v w (i, _, hi, (j, _, hj, (eu, ev, ew))) =
+          let e : i ≡ j = omega arith in
+          let s : u ≡ v = eu ∙ ap (λ (k : ℕ). getD xs (p + k) 0) e ∙ sym ev in rw s (omega arith)
+
+  -- Two cues: the edges from one to the other.
+  pub mesh-pair : (a b x y : ℕ) {d e f : List ℕ} {s c t : Bool} → a ≡ getD xs p 0 → b ≡ getD xs (p + 1) 0 → x ≡ getD work (q + 1) 0
+      → y ≡ getD work (q + 8) 0 → Round (One a b x) d s e → Round (One b a y) e c f → t ≡ orb s c → Round (Mesh xs work p q 2 2) d t f
+  unfolding Mesh Fan
+  mesh-pair a b x y ea eb ex ey r r′ o =
+      round-loops {W = λ u v w. One a b x u v w ⊎ One b a y u v w} (λ u v w i. into u v w i)
+      (λ u v w (i, _, hi, (j, _, hj, (eu, ev, ew))). back u v w i j hi hj eu ev ew)
+      (round-then (λ u v w i. inl i) (λ u v w i. inr i) (λ u v w i. i) r r′ o)
+    where
+      first : a ≡ getD xs (p + 0) 0
+      first = let z : p ≡ p + 0 = omega arith in ea ∙ ap (λ (k : ℕ). getD xs k 0) z
+
+      forth : x ≡ getD work (q + 8 * 0 + 1) 0
+      forth = let z : q + 1 ≡ q + 8 * 0 + 1 = omega arith in ex ∙ ap (λ (k : ℕ). getD work k 0) z
+
+      up : y ≡ getD work (q + 8 * 1 + 0) 0
+      up = let z : q + 8 ≡ q + 8 * 1 + 0 = omega arith in ey ∙ ap (λ (k : ℕ). getD work k 0) z
+
+      into : (u v w : ℕ) → One a b x u v w ⊎ One b a y u v w → Mesh xs work p q 2 2 u v w
+      into u v w (inl (eu, ev, ew)) = (0, omega arith, omega arith, (1, omega arith, omega arith, (eu ∙ first, ev ∙ eb, ew ∙ forth)))
+      into u v w (inr (eu, ev, ew)) = (1, omega arith, omega arith, (0, omega arith, omega arith, (eu ∙ eb, ev ∙ first, ew ∙ up)))
+
+      back : (u v w i j : ℕ) → i < 2 → j < 2 → u ≡ getD xs (p + i) 0 → v ≡ getD xs (p + j) 0 → w ≡ getD work (q + 8 * i + j) 0
+          → (One a b x u v w ⊎ One b a y u v w) ⊎ (u ≡ v)
+      back u v w zero zero hi hj eu ev ew = inr (eu ∙ sym ev)
+      back u v w zero (suc zero) hi hj eu ev ew = inl (inl (eu ∙ sym first, ev ∙ sym eb, ew ∙ sym forth))
+      back u v w (suc zero) zero hi hj eu ev ew = inl (inr (eu ∙ sym eb, ev ∙ sym first, ew ∙ sym up))
+      back u v w (suc zero) (suc zero) hi hj eu ev ew = inr (eu ∙ sym ev)
+      back u v w zero (suc (suc j)) hi hj eu ev ew = absurd (omega arith)
+      back u v w (suc zero) (suc (suc j)) hi hj eu ev ew = absurd (omega arith)
+      back u v w (suc (suc i)) j hi hj eu ev ew = absurd (omega arith)
 
 -- The rows of a block.
 pub joins-by : (xs t : List ℕ) (b f m : ℕ) → f ≡ getD t (4 * b) 0 → m ≡ getD xs (f * 11 + 2) 0 → m ≡ joinsBy xs t b
@@ -165,3 +230,17 @@ round-falls (moved p m n) o = n
 pub round-last : {W : Edges} {d e f : List ℕ} {c : Bool} → Runs W d e → Round W e c f → c ≡ false → Settled W d f
 round-last r (quiet p q s) o = record { runs = rw (← q) at r; still = rw (← q) at s }
 round-last r (moved p m n) o = absurd (true-not-false p o)
+
+-- Labels that fell or did not, one after the other.
+pub fell-none : (d : List ℕ) → Fell d false d
+fell-none d = same refl refl
+
+pub fell-put : (d : List ℕ) (v y : ℕ) → y < getD d v 0 → Fell d true (set d v y)
+fell-put d v y h = less refl (sum-set d v y h)
+
+pub fell-more : {d e f : List ℕ} {b c t : Bool} → Fell d b e → Fell e c f → t ≡ orb b c → Fell d t f
+unfolding orb
+fell-more (same p q) (same p′ q′) o = same (o ∙ (rw (p, p′))) (q′ ∙ q)
+fell-more (same p q) (less p′ n) o = less (o ∙ (rw (p, p′))) (rw q at n)
+fell-more (less p n) (same p′ q) o = less (o ∙ (rw p)) (rw (← q) at n)
+fell-more {d} {f = f} (less p n) (less p′ n′) o = let h : sum f < sum d = omega arith in less (o ∙ (rw p)) h

@@ -80,11 +80,11 @@ rise-spread xs t k r l kept o j b m eo ej eb em s p g =
     spread-first (cuesBy xs t k) (FromRow xs t r l kept) (rw (eo, ej) at s) (rw (em, eb) at p) g
 
 -- And on the way down.
-pub sink-spread : (xs t : List ℕ) (k p : ℕ) {W : Edges} {S : Begun} (d₀ v : List ℕ) {g d e f : List ℕ} (o m : ℕ) → o ≡ ownBy xs t k
-    → m ≡ joinsBy xs t k → Gathered xs p d₀ m v → Started (o + m) Nowhere g → Merged (JoinsAt (o + 1) v m) g d → Merged S d e → Settled W e f
+pub sink-spread : (xs t : List ℕ) (k p : ℕ) {W : Edges} {S : Begun} (d₀ v : List ℕ) {z g d e f : List ℕ} (o m : ℕ) → o ≡ ownBy xs t k
+    → m ≡ joinsBy xs t k → Gathered xs p d₀ m z v → Started (o + m) Nowhere g → Merged (JoinsAt (o + 1) v m) g d → Merged S d e → Settled W e f
     → Spread W (cuesBy xs t k) (Either (PassedOn xs p d₀ (ownBy xs t k + 1) (joinsBy xs t k)) S) f
 unfolding JoinsAt PassedOn
-sink-spread xs t k p {W} {S} d₀ v {g} {d} {e} {f} o m eo em got s joins source settled =
+sink-spread xs t k p {W} {S} d₀ v {e = e} {f = f} o m eo em got s joins source settled =
     let all : Spread W (o + m) (Either (PassedOn xs p d₀ (o + 1) m) S) f =
     record {
       start = e;
@@ -94,7 +94,7 @@ sink-spread xs t k p {W} {S} d₀ v {g} {d} {e} {f} o m eo em got s joins source
     rw (eo, em) at all
   where
     to : (a x : ℕ) → JoinsAt (o + 1) v m a x → PassedOn xs p d₀ (o + 1) m a x
-    to a x (i, h, (q, r)) = (i, h, (q, r ∙ got i h))
+    to a x (i, h, (q, r)) = (i, h, (q, r ∙ got .at i h))
 
     back : (a x : ℕ) → PassedOn xs p d₀ (o + 1) m a x → JoinsAt (o + 1) v m a x
-    back a x (i, h, (q, r)) = (i, h, (q, r ∙ sym (got i h)))
+    back a x (i, h, (q, r)) = (i, h, (q, r ∙ sym (got .at i h)))

@@ -30,9 +30,10 @@ unfoldable pub blockOn : List ℕ → List ℕ → List ℕ → ℕ → ℕ → 
 blockOn xs t path k zero = k
 blockOn xs t path k (suc l) = cell xs (stepRow t (blockOn xs t path k l) (getD path l 0)) 2
 
--- Numbers of some cues, read off labels.
-abbrev pub Gathered : List ℕ → ℕ → List ℕ → ℕ → List ℕ → Type 0
-Gathered xs p d m e = (i : ℕ) → i < m → getD e i 0 ≡ getD d (getD xs (p + i) 0) 0
+-- Numbers of some cues, read off labels; the others are as they were.
+pub record Gathered (xs : List ℕ) (p : ℕ) (d : List ℕ) (m : ℕ) (e₀ e : List ℕ) : Type 0 where
+  pub at : (i : ℕ) → i < m → getD e i 0 ≡ getD d (getD xs (p + i) 0) 0
+  pub else : (i : ℕ) → m ≤ i → getD e i 0 ≡ getD e₀ i 0
 
 -- The blocks along a path.
 abbrev pub Traced : List ℕ → List ℕ → List ℕ → ℕ → ℕ → List ℕ → Type 0

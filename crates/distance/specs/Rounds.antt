@@ -64,11 +64,15 @@ BlockEdge xs t work k u v w =
     Span (LinkEdge xs) (getD t (4 * k) 0 + 1) (getD t (4 * k + 1) 0) u v w
     ⊎ Span (UseEdge xs t work) (getD t (4 * k + 1) 0) (getD t (4 * k + 2) 0) u v w
 
--- d becomes e by edges that improve labels.
+-- e is d with some labels lowered, each to what an edge makes of a label of d.
+pub record Lowered (W : Edges) (d e : List ℕ) : Type 0 where
+  pub lower : (v : ℕ) → getD e v 0 ≤ getD d v 0
+  pub from : (v : ℕ) → (getD e v 0 ≡ getD d v 0) ⊎ ((u w : ℕ) × W u v w × (getD e v 0 ≡ getD d u 0 + w))
+
+-- d becomes e by edges that lower labels.
 pub data Runs (W : Edges) (d : List ℕ) : List ℕ → Type 0 where
   none : {e : List ℕ} → e ≡ d → Runs W d e
-  more : {f : List ℕ} (e : List ℕ) (u v w : ℕ) → Runs W d e → W u v w → getD e u 0 + w < getD e v 0 → getD e v 0 ≤ noChain
-      → f ≡ set e v (getD e u 0 + w) → Runs W d f
+  more : {f : List ℕ} (e : List ℕ) → Runs W d e → Lowered W e f → Runs W d f
 
 -- No edge improves a label.
 abbrev pub Still : Edges → List ℕ → Type 0
@@ -83,3 +87,30 @@ pub data Round (W : Edges) (d : List ℕ) : Bool → List ℕ → Type 0 where
 pub record Settled (W : Edges) (d e : List ℕ) : Type 0 where
   pub runs : Runs W d e
   pub still : Still W e
+
+-- Labels d became e; fell says whether any did.
+pub data Fell (d : List ℕ) : Bool → List ℕ → Type 0 where
+  same : {fell : Bool} {e : List ℕ} → fell ≡ false → e ≡ d → Fell d fell e
+  less : {fell : Bool} {e : List ℕ} → fell ≡ true → sum e < sum d → Fell d fell e
+
+-- r is the smaller of a label y and the sum of a label x and a weight w; a sum over the most that 32 bits hold is none.
+pub record Least (y x w r : ℕ) : Type 0 where
+  pub old : r ≤ y
+  pub new : r ≤ x + w
+  pub from : (r ≡ y) ⊎ ((r ≡ x + w) × (r < noChain))
+
+-- The first n of the labels d became those of e, by the weights from place q on and a label x; the others are the same.
+pub record Line (work : List ℕ) (q x : ℕ) (d : List ℕ) (n : ℕ) (e : List ℕ) : Type 0 where
+  pub at : (j : ℕ) → j < n → Least (getD d j 0) x (getD work (q + j) 0) (getD e j 0)
+  pub else : (j : ℕ) → n ≤ j → getD e j 0 ≡ getD d j 0
+
+-- Eight labels d became e, by the weights of n lines from place q on and the first n of the labels g.
+pub record Lines (work : List ℕ) (q : ℕ) (g d : List ℕ) (n : ℕ) (e : List ℕ) : Type 0 where
+  pub old : (j : ℕ) → j < 8 → getD e j 0 ≤ getD d j 0
+  pub new : (i j : ℕ) → i < n → j < 8 → getD e j 0 ≤ getD g i 0 + getD work (q + 8 * i + j) 0
+  pub from : (j : ℕ) → j < 8
+      → (getD e j 0 ≡ getD d j 0) ⊎ ((i : ℕ) × (i < n) × (getD e j 0 ≡ getD g i 0 + getD work (q + 8 * i + j) 0) × (getD e j 0 < noChain))
+
+-- Unless a test says that they differ, the first n of two lists are the same.
+pub record Alike (differ : Bool) (a b : List ℕ) (n : ℕ) : Type 0 where
+  pub same : differ ≡ false → (j : ℕ) → j < n → getD a j 0 ≡ getD b j 0

@@ -2,11 +2,13 @@
 
 ghost use mathlib.Core.Path.{_≡_};
 ghost use Prim.Native.Nat.{ℕ, _+_, _*_, _-_, _≤_, _<_};
+ghost use mathlib.Core.Logic.{_⊎_};
+ghost use mathlib.Core.Bool.{false};
 ghost use mathlib.Core.List.{_++_};
 ghost use lib.ListN.{length, getD, take, drop, replicate};
 ghost use Rattle.model.specs.Rows.{cell};
 ghost use Rattle.distance.specs.Rounds.{orb, Span, One, LinkEdge, Fan, Mesh, joinsBy, ownBy, UseEdge, Ordered};
-ghost use Rattle.distance.specs.Rounds.{BlockEdge, Round, Settled};
+ghost use Rattle.distance.specs.Rounds.{BlockEdge, Round, Settled, Fell, Least, Line, Lines, Alike};
 ghost use Rattle.distance.specs.Starts.{Nowhere, Cell, Only, Either, MetAt, JoinsAt, PassedOn, Started, Merged, Spread};
 ghost use Rattle.distance.specs.Starts.{RowKept, Filled, Below};
 ghost use Rattle.distance.specs.Copies.{stepRow, blockOn, Gathered, Traced, Fits, cuesBy, FromRow, Source, heldOn};
@@ -19,6 +21,28 @@ ghost use Rattle.distance.specs.Answers.{answered, fewestIn};
 ghost use Rattle.theory.proofs.Places.{summariesTo};
 ghost use Rattle.model.specs.declared.Verdict.the-variants.{Accepted};
 ghost use Rattle.rules.specs.Index.{Indexed};
+
+// No label, and no chain between two joins.
+const NO_CHAIN: u32 = 4294967295;
+
+// Values in a row, and numbers of a block in the index.
+const ROW: usize = 11;
+
+const ENTRY: usize = 4;
+
+// Joins that a block has at most, numbers in its summary, and numbers in the work area.
+const JOINS: usize = 8;
+
+const SUMMARY: usize = 64;
+
+const WORK: usize = 16384;
+
+// Copies inside each other at most, what is kept for them, and labels: one for each cue of a block, and one at 0.
+const LEVELS: usize = 128;
+
+const KEPT: usize = 1024;
+
+const LABELS: usize = 264;
 
 // The fewest follow-ons from one cue to another, or none.
 pub enum Answer {
@@ -77,6 +101,47 @@ fn improve(d: &mut [u32], u: usize, v: usize, w: u32) -> bool
     false
 }
 
+// A label to begin with, where it is less than the one there: says whether it is.
+fn put(d: &mut [u32], v: usize, y: u32) -> bool
+    ensures { λ r. ⌜ Merged (Cell v y) (now (d .entry)) (now (d .exit)) × Fell (now (d .entry)) r (now (d .exit)) ⌝ }
+{
+    if v < d.len() {
+        if y < d[v] {
+            d[v] = y;
+            return true;
+        }
+    }
+    false
+}
+
+// Labels to begin with at m cues that stand from place p on: says whether any is less than the one there.
+fn put_met(xs: &[u32], p: usize, kept: &[u32], q: usize, m: usize, d: &mut [u32]) -> bool
+    requires { ⌜ (p + m < 1099511627776) × (q + m < 1099511627776) ⌝ }
+    ensures { λ r. ⌜ Merged (MetAt (now (xs .entry)) p (now (kept .entry)) q m) (now (d .entry)) (now (d .exit))
+        × Fell (now (d .entry)) r (now (d .exit)) ⌝ }
+{
+    let mut fell = false;
+    let mut i = 0;
+    while i < m {
+        let f = put(d, place(xs, p + i), get(kept, q + i));
+        fell = either(fell, f);
+        i += 1;
+    }
+    fell
+}
+
+// The labels of m cues that stand from place p on, into the first m of e.
+fn gather(xs: &[u32], p: usize, d: &[u32], m: usize, e: &mut [u32])
+    requires { ⌜ (p + m < 1099511627776) × (m ≤ length (now e)) ⌝ }
+    ensures { λ _. ⌜ Gathered (now (xs .entry)) p (now (d .entry)) m (now (e .entry)) (now (e .exit)) ⌝ }
+{
+    let mut i = 0;
+    while i < m {
+        e[i] = get(d, place(xs, p + i));
+        i += 1;
+    }
+}
+
 // The edges of one cue of a use: m is how many it names, from place p on; the weights stand from place q on.
 fn relax_from(
     xs: &[u32],
@@ -100,28 +165,8 @@ fn relax_from(
     changed
 }
 
-// The same, where the cue has a label at all.
-fn relax_cue(
-    xs: &[u32],
-    work: &[u32],
-    a: usize,
-    p: usize,
-    q: usize,
-    m: usize,
-    d: &mut [u32],
-) -> bool
-    requires { ⌜ (p + m < 1099511627776) × (q + m < 1099511627776) ⌝ }
-    ensures { λ r. ⌜ Round (Fan (now (xs .entry)) (now (work .entry)) a p q m) (now (d .entry)) r (now (d .exit)) ⌝ }
-{
-    let x = label(d, a);
-    if x < 4294967295 {
-        return relax_from(xs, work, a, p, q, m, d);
-    }
-    false
-}
-
-// The edges of a use that names m cues.
-fn relax_use(xs: &[u32], work: &[u32], p: usize, q: usize, m: usize, d: &mut [u32]) -> bool
+// The edges of a use that names m cues, one by one.
+fn relax_each(xs: &[u32], work: &[u32], p: usize, q: usize, m: usize, d: &mut [u32]) -> bool
     requires { ⌜ (p + m < 1099511627776) × (q + 9 * m < 1099511627776) ⌝ }
     ensures { λ r. ⌜ Round (Mesh (now (xs .entry)) (now (work .entry)) p q m m) (now (d .entry)) r (now (d .exit)) ⌝ }
 {
@@ -129,11 +174,130 @@ fn relax_use(xs: &[u32], work: &[u32], p: usize, q: usize, m: usize, d: &mut [u3
     let mut i = 0;
     while i < m {
         let a = place(xs, p + i);
-        let c = relax_cue(xs, work, a, p, q + 8 * i, m, d);
+        let c = relax_from(xs, work, a, p, q + JOINS * i, m, d);
         changed = either(changed, c);
         i += 1;
     }
     changed
+}
+
+fn least(a: u32, b: u32) -> u32
+    ensures { λ r. ⌜ (r ≤ a) × (r ≤ b) × ((r ≡ a) ⊎ ((r ≡ b) × (b < a))) ⌝ }
+{
+    if b < a { b } else { a }
+}
+
+// The smaller of a label y and the sum of a label x and a weight w.
+fn lowered(y: u32, x: u32, w: u32) -> u32
+    ensures { λ r. ⌜ Least y x w r ⌝ }
+{
+    let room = NO_CHAIN - x;
+    least(y, x + least(w, room))
+}
+
+// Eight labels, lowered by a label x and the eight weights from place q on.
+fn lower_line(work: &[u32], q: usize, x: u32, e: &mut [u32])
+    requires { ⌜ (q + 8 ≤ length (now work)) × (length (now e) ≡ 8) ⌝ }
+    ensures { λ _. ⌜ Line (now (work .entry)) q x (now (e .entry)) 8 (now (e .exit)) ⌝ }
+{
+    let mut j = 0;
+    while j < JOINS {
+        e[j] = lowered(e[j], x, work[q + j]);
+        j += 1;
+    }
+}
+
+// The same, where x is a label at all.
+fn lower_by(work: &[u32], q: usize, x: u32, e: &mut [u32])
+    requires { ⌜ (q + 8 ≤ length (now work)) × (length (now e) ≡ 8) ⌝ }
+    ensures { λ _. ⌜ Line (now (work .entry)) q x (now (e .entry)) 8 (now (e .exit)) ⌝ }
+{
+    if x < NO_CHAIN {
+        lower_line(work, q, x, e);
+    }
+}
+
+// Eight labels, lowered by the labels g and the 64 weights from place q on.
+fn lower_lines(work: &[u32], q: usize, g: &[u32], e: &mut [u32])
+    requires { ⌜ (q + 64 ≤ length (now work)) × (length (now g) ≡ 8) × (length (now e) ≡ 8) ⌝ }
+    ensures { λ _. ⌜ Lines (now (work .entry)) q (now (g .entry)) (now (e .entry)) 8 (now (e .exit)) ⌝ }
+{
+    let mut i = 0;
+    while i < JOINS {
+        lower_by(work, q + JOINS * i, g[i], e);
+        i += 1;
+    }
+}
+
+fn unlike(a: u32, b: u32) -> bool
+    ensures { λ r. ⌜ (r ≡ false → a ≡ b) ⌝ }
+{
+    if a == b {
+        return false;
+    }
+    true
+}
+
+// Whether eight labels differ from eight others.
+fn differ(a: &[u32], b: &[u32]) -> bool
+    requires { ⌜ (length (now a) ≡ 8) × (length (now b) ≡ 8) ⌝ }
+    ensures { λ r. ⌜ Alike r (now (a .entry)) (now (b .entry)) 8 ⌝ }
+{
+    let mut found = false;
+    let mut i = 0;
+    while i < JOINS {
+        let u = unlike(a[i], b[i]);
+        found = either(found, u);
+        i += 1;
+    }
+    found
+}
+
+// The edges of a use that names m cues, all from the labels before: eight at a time.
+fn relax_many(xs: &[u32], work: &[u32], p: usize, q: usize, m: usize, d: &mut [u32]) -> bool
+    requires { ⌜ (p + m < 1099511627776) × (m ≤ 8) × (q + 64 ≤ length (now work)) ⌝ }
+    ensures { λ r. ⌜ Round (Mesh (now (xs .entry)) (now (work .entry)) p q m m) (now (d .entry)) r (now (d .exit)) ⌝ }
+{
+    let mut old = [NO_CHAIN; JOINS];
+    gather(xs, p, d, m, &mut old);
+    let mut new = old;
+    lower_lines(work, q, &old, &mut new);
+    if differ(&old, &new) {
+        return put_met(xs, p, &new, 0, m, d);
+    }
+    false
+}
+
+// The edges of a use that names two cues, from one to the other.
+fn relax_pair(xs: &[u32], work: &[u32], p: usize, q: usize, d: &mut [u32]) -> bool
+    requires { ⌜ (p < 1099511627776) × (q < 1099511627776) ⌝ }
+    ensures { λ r. ⌜ Round (Mesh (now (xs .entry)) (now (work .entry)) p q 2 2) (now (d .entry)) r (now (d .exit)) ⌝ }
+{
+    let a = place(xs, p);
+    let b = place(xs, p + 1);
+    let c = improve(d, a, b, get(work, q + 1));
+    let e = improve(d, b, a, get(work, q + JOINS));
+    either(c, e)
+}
+
+// The edges of a use that names m cues; a cue's edge to itself improves nothing. In accepted rows m is at most 8 and the weights are there,
+// so that the last line is for other rows only.
+fn relax_use(xs: &[u32], work: &[u32], p: usize, q: usize, m: usize, d: &mut [u32]) -> bool
+    requires { ⌜ (p + m < 1099511627776) × (q + 9 * m < 1099511627776) ⌝ }
+    ensures { λ r. ⌜ Round (Mesh (now (xs .entry)) (now (work .entry)) p q m m) (now (d .entry)) r (now (d .exit)) ⌝ }
+{
+    if m < 2 {
+        return false;
+    }
+    if m == 2 {
+        return relax_pair(xs, work, p, q, d);
+    }
+    if m <= JOINS {
+        if q + SUMMARY <= work.len() {
+            return relax_many(xs, work, p, q, m, d);
+        }
+    }
+    relax_each(xs, work, p, q, m, d)
 }
 
 // The joins of a block.
@@ -141,7 +305,7 @@ fn joins_of(xs: &[u32], t: &[u32], b: usize) -> usize
     requires { ⌜ b ≤ 4294967295 ⌝ }
     ensures { λ r. ⌜ (r ≡ joinsBy (now (xs .entry)) (now (t .entry)) b) × (r ≤ 4294967295) ⌝ }
 {
-    place(xs, place(t, 4 * b) * 11 + 2)
+    place(xs, place(t, ENTRY * b) * ROW + 2)
 }
 
 // And its own cues.
@@ -149,7 +313,7 @@ fn own_of(xs: &[u32], t: &[u32], b: usize) -> usize
     requires { ⌜ b ≤ 4294967295 ⌝ }
     ensures { λ r. ⌜ (r ≡ ownBy (now (xs .entry)) (now (t .entry)) b) × (r ≤ 4294967295) ⌝ }
 {
-    place(xs, place(t, 4 * b) * 11 + 3)
+    place(xs, place(t, ENTRY * b) * ROW + 3)
 }
 
 // The link rows a and on, before e.
@@ -160,7 +324,7 @@ fn relax_links(xs: &[u32], a: usize, e: usize, d: &mut [u32]) -> bool
     let mut changed = false;
     let mut r = a;
     while r < e {
-        let c = improve(d, place(xs, r * 11 + 3), place(xs, r * 11 + 4), 1);
+        let c = improve(d, place(xs, r * ROW + 3), place(xs, r * ROW + 4), 1);
         changed = either(changed, c);
         r += 1;
     }
@@ -176,9 +340,9 @@ fn relax_uses(xs: &[u32], t: &[u32], work: &[u32], a: usize, e: usize, d: &mut [
     let mut changed = false;
     let mut r = a;
     while r < e {
-        let b = place(xs, r * 11 + 2);
+        let b = place(xs, r * ROW + 2);
         let m = joins_of(xs, t, b);
-        let c = relax_use(xs, work, r * 11 + 3, 64 * b, m, d);
+        let c = relax_use(xs, work, r * ROW + 3, SUMMARY * b, m, d);
         changed = either(changed, c);
         r += 1;
     }
@@ -191,9 +355,9 @@ fn relax_block(xs: &[u32], t: &[u32], work: &[u32], k: usize, d: &mut [u32]) -> 
     ensures { λ r. ⌜ Round (BlockEdge (now (xs .entry)) (now (t .entry)) (now (work .entry)) k) (now (d .entry)) r (now
         (d .exit)) ⌝ }
 {
-    let f = place(t, 4 * k);
-    let l = place(t, 4 * k + 1);
-    let e = place(t, 4 * k + 2);
+    let f = place(t, ENTRY * k);
+    let l = place(t, ENTRY * k + 1);
+    let e = place(t, ENTRY * k + 2);
     let a = relax_links(xs, f + 1, l, d);
     let c = relax_uses(xs, t, work, l, e, d);
     either(a, c)
@@ -220,19 +384,8 @@ fn clear(d: &mut [u32], n: usize)
 {
     let mut c = 0;
     while c <= n {
-        d[c] = 4294967295;
+        d[c] = NO_CHAIN;
         c += 1;
-    }
-}
-
-// A label to begin with.
-fn put(d: &mut [u32], v: usize, y: u32)
-    ensures { λ _. ⌜ Merged (Cell v y) (now (d .entry)) (now (d .exit)) ⌝ }
-{
-    if v < d.len() {
-        if y < d[v] {
-            d[v] = y;
-        }
     }
 }
 
@@ -253,20 +406,20 @@ fn keep_row(v: &mut [u32], i: usize, d: &[u32], p: usize, m: usize)
 {
     let mut j = 0;
     while j < m {
-        v[8 * i + j] = d[p + j];
+        v[JOINS * i + j] = d[p + j];
         j += 1;
     }
 }
 
 // The 64 numbers of block k, by those of the lower blocks in the work area. Labels are kept in d.
-fn block_numbers(xs: &[u32], t: &[u32], work: &[u32], k: usize, d: &mut [u32]) -> [u32; 64]
+fn block_numbers(xs: &[u32], t: &[u32], work: &[u32], k: usize, d: &mut [u32]) -> [u32; SUMMARY]
     requires { ⌜ (verdict (now xs) ≡ Accepted) × Indexed (now xs) (now t) × (k < length (blocksOf (now xs)))
         × Below (blocksOf (now xs)) k (now work) × (length (now d) ≡ 264) ⌝ }
     ensures { λ r. ⌜ r ≡ summaryOf (blocksOf (now (xs .entry))) k ⌝ }
 {
     let own = own_of(xs, t, k);
     let m = joins_of(xs, t, k);
-    let mut v = [4294967295u32; 64];
+    let mut v = [NO_CHAIN; SUMMARY];
     let mut i = 0;
     while i < m {
         from_cue(xs, t, work, k, own + m, own + 1 + i, d);
@@ -277,12 +430,12 @@ fn block_numbers(xs: &[u32], t: &[u32], work: &[u32], k: usize, d: &mut [u32]) -
 }
 
 // A block's part of the work area.
-fn fill(part: &mut [u32], v: [u32; 64])
+fn fill(part: &mut [u32], v: [u32; SUMMARY])
     requires { ⌜ length (now part) ≡ 64 ⌝ }
     ensures { λ _. ⌜ now (part .exit) ≡ v ⌝ }
 {
     let mut i = 0;
-    while i < 64 {
+    while i < SUMMARY {
         part[i] = v[i];
         i += 1;
     }
@@ -306,8 +459,8 @@ fn summarise_block(xs: &[u32], t: &[u32], k: usize, d: &mut [u32], work: &mut [u
         (64 * k + 64) (now (work .entry))) ⌝ }
 {
     let v = block_numbers(xs, t, work, k, d);
-    let a = 64 * k;
-    let e = a + 64;
+    let a = SUMMARY * k;
+    let e = a + SUMMARY;
     fill(&mut work[a..e], v);
 }
 
@@ -317,7 +470,7 @@ fn summarise_blocks(xs: &[u32], t: &[u32], blocks: usize, work: &mut [u32])
     ensures { λ _. ⌜ now (work .exit) ≡ summariesTo (blocksOf (now (xs .entry))) blocks ++ drop (64 * blocks) (now
         (work .entry)) ⌝ }
 {
-    let mut d = [0u32; 264];
+    let mut d = [0u32; LABELS];
     let mut k = 0;
     while k < blocks {
         summarise_block(xs, t, k, &mut d, work);
@@ -332,20 +485,8 @@ pub fn summarise(xs: &[u32], t: &[u32; 512], blocks: usize, work: &mut [u32])
     ensures { λ _. ⌜ now (work .exit) ≡ workAfter (blocksOf (now (xs .entry))) (now (work .entry)) ⌝ }
 {
     summarise_blocks(xs, t, blocks, work);
-    let a = 64 * blocks;
-    wipe(&mut work[a..16384]);
-}
-
-// Labels to begin with at m cues that stand from place p on.
-fn put_met(xs: &[u32], p: usize, kept: &[u32], q: usize, m: usize, d: &mut [u32])
-    requires { ⌜ (p + m < 1099511627776) × (q + m < 1099511627776) ⌝ }
-    ensures { λ _. ⌜ Merged (MetAt (now (xs .entry)) p (now (kept .entry)) q m) (now (d .entry)) (now (d .exit)) ⌝ }
-{
-    let mut i = 0;
-    while i < m {
-        put(d, place(xs, p + i), get(kept, q + i));
-        i += 1;
-    }
+    let a = SUMMARY * blocks;
+    wipe(&mut work[a..WORK]);
 }
 
 // And at m cues from p on.
@@ -360,24 +501,12 @@ fn put_joins(p: usize, e: &[u32], m: usize, d: &mut [u32])
     }
 }
 
-// The labels of m cues that stand from place p on.
-fn gather(xs: &[u32], p: usize, d: &[u32], m: usize, e: &mut [u32])
-    requires { ⌜ (p + m < 1099511627776) × (m ≤ length (now e)) ⌝ }
-    ensures { λ _. ⌜ Gathered (now (xs .entry)) p (now (d .entry)) m (now (e .exit)) ⌝ }
-{
-    let mut i = 0;
-    while i < m {
-        e[i] = get(d, place(xs, p + i));
-        i += 1;
-    }
-}
-
 // The use row of step p of block k.
 fn step_row(t: &[u32], k: usize, p: usize) -> usize
     requires { ⌜ (k ≤ 4294967295) × (p ≤ 4294967295) ⌝ }
     ensures { λ r. ⌜ (r ≡ stepRow (now (t .entry)) k p) × (r ≤ 8589934590) ⌝ }
 {
-    let e = place(t, 4 * k + 1) + p;
+    let e = place(t, ENTRY * k + 1) + p;
     if 0 < e {
         return e - 1;
     }
@@ -393,7 +522,7 @@ fn trace(xs: &[u32], t: &[u32], k: u32, path: &[u32], depth: usize, ks: &mut [u3
     let mut l = 0;
     while l < depth {
         let r = step_row(t, place(ks, l), place(path, l));
-        ks[l + 1] = get(xs, r * 11 + 2);
+        ks[l + 1] = get(xs, r * ROW + 2);
         l += 1;
     }
 }
@@ -413,9 +542,9 @@ fn rise_one(
     ensures { λ _. ⌜ Spread (BlockEdge (now (xs .entry)) (now (t .entry)) (now (work .entry)) k) (cuesBy (now (xs .entry))
         (now (t .entry)) k) (FromRow (now (xs .entry)) (now (t .entry)) r l (now (kept .entry))) (now (d .exit)) ⌝ }
 {
-    let m = joins_of(xs, t, place(xs, r * 11 + 2));
+    let m = joins_of(xs, t, place(xs, r * ROW + 2));
     clear(d, own_of(xs, t, k) + joins_of(xs, t, k));
-    put_met(xs, r * 11 + 3, kept, 8 * l, m, d);
+    put_met(xs, r * ROW + 3, kept, JOINS * l, m, d);
     settle(xs, t, work, k, d);
 }
 
@@ -465,8 +594,8 @@ fn put_source(
     if holds {
         if l < depth {
             let r = step_row(t, k, place(path, l));
-            let m = joins_of(xs, t, place(xs, r * 11 + 2));
-            put_met(xs, r * 11 + 3, kept, 8 * (l + 1), m, d);
+            let m = joins_of(xs, t, place(xs, r * ROW + 2));
+            put_met(xs, r * ROW + 3, kept, JOINS * (l + 1), m, d);
         } else {
             put(d, own, 0);
         }
@@ -497,8 +626,8 @@ fn sink_one(
 {
     let first = own_of(xs, t, k);
     let m = joins_of(xs, t, k);
-    let mut e = [0u32; 8];
-    gather(xs, r * 11 + 3, d, m, &mut e);
+    let mut e = [0u32; JOINS];
+    gather(xs, r * ROW + 3, d, m, &mut e);
     clear(d, first + m);
     put_joins(first + 1, &e, m, d);
     put_source(xs, t, k, holds, l, path, depth, own, kept, d);
@@ -548,7 +677,7 @@ fn climb(
         × (last ≡ lastBlock (blocksOf (now xs))) × (length (now kept) ≡ 1024) × (length (now d) ≡ 264) ⌝ }
     ensures { λ _. ⌜ Risen (now (xs .entry)) (now (path .entry)) depth own 0 (now (kept .exit)) (now (d .exit)) ⌝ }
 {
-    let mut ks = [0u32; 128];
+    let mut ks = [0u32; LEVELS];
     trace(xs, t, last, path, depth, &mut ks);
     let k = place(&ks, depth);
     from_cue(
@@ -592,7 +721,7 @@ fn sink(
     while l < depth {
         let p = place(path, l);
         let r = step_row(t, k, p);
-        k = place(xs, r * 11 + 2);
+        k = place(xs, r * ROW + 2);
         holds = still_holds(holds, l, other, deep, p);
         sink_one(xs, t, work, k, r, holds, l + 1, other, deep, own, kept, d);
         l += 1;
@@ -612,7 +741,7 @@ fn last_of(blocks: usize) -> u32
 fn said(x: u32) -> Answer
     ensures { λ r. ⌜ r ≡ answered (distance x) ⌝ }
 {
-    if x < 4294967295 {
+    if x < NO_CHAIN {
         return Answer::Steps(x);
     }
     Answer::None
@@ -636,8 +765,8 @@ fn between(
     ensures { λ r. ⌜ fewestIn (now (xs .entry)) (cueOf (now (xs .entry)) (now (other .entry)) deep own) (cueOf
         (now (xs .entry)) (now (path .entry)) depth aim) ≡ answered (distance r) ⌝ }
 {
-    let mut kept = [0u32; 1024];
-    let mut d = [0u32; 264];
+    let mut kept = [0u32; KEPT];
+    let mut d = [0u32; LABELS];
     climb(xs, t, work, last, other, deep, own, &mut kept, &mut d);
     sink(
         xs,

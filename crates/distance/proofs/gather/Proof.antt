@@ -1,21 +1,22 @@
 -- `distance::gather` meets its contract. The invariant: the numbers passed are the labels of their cues.
-use Prim.Native.Nat.{ℕ, _+_, _-_, _≤_, _<_}
+use Prim.Native.Nat.{_-_, _≤_}
 use native.Mathlib.Omega.{arith}
-use mathlib.Core.Path.{_∙_, ap, _≡_}
-use lib.ListN.{length, getD}
+use mathlib.Core.Path.{_≡_}
+use lib.ListN.{length}
 use borrow.Author.Needs.{needs}
-use Rattle.distance.proofs.Beginning.{agree-more}
+use Rattle.distance.specs.Copies.{Gathered}
+use Rattle.distance.proofs.Lines.{gathered-none, gathered-more}
 use Rattle.distance.proofs.gather.Statement.{statement}
 use Rattle.distance.proofs.gather.Tie as tie
 
 abbrev Inv-loop : tie.InvT-loop
-Inv-loop xs p d m e₀ i₀ e i = (i ≤ m) × (length e ≡ length e₀) × ((a : ℕ) → a < i → getD e a 0 ≡ getD d (getD xs (p + a) 0) 0)
+Inv-loop xs p d m e₀ i₀ e i = (i ≤ m) × (length e ≡ length e₀) × Gathered xs p d i e₀ e
 
 abbrev μ-loop : tie.MeasureT-loop
 μ-loop xs p d m e₀ i₀ e i = m - i
 
 loop-holds : tie.Need-loop-holds Inv-loop μ-loop
-loop-holds c = (search needs, search needs, λ a h. absurd (omega arith))
+loop-holds c = (search needs, search needs, gathered-none _ _ _ _)
 
 add-place : tie.Need-add-place Inv-loop μ-loop
 add-place c = search needs
@@ -41,18 +42,14 @@ loop-less c = search needs
 loop-again : tie.Need-loop-again Inv-loop μ-loop
 loop-again c =
     let at-place = c .before in
-    let at-loop = at-place .before .before in
-    let start = at-loop .before .before .before .before in
-    let l = at-loop .loop in
-    let a = start .args in
-    let g : c .get .result ≡ getD (a .d .now) (getD (a .xs .now) (a .p + l .i) 0) 0 = c .get .ensures ∙ ap (λ (n : ℕ). getD (a .d .now) n 0) (at-place .place .ensures .0) in
-    (search needs, search needs, (rw (← g) at (agree-more (λ i. getD (a .d .now) (getD (a .xs .now) (a .p + i) 0) 0) (l .e) (l .i) (omega arith) (l .inv .2))))
+    let l = at-place .before .before .loop in
+    (search needs, search needs, gathered-more _ _ _ _ _ _ _ _ (omega arith) (l .inv .2) (at-place .place .ensures .0) (c .get .ensures))
 
 same-length : tie.Need-same-length Inv-loop μ-loop
 same-length c = search needs
 
 returns : tie.Need-returns Inv-loop μ-loop
-returns c = λ i h. c .before .loop .inv .2 i (omega arith)
+returns c = let e : c .before .loop .i ≡ c .before .before .before .before .before .args .m = omega arith in rw e at (c .before .loop .inv .2)
 
 pub gather-spec : {M : Type 1} → statement M
 gather-spec =

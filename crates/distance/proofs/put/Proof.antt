@@ -1,6 +1,7 @@
 -- `distance::put` meets its contract.
 use borrow.Author.Needs.{needs}
 use Rattle.distance.proofs.Beginning.{merged-put, merged-kept, merged-out}
+use Rattle.distance.proofs.Laws.{fell-none, fell-put}
 use Rattle.distance.proofs.put.Statement.{statement}
 use Rattle.distance.proofs.put.Tie as tie
 
@@ -20,13 +21,13 @@ same-length : tie.Need-same-length
 same-length c = search needs
 
 returns : tie.Need-returns
-returns c = search (merged-put, needs)
+returns c = search (merged-put, fell-put, needs)
 
 returns-2 : tie.Need-returns-2
-returns-2 c = search (merged-kept, needs)
+returns-2 c = search (merged-kept, fell-none, needs)
 
 returns-3 : tie.Need-returns-3
-returns-3 c = search (merged-out, needs)
+returns-3 c = search (merged-out, fell-none, needs)
 
 pub put-spec : {M : Type 1} → statement M
 put-spec =

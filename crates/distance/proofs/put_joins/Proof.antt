@@ -37,7 +37,7 @@ loop-again : tie.Need-loop-again Inv-loop μ-loop
 loop-again c =
     let p = c .before .before in
     let l = p .before .before .before .before .loop in
-    (search needs, search needs, joins-more _ _ _ _ (l .inv .2) (p .before .get .ensures) (p .put .ensures))
+    (search needs, search needs, joins-more _ _ _ _ (l .inv .2) (p .before .get .ensures) (p .put .ensures .0))
 
 same-length : tie.Need-same-length Inv-loop μ-loop
 same-length c = search needs

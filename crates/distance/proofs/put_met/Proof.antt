@@ -4,19 +4,21 @@ use native.Mathlib.Omega.{arith}
 use mathlib.Core.Path.{_≡_}
 use lib.ListN.{length}
 use borrow.Author.Needs.{needs}
+use Rattle.distance.specs.Rounds.{Fell}
 use Rattle.distance.specs.Starts.{MetAt, Merged}
 use Rattle.distance.proofs.Beginning.{met-none, met-more}
+use Rattle.distance.proofs.Laws.{fell-none, fell-more}
 use Rattle.distance.proofs.put_met.Statement.{statement}
 use Rattle.distance.proofs.put_met.Tie as tie
 
 abbrev Inv-loop : tie.InvT-loop
-Inv-loop xs p kept q m d₀ i₀ d i = (i ≤ m) × (length d ≡ length d₀) × Merged (MetAt xs p kept q i) d₀ d
+Inv-loop xs p kept q m d₀ fell₀ i₀ d fell i = (i ≤ m) × (length d ≡ length d₀) × Merged (MetAt xs p kept q i) d₀ d × Fell d₀ fell d
 
 abbrev μ-loop : tie.MeasureT-loop
-μ-loop xs p kept q m d₀ i₀ d i = m - i
+μ-loop xs p kept q m d₀ fell₀ i₀ d fell i = m - i
 
 loop-holds : tie.Need-loop-holds Inv-loop μ-loop
-loop-holds c = (search needs, search needs, met-none _ _ _ _ _)
+loop-holds c = (search needs, search needs, met-none _ _ _ _ _, fell-none _)
 
 add-place : tie.Need-add-place Inv-loop μ-loop
 add-place c = search needs
@@ -33,6 +35,9 @@ get-requires c κs = search needs
 put-requires : tie.Need-put-requires Inv-loop μ-loop
 put-requires c κs = search needs
 
+either-requires : tie.Need-either-requires Inv-loop μ-loop
+either-requires c κs = search needs
+
 add-i : tie.Need-add-i Inv-loop μ-loop
 add-i c = search needs
 
@@ -41,15 +46,21 @@ loop-less c = search needs
 
 loop-again : tie.Need-loop-again Inv-loop μ-loop
 loop-again c =
-    let p = c .before .before in
-    let l = p .before .before .before .before .before .loop in
-    (search needs, search needs, met-more _ _ _ _ _ _ _ (l .inv .2) (p .before .before .place .ensures .0) (p .before .get .ensures) (p .put .ensures))
+    let p = c .before .before .before in
+    let l = p .before .before .before .before .before .loop in (
+      search needs,
+      search needs,
+      met-more _ _ _ _ _ _ _ (l .inv .2) (p .before .before .place .ensures .0) (p .before .get .ensures) (p .put .ensures .0),
+      fell-more (l .inv .3) (p .put .ensures .1) (c .either .ensures),
+    )
 
 same-length : tie.Need-same-length Inv-loop μ-loop
 same-length c = search needs
 
 returns : tie.Need-returns Inv-loop μ-loop
-returns c = let e : c .before .loop .i ≡ c .before .before .before .before .before .args .m = omega arith in rw e at (c .before .loop .inv .2)
+returns c =
+    let l = c .before .loop in
+    let e : l .i ≡ c .before .before .before .before .before .args .m = omega arith in ((rw e at (l .inv .2)), l .inv .3)
 
 pub put-met-spec : {M : Type 1} → statement M
 put-met-spec =
@@ -63,6 +74,7 @@ put-met-spec =
     add-get
     get-requires
     put-requires
+    either-requires
     add-i
     loop-less
     loop-again

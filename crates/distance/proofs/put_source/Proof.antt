@@ -49,7 +49,7 @@ returns c =
     let j = m .before .before in
     source-inner _ _ _ _ _ _ _ _ _ (j .before .before .before .place .result) (j .before .before .step-row .result) (j .before .place2 .result) (j .joins-of .result)
     (j .before .before .before .before .before .if1 .taken) (j .before .before .before .before .if2 .taken) (j .before .before .before .place .ensures .0)
-    (j .before .before .step-row .ensures .0) (j .before .place2 .ensures .0) (j .joins-of .ensures .0) (m .put-met .ensures)
+    (j .before .before .step-row .ensures .0) (j .before .place2 .ensures .0) (j .joins-of .ensures .0) (m .put-met .ensures .0)
 
 same-length-2 : tie.Need-same-length-2
 same-length-2 c = search needs
@@ -57,7 +57,7 @@ same-length-2 c = search needs
 returns-2 : tie.Need-returns-2
 returns-2 c =
     let p = c .before .before in
-    source-here _ _ _ _ _ _ _ _ _ (p .before .before .before .if1 .taken) (p .before .before .if2 .left) (p .put .ensures)
+    source-here _ _ _ _ _ _ _ _ _ (p .before .before .before .if1 .taken) (p .before .before .if2 .left) (p .put .ensures .0)
 
 returns-3 : tie.Need-returns-3
 returns-3 c = source-none _ _ _ _ _ _ _ _ _ _ (c .if1 .left)

@@ -1,71 +1,54 @@
--- `distance::relax_use` meets its contract. The invariant: a round over the edges from the cues passed.
-use Prim.Native.Nat.{_-_, _≤_}
-use native.Mathlib.Omega.{arith}
-use mathlib.Core.Path.{_≡_}
-use lib.ListN.{length}
+-- `distance::relax_use` meets its contract.
 use borrow.Author.Needs.{needs}
-use Rattle.distance.specs.Rounds.{Mesh, Round}
-use Rattle.distance.proofs.Laws.{mesh-none, mesh-more}
+use Rattle.distance.proofs.Laws.{mesh-loop}
 use Rattle.distance.proofs.relax_use.Statement.{statement}
 use Rattle.distance.proofs.relax_use.Tie as tie
 
-abbrev Inv-loop : tie.InvT-loop
-Inv-loop xs work p q m d₀ changed₀ i₀ d changed i = (i ≤ m) × (length d ≡ length d₀) × Round (Mesh xs work p q m i) d₀ changed d
+returns : tie.Need-returns
+returns c = mesh-loop _ _ _ _ _ _ (c .if1 .taken)
 
-abbrev μ-loop : tie.MeasureT-loop
-μ-loop xs work p q m d₀ changed₀ i₀ d changed i = m - i
+relax-pair-requires : tie.Need-relax-pair-requires
+relax-pair-requires c κs = search needs
 
-loop-holds : tie.Need-loop-holds Inv-loop μ-loop
-loop-holds c = search (mesh-none, needs)
-
-add-place : tie.Need-add-place Inv-loop μ-loop
-add-place c = search needs
-
-place-requires : tie.Need-place-requires Inv-loop μ-loop
-place-requires c κs = search needs
-
-mul-relax-cue : tie.Need-mul-relax-cue Inv-loop μ-loop
-mul-relax-cue c = search needs
-
-add-relax-cue : tie.Need-add-relax-cue Inv-loop μ-loop
-add-relax-cue c = search needs
-
-relax-cue-requires : tie.Need-relax-cue-requires Inv-loop μ-loop
-relax-cue-requires c κs = search needs
-
-either-requires : tie.Need-either-requires Inv-loop μ-loop
-either-requires c κs = search needs
-
-add-i : tie.Need-add-i Inv-loop μ-loop
-add-i c = search needs
-
-loop-less : tie.Need-loop-less Inv-loop μ-loop
-loop-less c = search needs
-
-loop-again : tie.Need-loop-again Inv-loop μ-loop
-loop-again c = (search needs, search needs, search (mesh-more, needs))
-
-same-length : tie.Need-same-length Inv-loop μ-loop
+same-length : tie.Need-same-length
 same-length c = search needs
 
-returns : tie.Need-returns Inv-loop μ-loop
-returns c = let e : c .before .loop .i ≡ c .before .before .before .before .before .args .m = omega arith in rw e at (c .before .loop .inv .2)
+returns-2 : tie.Need-returns-2
+returns-2 c = rw (c .before .before .before .before .if2 .taken) (c .before .before .relax-pair .ensures)
+
+add-if4 : tie.Need-add-if4
+add-if4 c = search needs
+
+relax-many-requires : tie.Need-relax-many-requires
+relax-many-requires c κs = search needs
+
+same-length-2 : tie.Need-same-length-2
+same-length-2 c = search needs
+
+returns-3 : tie.Need-returns-3
+returns-3 c = search needs
+
+relax-each-requires : tie.Need-relax-each-requires
+relax-each-requires c κs = search needs
+
+same-length-3 : tie.Need-same-length-3
+same-length-3 c = search needs
+
+returns-4 : tie.Need-returns-4
+returns-4 c = search needs
 
 pub relax-use-spec : {M : Type 1} → statement M
 relax-use-spec =
     tie.close
     (tie.spec
-    Inv-loop
-    μ-loop
-    loop-holds
-    add-place
-    place-requires
-    mul-relax-cue
-    add-relax-cue
-    relax-cue-requires
-    either-requires
-    add-i
-    loop-less
-    loop-again
+    returns
+    relax-pair-requires
     same-length
-    returns)
+    returns-2
+    add-if4
+    relax-many-requires
+    same-length-2
+    returns-3
+    relax-each-requires
+    same-length-3
+    returns-4)

@@ -56,7 +56,7 @@ returns c =
     let k = p .before .before .before .before in
     rise-spread _ _ _ _ _ _ (k .before .before .own-of .result) (k .before .joins-of2 .result) (k .before .before .before .before .before .place .result) (k .before .before .before .before .joins-of .result)
     (k .before .before .own-of .ensures .0) (k .before .joins-of2 .ensures .0) (k .before .before .before .before .before .place .ensures .0) (k .before .before .before .before .joins-of .ensures .0)
-    (k .clear .ensures) (p .put-met .ensures) (at-settle .settle .ensures)
+    (k .clear .ensures) (p .put-met .ensures .0) (at-settle .settle .ensures)
 
 pub rise-one-spec : {M : Type 1} → statement M
 rise-one-spec =

@@ -1,0 +1,70 @@
+-- `distance::lower_lines` meets its contract. The invariant: the labels are lowered by the lines passed.
+use Prim.Native.Nat.{_-_, _≤_}
+use native.Mathlib.Omega.{arith}
+use mathlib.Core.Path.{_≡_, refl}
+use lib.ListN.{length}
+use borrow.Author.Needs.{needs}
+use Rattle.distance.specs.Rounds.{Lines}
+use Rattle.distance.proofs.Lines.{lines-none, lines-more}
+use Rattle.distance.proofs.lower_lines.Statement.{statement}
+use Rattle.distance.proofs.lower_lines.Tie as tie
+
+abbrev Inv-loop : tie.InvT-loop
+Inv-loop work q g e₀ i₀ e i = (i ≤ 8) × (length e ≡ 8) × Lines work q g e₀ i e
+
+abbrev μ-loop : tie.MeasureT-loop
+μ-loop work q g e₀ i₀ e i = 8 - i
+
+loop-holds : tie.Need-loop-holds Inv-loop μ-loop
+loop-holds c = (search needs, search needs, lines-none _ _ _ _)
+
+mul-lower-by : tie.Need-mul-lower-by Inv-loop μ-loop
+mul-lower-by c = search needs
+
+add-lower-by : tie.Need-add-lower-by Inv-loop μ-loop
+add-lower-by c = search needs
+
+mul-lower-by-2 : tie.Need-mul-lower-by-2 Inv-loop μ-loop
+mul-lower-by-2 c = search needs
+
+shared-slice-read-lower-by : tie.Need-shared-slice-read-lower-by Inv-loop μ-loop
+shared-slice-read-lower-by c = search needs
+
+lower-by-requires : tie.Need-lower-by-requires Inv-loop μ-loop
+lower-by-requires c κs = search needs
+
+add-i : tie.Need-add-i Inv-loop μ-loop
+add-i c = search needs
+
+loop-less : tie.Need-loop-less Inv-loop μ-loop
+loop-less c = search needs
+
+loop-again : tie.Need-loop-again Inv-loop μ-loop
+loop-again c =
+    let b = c .before .before in
+    let l = b .before .before .before .before .loop in
+    (search needs, search needs, lines-more _ _ _ _ _ _ _ _ (l .inv .2) refl (b .lower-by .ensures))
+
+same-length : tie.Need-same-length Inv-loop μ-loop
+same-length c = search needs
+
+returns : tie.Need-returns Inv-loop μ-loop
+returns c = let e : c .before .loop .i ≡ 8 = omega arith in rw e at (c .before .loop .inv .2)
+
+pub lower-lines-spec : {M : Type 1} → statement M
+lower-lines-spec =
+    tie.close
+    (tie.spec
+    Inv-loop
+    μ-loop
+    loop-holds
+    mul-lower-by
+    add-lower-by
+    mul-lower-by-2
+    shared-slice-read-lower-by
+    lower-by-requires
+    add-i
+    loop-less
+    loop-again
+    same-length
+    returns)

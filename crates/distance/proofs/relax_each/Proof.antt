@@ -1,0 +1,71 @@
+-- `distance::relax_each` meets its contract. The invariant: a round over the edges from the cues passed.
+use Prim.Native.Nat.{_-_, _≤_}
+use native.Mathlib.Omega.{arith}
+use mathlib.Core.Path.{_≡_}
+use lib.ListN.{length}
+use borrow.Author.Needs.{needs}
+use Rattle.distance.specs.Rounds.{Mesh, Round}
+use Rattle.distance.proofs.Laws.{mesh-none, mesh-more}
+use Rattle.distance.proofs.relax_each.Statement.{statement}
+use Rattle.distance.proofs.relax_each.Tie as tie
+
+abbrev Inv-loop : tie.InvT-loop
+Inv-loop xs work p q m d₀ changed₀ i₀ d changed i = (i ≤ m) × (length d ≡ length d₀) × Round (Mesh xs work p q m i) d₀ changed d
+
+abbrev μ-loop : tie.MeasureT-loop
+μ-loop xs work p q m d₀ changed₀ i₀ d changed i = m - i
+
+loop-holds : tie.Need-loop-holds Inv-loop μ-loop
+loop-holds c = search (mesh-none, needs)
+
+add-place : tie.Need-add-place Inv-loop μ-loop
+add-place c = search needs
+
+place-requires : tie.Need-place-requires Inv-loop μ-loop
+place-requires c κs = search needs
+
+mul-relax-from : tie.Need-mul-relax-from Inv-loop μ-loop
+mul-relax-from c = search needs
+
+add-relax-from : tie.Need-add-relax-from Inv-loop μ-loop
+add-relax-from c = search needs
+
+relax-from-requires : tie.Need-relax-from-requires Inv-loop μ-loop
+relax-from-requires c κs = search needs
+
+either-requires : tie.Need-either-requires Inv-loop μ-loop
+either-requires c κs = search needs
+
+add-i : tie.Need-add-i Inv-loop μ-loop
+add-i c = search needs
+
+loop-less : tie.Need-loop-less Inv-loop μ-loop
+loop-less c = search needs
+
+loop-again : tie.Need-loop-again Inv-loop μ-loop
+loop-again c = (search needs, search needs, search (mesh-more, needs))
+
+same-length : tie.Need-same-length Inv-loop μ-loop
+same-length c = search needs
+
+returns : tie.Need-returns Inv-loop μ-loop
+returns c = let e : c .before .loop .i ≡ c .before .before .before .before .before .args .m = omega arith in rw e at (c .before .loop .inv .2)
+
+pub relax-each-spec : {M : Type 1} → statement M
+relax-each-spec =
+    tie.close
+    (tie.spec
+    Inv-loop
+    μ-loop
+    loop-holds
+    add-place
+    place-requires
+    mul-relax-from
+    add-relax-from
+    relax-from-requires
+    either-requires
+    add-i
+    loop-less
+    loop-again
+    same-length
+    returns)
