@@ -74,14 +74,29 @@ round-put d u v w x y z ex ey ez l =
     let h : getD d u 0 + w < getD d v 0 = rw (ex, ey, ez) at l in
     rw (ex, ez) (moved refl (more d (none refl) (lowered-set d u v w h)) (sum-set d v (getD d u 0 + w) h))
 
-pub round-out : (d : List ℕ) (u v w x y z : ℕ) → y ≡ getD d v 0 → x + z < y → length d ≤ v → Round (One u v w) d true d
-round-out d u v w x y z ey l k = let e : getD d v 0 ≡ 0 = sym (past d v k) in absurd (omega arith)
-
 pub round-kept : (d : List ℕ) (u v w x y z : ℕ) → x ≡ getD d u 0 → y ≡ getD d v 0 → z ≡ w → y ≤ x + z → Round (One u v w) d false d
 round-kept d u v w x y z ex ey ez l = quiet refl refl still
   where
     still : Still (One u v w) d
     still a b c (p, q, r) = rw (p, q, r) (rw (ex, ey, ez) at l)
+
+set-same : (d : List ℕ) (v : ℕ) → set d v (getD d v 0) ≡ d
+set-same [] v = refl
+set-same (x ∷ d) zero = refl
+set-same (x ∷ d) (suc v) = ap (λ e. x ∷ e) (set-same d v)
+
+-- The lesser of the two is put in, and c says whether the label falls.
+module _ (d : List ℕ) (u v w x y z m : ℕ) (c : Bool) (ex : x ≡ getD d u 0) (ey : y ≡ getD d v 0) (ez : z ≡ w) where
+  pub round-both : ((x + z < y) × (m ≡ x + z)) ⊎ ((y ≤ x + z) × (m ≡ y)) → ((x + z < y) × (c ≡ true)) ⊎ ((y ≤ x + z) × (c ≡ false))
+      → Round (One u v w) d c (set d v m)
+  round-both (inl (l, e)) (inl (l′, f)) = rw (e, f) (round-put d u v w x y z ex ey ez l)
+  round-both (inr (l, e)) (inr (l′, f)) = rw (e, f, ey, set-same d v) (round-kept d u v w x y z ex ey ez l)
+  round-both (inl (l, e)) (inr (l′, f)) = absurd (omega arith)
+  round-both (inr (l, e)) (inl (l′, f)) = absurd (omega arith)
+
+  pub round-past : length d ≤ v → ((x + z < y) × (c ≡ true)) ⊎ ((y ≤ x + z) × (c ≡ false)) → Round (One u v w) d c d
+  round-past k (inl (l, f)) = let e : getD d v 0 ≡ 0 = sym (past d v k) in absurd (omega arith)
+  round-past k (inr (l, f)) = rw f (round-kept d u v w x y z ex ey ez l)
 
 -- Two rounds, one after the other, are a round over the edges of both.
 pub round-then : {Q W X : Edges} {d e f : List ℕ} {b c t : Bool} → ((u v w : ℕ) → Q u v w → X u v w) → ((u v w : ℕ) → W u v w → X u v w)

@@ -3,7 +3,7 @@
 ghost use mathlib.Core.Path.{_≡_};
 ghost use Prim.Native.Nat.{ℕ, _+_, _*_, _-_, _≤_, _<_};
 ghost use mathlib.Core.Logic.{_⊎_};
-ghost use mathlib.Core.Bool.{false};
+ghost use mathlib.Core.Bool.{true, false};
 ghost use mathlib.Core.List.{_++_};
 ghost use lib.ListN.{length, getD, take, drop, replicate};
 ghost use Rattle.model.specs.Rows.{cell};
@@ -85,6 +85,27 @@ fn label(d: &[u32], c: usize) -> u64
     wide(get(d, c))
 }
 
+// The lesser of a sum and a label. Here and in the test that follows the machine takes no branch: which labels fall is not foreseeable.
+fn lesser(z: u64, y: u64) -> u32
+    requires { ⌜ y ≤ 4294967295 ⌝ }
+    ensures { λ r. ⌜ ((z < y) × (r ≡ z)) ⊎ ((y ≤ z) × (r ≡ y)) ⌝ }
+{
+    if z < y {
+        return z as u32;
+    }
+    y as u32
+}
+
+// The sum is less than the label.
+fn falls(z: u64, y: u64) -> bool
+    ensures { λ r. ⌜ ((z < y) × (r ≡ true)) ⊎ ((y ≤ z) × (r ≡ false)) ⌝ }
+{
+    if z < y {
+        return true;
+    }
+    false
+}
+
 // One edge.
 fn improve(d: &mut [u32], u: usize, v: usize, w: u32) -> bool
     ensures { λ r. ⌜ Round (One u v w) (now (d .entry)) r (now (d .exit)) ⌝ }
@@ -92,13 +113,13 @@ fn improve(d: &mut [u32], u: usize, v: usize, w: u32) -> bool
     let x = label(d, u);
     let y = label(d, v);
     let z = x + wide(w);
-    if z < y {
-        if v < d.len() {
-            d[v] = z as u32;
-        }
-        return true;
+    let m = lesser(z, y);
+    let c = falls(z, y);
+    if v < d.len() {
+        d[v] = m;
+        return c;
     }
-    false
+    c
 }
 
 // A label to begin with, where it is less than the one there: says whether it is.
