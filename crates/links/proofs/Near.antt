@@ -1,6 +1,6 @@
 -- What a block's own rows and the table say of a copy of it: which of its cues are linked, that nothing inside is, and what the parts of
 -- the copy add to the list of a cue.
-use Prim.Native.Nat.{ℕ, zero, suc, _+_, _-_, _*_, _≤_, _<_}
+use Prim.Native.Nat.{ℕ, zero, suc, _+_, _-_, _*_, _/_, _%_, _≤_, _<_}
 use native.Mathlib.Omega.{arith}
 use native.Mathlib.Decide.{decLt}
 use mathlib.Core.Path.{_≡_, refl, sym, _∙_, ap}
@@ -8,16 +8,17 @@ use mathlib.Core.Logic.{_↔_, _⊎_, inl, inr}
 use mathlib.Core.Bool.{true}
 use mathlib.Core.List.{List, [], _∷_, _++_, map, List·Memᴰ, List·Memᴰ·append-cases, Memᴰ·append-left}
 use lib.ListN.{length, getD, length-map}
-use Rattle.model.specs.Blocks.{Link, Use, Block, blockAt, joinsOf, sumOver, total}
+use Rattle.model.specs.Blocks.{Link, Use, Block, blockAt, joinsOf, ownOf, sumOver, total}
 use Rattle.model.specs.Unfolding.{cueAt, renamed, links}
 use Rattle.theory.specs.WellFormed.{Cue, GoodLink, GoodUse}
 use Rattle.theory.proofs.Members.{getD-mem, mem-at, map-mem, mem-map, getD-map-in}
 use Rattle.theory.proofs.Ranges.{Within, inner, join, Copy, copies-use, copies-of, Inside, uses-copy, links-within, Spot, Fit, number, own-links, part-links, all-links, extent, meets, size, Own, number-own, own-own, meets-own, part-use, arity, part-range, cueAt-own, cueAt-join}
-use Rattle.theory.proofs.BlockAt.{spot, total-at, links-at, lower-at, joinsOf-at}
+use Rattle.theory.proofs.BlockAt.{spot, total-at, links-at, lower-at, joinsOf-at, ownOf-at}
 use Rattle.theory.proofs.Locality.{Sound, Part, Numbered, part-spot, part-own, not-inside, link-part, part-link, number-apart, part-sound, part-total, numbered-cases}
 use Rattle.links.specs.declared.Ask.{Ask}
 use Rattle.links.specs.Picks.{here, there, fits, Picked, wanted}
-use Rattle.links.specs.Near.{Flag, Near, by-link, by-use, Exact, ExactBelow, SameTo}
+use Rattle.links.specs.Near.{Flag, Near, by-link, by-use, Known, Exact, ExactBelow, SameTo}
+use Rattle.links.specs.Ground.{bitAt, ownBit}
 use Rattle.links.proofs.Picked.{ends-here, ends-there, both-ends, here-renamed, there-renamed, wanted-none, wanted-same, wanted-low}
 
 -- The same link in another list.
@@ -166,8 +167,21 @@ module _ (q : Ask) (bs : List Block) (m : List ℕ) (k base : ℕ) (met : List �
   pub join-cue : (i : ℕ) → i < joinsOf bs k → Cue (blockAt bs k) (blockAt bs k .own + 1 + i)
   join-cue i h = omega (arith, joinsOf-at bs k)
 
+-- A record whose bits are the linked own cues of cue c.
+pub known-near : (q : Ask) (bs : List Block) (m w : List ℕ) (at k c : ℕ) → ExactBelow q bs m k → Cue (blockAt bs k) c
+    → ((d : ℕ) → 1 ≤ d → d ≤ blockAt bs k .own → (ownBit w (at + 9) d ≡ 1) ↔ Near q m (blockAt bs k) c d) → Known q bs w at k c
+known-near q bs m w at k c below cue bits =
+    record {
+      own = λ base met g d x y.
+          let h : d ≤ blockAt bs k .own = omega (arith, ownOf-at bs k) in
+          let num : number (spot bs k base met) d ≡ base + d = cueAt-own (blockAt bs k .own) base met d h in
+          rw (links-at bs (g .good) k base met, ← num)
+          (λ f. near-picked q bs m k base met g below c d (bits d x h .0 f), λ t. bits d x h .1 (picked-near q bs m k base met g below c d cue (x, omega arith) t));
+    }
+
 -- What makes a table right for join i of block k.
 pub record Right (q : Ask) (bs : List Block) (m w : List ℕ) (k i : ℕ) : Type 0 where
+  pub bits : (d : ℕ) → 1 ≤ d → d ≤ blockAt bs k .own → (ownBit w (328 * k + 41 * i + 9) d ≡ 1) ↔ Near q m (blockAt bs k) (blockAt bs k .own + 1 + i) d
   pub across : (j : ℕ) → j < joinsOf bs k → Flag w k i j ↔ Near q m (blockAt bs k) (blockAt bs k .own + 1 + i) (blockAt bs k .own + 1 + j)
   pub own : (Flag w k i 8 → ⊥) → (d : ℕ) → 1 ≤ d → d ≤ blockAt bs k .own → Near q m (blockAt bs k) (blockAt bs k .own + 1 + i) d → ⊥
   pub uses : (Flag w k i 8 → ⊥) → (u : Use) → List·Memᴰ u (blockAt bs k .uses) → (n : ℕ) → n < length (u .at)
@@ -180,15 +194,28 @@ exact-join q bs m w k i below h r =
           (λ f. near-picked q bs m k base met g below (c i) (c j) (r .across j l .0 f), λ t. r .across j l .1 (picked-near q bs m k base met g below (c i) (c j) (join-cue q bs m k base met g below i h) (join-cue q bs m k base met g below j l) t));
       inside = λ base met g n u x y t. nothing-inside q bs m k base met g below (c i) (join-cue q bs m k base met g below i h)
           (r .own n) (r .uses n) u (omega (arith, total-at bs (g .good) k base met)) (rw (join-number q bs m k base met g below i) (rw (links-at bs (g .good) k base met) at t));
+      known = rw (ownOf-at bs k) (known-near q bs m w (328 * k + 41 * i) k (c i) below (omega (arith, joinsOf-at bs k)) (r .bits));
     }
   where
     c : ℕ → ℕ
     c i = blockAt bs k .own + 1 + i
 
 -- A table that agrees with it up to there is right too.
-pub exact-same : (q : Ask) (bs : List Block) (m w : List ℕ) (k i n : ℕ) → i < 8 → joinsOf bs k ≤ 8 → 72 * k + 9 * i + 9 ≤ n → SameTo n m w → Exact q bs m k i → Exact q bs w k i
+same-bit : (m w : List ℕ) (at d : ℕ) → getD w (at + (d - 1) / 8) 0 ≡ getD m (at + (d - 1) / 8) 0 → ownBit w at d ≡ ownBit m at d
+unfolding ownBit
+same-bit m w at d e = ap (λ (b : ℕ). bitAt b ((d - 1) % 8)) e
+
+pub known-same : (q : Ask) (bs : List Block) (m w : List ℕ) (at k c n : ℕ) → at + 41 ≤ n → SameTo n m w → Known q bs m at k c → Known q bs w at k c
+known-same q bs m w at k c n h s x =
+    record {
+      own = λ base met g d y z.
+          rw (same-bit m w (at + 9) d (s .at (at + 9 + (d - 1) / 8) (omega (arith, g .fit .good .own, ownOf-at bs k)))) (x .own base met g d y z);
+    }
+
+pub exact-same : (q : Ask) (bs : List Block) (m w : List ℕ) (k i n : ℕ) → i < 8 → joinsOf bs k ≤ 8 → 328 * k + 41 * i + 41 ≤ n → SameTo n m w → Exact q bs m k i → Exact q bs w k i
 exact-same q bs m w k i n a b h s x =
     record {
-      across = λ base met g j l. rw (s .at (72 * k + 9 * i + j) (omega arith)) (x .across base met g j l);
-      inside = λ base met g f u. x .inside base met g (rw (s .at (72 * k + 9 * i + 8) (omega arith)) at f) u;
+      across = λ base met g j l. rw (s .at (328 * k + 41 * i + j) (omega arith)) (x .across base met g j l);
+      inside = λ base met g f u. x .inside base met g (rw (s .at (328 * k + 41 * i + 8) (omega arith)) at f) u;
+      known = known-same q bs m w (328 * k + 41 * i) k (ownOf bs k + 1 + i) n h s (x .known);
     }

@@ -11,13 +11,13 @@ ghost use Rattle.model.specs.Verdicts.{verdict};
 ghost use Rattle.model.specs.declared.Verdict.the-variants.{Accepted};
 ghost use Rattle.rules.specs.Index.{Indexed, linksFrom, linkAt, useAt};
 ghost use Rattle.links.specs.Picks.{nearEnd, fits, IsLink, Picked};
-ghost use Rattle.links.specs.Near.{ByUse, ByUses, IsColumn, ByRow, Marks, Unless, NoMark, Quiet, QuietAll, Inner, Copied, JoinDone, TableTo};
+ghost use Rattle.links.specs.Near.{ByUse, ByUses, IsColumn, ByRow, Marks, Known, Unless, Quiet, QuietAll, Inner, Copied, JoinDone, TableTo};
 ghost use Rattle.links.specs.Pages.{Gives};
 ghost use Rattle.links.specs.Walks.{stepList, ownList, May, MayDoor, Walked, Entered, Door};
 ghost use Rattle.links.specs.Joins.{lesser, Next, JoinsDone};
 ghost use Rattle.links.specs.Stands.{Standing, MayStep, Stepped, ColumnsFit, MeetIs, Trail};
 ghost use Rattle.links.specs.Answer.{cueOf, linkedCues, IsListed, MayAnswer, Answered};
-ghost use Rattle.links.specs.Ground.{Ground, UseRow, Coarse, IsCue, Added, PlaceIs};
+ghost use Rattle.links.specs.Ground.{Ground, UseRow, bitAt, setBit, ownBit, IsCue, Added, PlaceIs};
 
 // What is asked for: the cues that links with labels lo to hi lead to from the cue, or inward from which they lead to it, that are greater
 // than after; and how many of them may be written.
@@ -104,40 +104,64 @@ fn near_end(q: Ask, from: u32, to: u32) -> u32
     if q.inward { to } else { from }
 }
 
-// Marks cue d of a block. Flags 0 to 263 are for cues; behind them stands one for each group of eight that has a mark.
-fn mark(s: &mut [u8; 297], d: u32)
-    requires { ⌜ length (now s) ≡ 297 ⌝ }
-    ensures { λ _. ⌜ Added (IsCue d) (now (s .entry)) (now (s .exit)) ⌝ }
+// Bit n of a byte, and the byte with that bit set.
+fn bit(b: u8, n: usize) -> u8
+    requires { ⌜ n < 8 ⌝ }
+    ensures { λ r. ⌜ r ≡ bitAt b n ⌝ }
 {
-    let i = wide(d);
-    if i < 264 {
-        s[i] = 1;
-        s[264 + i / 8] = 1;
+    (b >> n) % 2
+}
+
+fn with_bit(b: u8, n: usize) -> u8
+    requires { ⌜ n < 8 ⌝ }
+    ensures { λ r. ⌜ r ≡ setBit b n ⌝ }
+{
+    b | (1 << n)
+}
+
+// Marks cue d of a block with own own cues. In a record of 41 bytes flags 0 to 7 are for joins; flag 8 says that an own cue, or a cue
+// inside a use, is marked; 32 bytes behind them have a bit for each own cue.
+fn mark(s: &mut [u8; 41], own: u32, d: u32)
+    requires { ⌜ (length (now s) ≡ 41) × (own ≤ 255) ⌝ }
+    ensures { λ _. ⌜ Added own (IsCue d) (now (s .entry)) (now (s .exit)) ⌝ }
+{
+    if own < d {
+        let j = wide(d - own - 1);
+        if j < 8 {
+            s[j] = 1;
+        }
+        return;
+    }
+    if 0 < d {
+        let i = wide(d - 1);
+        let b = s[9 + i / 8];
+        s[9 + i / 8] = with_bit(b, i % 8);
+        s[8] = 1;
     }
 }
 
 // Marks the other end of the link of row r if the question picks it and it has one end at cue c; and so for rows a to e.
-fn mark_link(xs: &[u32], q: Ask, r: usize, c: u32, s: &mut [u8; 297])
-    requires { ⌜ (r < 4294967296) × (length (now s) ≡ 297) ⌝ }
-    ensures { λ _. ⌜ Added (IsLink q (linkAt (now (xs .entry)) r) c) (now (s .entry)) (now (s .exit)) ⌝ }
+fn mark_link(xs: &[u32], q: Ask, r: usize, own: u32, c: u32, s: &mut [u8; 41])
+    requires { ⌜ (r < 4294967296) × (length (now s) ≡ 41) × (own ≤ 255) ⌝ }
+    ensures { λ _. ⌜ Added own (IsLink q (linkAt (now (xs .entry)) r) c) (now (s .entry)) (now (s .exit)) ⌝ }
 {
     let label = value(xs, r, 2);
     if fits_label(q, label) {
         let from = value(xs, r, 3);
         let to = value(xs, r, 4);
         if near_end(q, from, to) == c {
-            mark(s, near_end(q, to, from));
+            mark(s, own, near_end(q, to, from));
         }
     }
 }
 
-fn mark_links(xs: &[u32], q: Ask, a: usize, e: usize, c: u32, s: &mut [u8; 297])
-    requires { ⌜ (e < 4294967296) × (a ≤ e) × (length (now s) ≡ 297) ⌝ }
-    ensures { λ _. ⌜ Added (Picked q (linksFrom (now (xs .entry)) a (e - a)) c) (now (s .entry)) (now (s .exit)) ⌝ }
+fn mark_links(xs: &[u32], q: Ask, a: usize, e: usize, own: u32, c: u32, s: &mut [u8; 41])
+    requires { ⌜ (e < 4294967296) × (a ≤ e) × (length (now s) ≡ 41) × (own ≤ 255) ⌝ }
+    ensures { λ _. ⌜ Added own (Picked q (linksFrom (now (xs .entry)) a (e - a)) c) (now (s .entry)) (now (s .exit)) ⌝ }
 {
     let mut r = a;
     while r < e {
-        mark_link(xs, q, r, c, s);
+        mark_link(xs, q, r, own, c, s);
         r += 1;
     }
 }
@@ -159,25 +183,25 @@ fn place(xs: &[u32], r: usize, joins: usize, c: u32) -> usize
 }
 
 // Marks the cue in a column of a use whose flag is set.
-fn mark_column(xs: &[u32], r: usize, j: usize, flag: u8, s: &mut [u8; 297])
-    requires { ⌜ (r < 4294967296) × (j < 8) × (length (now s) ≡ 297) ⌝ }
-    ensures { λ _. ⌜ Added (IsColumn (now (xs .entry)) r j flag) (now (s .entry)) (now (s .exit)) ⌝ }
+fn mark_column(xs: &[u32], r: usize, j: usize, flag: u8, own: u32, s: &mut [u8; 41])
+    requires { ⌜ (r < 4294967296) × (j < 8) × (length (now s) ≡ 41) × (own ≤ 255) ⌝ }
+    ensures { λ _. ⌜ Added own (IsColumn (now (xs .entry)) r j flag) (now (s .entry)) (now (s .exit)) ⌝ }
 {
     if flag == 1 {
         let d = value(xs, r, 3 + j);
-        mark(s, d);
+        mark(s, own, d);
     }
 }
 
 // Marks the cues that a use meets at joins linked to one of its joins, whose flags stand in the table from at on.
-fn mark_row(xs: &[u32], m: &[u8; 9216], r: usize, at: usize, joins: usize, s: &mut [u8; 297])
-    requires { ⌜ (r < 4294967296) × (joins ≤ 8) × (at + 8 ≤ 9216) × (length (now s) ≡ 297) ⌝ }
-    ensures { λ _. ⌜ Added (ByRow (now (xs .entry)) (now (m .entry)) r at joins) (now (s .entry)) (now (s .exit)) ⌝ }
+fn mark_row(xs: &[u32], m: &[u8], r: usize, at: usize, joins: usize, own: u32, s: &mut [u8; 41])
+    requires { ⌜ (r < 4294967296) × (joins ≤ 8) × (at + 8 ≤ length (now m)) × (at < 65536) × (length (now s) ≡ 41) × (own ≤ 255) ⌝ }
+    ensures { λ _. ⌜ Added own (ByRow (now (xs .entry)) (now (m .entry)) r at joins) (now (s .entry)) (now (s .exit)) ⌝ }
 {
     let mut j = 0;
     while j < joins {
         let flag = m[at + j];
-        mark_column(xs, r, j, flag, s);
+        mark_column(xs, r, j, flag, own, s);
         j += 1;
     }
 }
@@ -186,74 +210,61 @@ fn mark_row(xs: &[u32], m: &[u8; 9216], r: usize, at: usize, joins: usize, s: &m
 fn mark_use(
     xs: &[u32],
     t: &[u32; 512],
-    m: &[u8; 9216],
+    m: &[u8],
     k: usize,
     r: usize,
+    own: u32,
     c: u32,
-    s: &mut [u8; 297],
+    s: &mut [u8; 41],
 )
-    requires { ⌜ Ground (now xs) (now t) × UseRow (now xs) k r × (length (now s) ≡ 297) ⌝ }
-    ensures { λ _. ⌜ Added (ByUse (now (m .entry)) (useAt (now (xs .entry)) (blocksOf (now (xs .entry))) r) c) (now (s .entry)) (now (s .exit)) ⌝ }
+    requires { ⌜ Ground (now xs) (now t) × UseRow (now xs) k r × (328 * k + 328 ≤ length (now m)) × (length (now s) ≡ 41) × (own ≤ 255) ⌝ }
+    ensures { λ _. ⌜ Added own (ByUse (now (m .entry)) (useAt (now (xs .entry)) (blocksOf (now (xs .entry))) r) c) (now (s .entry)) (now (s .exit)) ⌝ }
 {
     let j = wide(value(xs, r, 2));
     let joins = joins_of(xs, t, j);
     let i = place(xs, r, joins, c);
     if i < joins {
-        mark_row(xs, m, r, 72 * j + 9 * i, joins, s);
+        mark_row(xs, m, r, 328 * j + 41 * i, joins, own, s);
     }
 }
 
-fn mark_uses(xs: &[u32], t: &[u32; 512], m: &[u8; 9216], k: usize, c: u32, s: &mut [u8; 297])
-    requires { ⌜ Ground (now xs) (now t) × (k < length (blocksOf (now xs))) × (length (now s) ≡ 297) ⌝ }
-    ensures { λ _. ⌜ Added (ByUses (now (m .entry)) (blockAt (blocksOf (now (xs .entry))) k .uses) c) (now (s .entry)) (now (s .exit)) ⌝ }
+fn mark_uses(xs: &[u32], t: &[u32; 512], m: &[u8], k: usize, own: u32, c: u32, s: &mut [u8; 41])
+    requires { ⌜ Ground (now xs) (now t) × (k < length (blocksOf (now xs))) × (328 * k + 328 ≤ length (now m)) × (length (now s) ≡ 41) × (own ≤ 255) ⌝ }
+    ensures { λ _. ⌜ Added own (ByUses (now (m .entry)) (blockAt (blocksOf (now (xs .entry))) k .uses) c) (now (s .entry)) (now (s .exit)) ⌝ }
 {
     let a = entry(t, k, 1);
     let e = entry(t, k, 2);
     let mut r = a;
     while r < e {
-        mark_use(xs, t, m, k, r, c, s);
+        mark_use(xs, t, m, k, r, own, c, s);
         r += 1;
     }
 }
 
 // Marks the cues of block k that are linked to its cue c.
-fn marks_of(xs: &[u32], t: &[u32; 512], q: Ask, m: &[u8; 9216], k: usize, c: u32) -> [u8; 297]
-    requires { ⌜ Ground (now xs) (now t) × (k < length (blocksOf (now xs))) ⌝ }
+fn marks_of(xs: &[u32], t: &[u32; 512], q: Ask, m: &[u8], k: usize, c: u32) -> [u8; 41]
+    requires { ⌜ Ground (now xs) (now t) × (k < length (blocksOf (now xs))) × (328 * k + 328 ≤ length (now m)) ⌝ }
     ensures { λ s. ⌜ Marks q (now (m .entry)) (blockAt (blocksOf (now (xs .entry))) k) c s ⌝ }
 {
-    let mut s: [u8; 297] = [0; 297];
+    let mut s: [u8; 41] = [0; 41];
     let f = entry(t, k, 0);
     let a = entry(t, k, 1);
-    mark_links(xs, q, f + 1, a, c, &mut s);
-    mark_uses(xs, t, m, k, c, &mut s);
+    let own = own_of(xs, t, k);
+    mark_links(xs, q, f + 1, a, own, c, &mut s);
+    mark_uses(xs, t, m, k, own, c, &mut s);
     s
 }
 
-// Some own cue is marked.
-fn any_own(s: &[u8; 297], own: usize) -> bool
-    requires { ⌜ own ≤ 255 ⌝ }
-    ensures { λ r. ⌜ Unless r (NoMark (now (s .entry)) own) ⌝ }
-{
-    let mut d = 1;
-    while d <= own {
-        if s[d] == 1 {
-            return true;
-        }
-        d += 1;
-    }
-    false
-}
-
 // The use of a row meets cue c, and has a cue inside that is linked to it.
-fn reaches(xs: &[u32], t: &[u32; 512], m: &[u8; 9216], k: usize, r: usize, c: u32) -> bool
-    requires { ⌜ Ground (now xs) (now t) × UseRow (now xs) k r ⌝ }
+fn reaches(xs: &[u32], t: &[u32; 512], m: &[u8], k: usize, r: usize, c: u32) -> bool
+    requires { ⌜ Ground (now xs) (now t) × UseRow (now xs) k r × (328 * k + 328 ≤ length (now m)) ⌝ }
     ensures { λ b. ⌜ Unless b (Quiet (now (m .entry)) c (useAt (now (xs .entry)) (blocksOf (now (xs .entry))) r)) ⌝ }
 {
     let j = wide(value(xs, r, 2));
     let joins = joins_of(xs, t, j);
     let i = place(xs, r, joins, c);
     if i < joins {
-        let flag = m[72 * j + 9 * i + 8];
+        let flag = m[328 * j + 41 * i + 8];
         if flag == 1 {
             return true;
         }
@@ -262,8 +273,8 @@ fn reaches(xs: &[u32], t: &[u32; 512], m: &[u8; 9216], k: usize, r: usize, c: u3
 }
 
 // So does some use of block k.
-fn any_use(xs: &[u32], t: &[u32; 512], m: &[u8; 9216], k: usize, c: u32) -> bool
-    requires { ⌜ Ground (now xs) (now t) × (k < length (blocksOf (now xs))) ⌝ }
+fn any_use(xs: &[u32], t: &[u32; 512], m: &[u8], k: usize, c: u32) -> bool
+    requires { ⌜ Ground (now xs) (now t) × (k < length (blocksOf (now xs))) × (328 * k + 328 ≤ length (now m)) ⌝ }
     ensures { λ b. ⌜ Unless b (QuietAll (now (m .entry)) c (blockAt (blocksOf (now (xs .entry))) k .uses)) ⌝ }
 {
     let a = entry(t, k, 1);
@@ -279,12 +290,11 @@ fn any_use(xs: &[u32], t: &[u32; 512], m: &[u8; 9216], k: usize, c: u32) -> bool
 }
 
 // 1 if cue c of block k is linked to a cue numbered inside.
-fn inner(xs: &[u32], t: &[u32; 512], m: &[u8; 9216], k: usize, c: u32, s: &[u8; 297]) -> u8
-    requires { ⌜ Ground (now xs) (now t) × (k < length (blocksOf (now xs))) ⌝ }
-    ensures { λ x. ⌜ Inner (now (m .entry)) (blockAt (blocksOf (now (xs .entry))) k) c (now (s .entry)) x ⌝ }
+fn inner(xs: &[u32], t: &[u32; 512], m: &[u8], k: usize, c: u32, seen: u8) -> u8
+    requires { ⌜ Ground (now xs) (now t) × (k < length (blocksOf (now xs))) × (328 * k + 328 ≤ length (now m)) ⌝ }
+    ensures { λ x. ⌜ Inner (now (m .entry)) (blockAt (blocksOf (now (xs .entry))) k) c seen x ⌝ }
 {
-    let own = wide(own_of(xs, t, k));
-    if any_own(s, own) {
+    if seen == 1 {
         return 1;
     }
     if any_use(xs, t, m, k, c) {
@@ -293,37 +303,37 @@ fn inner(xs: &[u32], t: &[u32; 512], m: &[u8; 9216], k: usize, c: u32, s: &[u8; 
     0
 }
 
-// Copies the marks of joins into the table.
-fn copy_joins(s: &[u8; 297], from: usize, joins: usize, m: &mut [u8; 9216], at: usize)
-    requires { ⌜ (joins ≤ 8) × (from + 8 ≤ 264) × (at + 8 ≤ 9216) × (length (now m) ≡ 9216) ⌝ }
-    ensures { λ _. ⌜ Copied (now (s .entry)) from joins at (now (m .entry)) (now (m .exit)) ⌝ }
+// Copies a record of marks into the table.
+fn copy_record(s: &[u8; 41], m: &mut [u8], at: usize)
+    requires { ⌜ (at + 41 ≤ length (now m)) × (length (now s) ≡ 41) ⌝ }
+    ensures { λ _. ⌜ Copied (now (s .entry)) 41 at (now (m .entry)) (now (m .exit)) ⌝ }
 {
     let mut j = 0;
-    while j < joins {
-        let x = s[from + j];
+    while j < 41 {
+        let x = s[j];
         m[at + j] = x;
         j += 1;
     }
 }
 
 // Fills the table for join i of block k.
-fn fill_join(xs: &[u32], t: &[u32; 512], q: Ask, m: &mut [u8; 9216], k: usize, i: usize)
-    requires { ⌜ Ground (now xs) (now t) × (k < length (blocksOf (now xs))) × (i < joinsOf (blocksOf (now xs)) k) × TableTo q (blocksOf (now xs)) (now m) k ⌝ }
+fn fill_join(xs: &[u32], t: &[u32; 512], q: Ask, m: &mut [u8], k: usize, i: usize)
+    requires { ⌜ Ground (now xs) (now t) × (k < length (blocksOf (now xs))) × (328 * k + 328 ≤ length (now m)) × (i < joinsOf (blocksOf (now xs)) k) × (i < 8) × TableTo q (blocksOf (now xs)) (now m) k ⌝ }
     ensures { λ _. ⌜ JoinDone q (blocksOf (now (xs .entry))) k i (now (m .entry)) (now (m .exit)) ⌝ }
 {
-    let joins = joins_of(xs, t, k);
+    let at = 328 * k + 41 * i;
     let own = own_of(xs, t, k);
     let c = own + 1 + (i as u32);
     let s = marks_of(xs, t, q, m, k, c);
-    let x = inner(xs, t, m, k, c, &s);
-    let from = wide(own) + 1;
-    copy_joins(&s, from, joins, m, 72 * k + 9 * i);
-    m[72 * k + 9 * i + 8] = x;
+    let seen = s[8];
+    let x = inner(xs, t, m, k, c, seen);
+    copy_record(&s, m, at);
+    m[at + 8] = x;
 }
 
 // Fills the table for block k.
-fn fill_block(xs: &[u32], t: &[u32; 512], q: Ask, m: &mut [u8; 9216], k: usize)
-    requires { ⌜ Ground (now xs) (now t) × (k < length (blocksOf (now xs))) × TableTo q (blocksOf (now xs)) (now m) k ⌝ }
+fn fill_block(xs: &[u32], t: &[u32; 512], q: Ask, m: &mut [u8], k: usize)
+    requires { ⌜ Ground (now xs) (now t) × (k < length (blocksOf (now xs))) × (328 * k + 328 ≤ length (now m)) × TableTo q (blocksOf (now xs)) (now m) k ⌝ }
     ensures { λ _. ⌜ TableTo q (blocksOf (now (xs .entry))) (now (m .exit)) (k + 1) ⌝ }
 {
     let joins = joins_of(xs, t, k);
@@ -335,8 +345,8 @@ fn fill_block(xs: &[u32], t: &[u32; 512], q: Ask, m: &mut [u8; 9216], k: usize)
 }
 
 // Fills the table for the blocks below k.
-fn fill(xs: &[u32], t: &[u32; 512], q: Ask, m: &mut [u8; 9216], k: usize)
-    requires { ⌜ Ground (now xs) (now t) × (k < length (blocksOf (now xs))) × (length (now m) ≡ 9216) ⌝ }
+fn fill(xs: &[u32], t: &[u32; 512], q: Ask, m: &mut [u8], k: usize)
+    requires { ⌜ Ground (now xs) (now t) × (k < length (blocksOf (now xs))) × (328 * k + 328 ≤ length (now m)) ⌝ }
     ensures { λ _. ⌜ TableTo q (blocksOf (now (xs .entry))) (now (m .exit)) k ⌝ }
 {
     let mut j = 0;
@@ -372,33 +382,35 @@ fn give_if(q: Ask, page: &mut [u32], w: usize, flag: u8, u: u32) -> usize
     w
 }
 
-// The first cue behind the group of eight that cue d is in, among own own cues.
-fn next_group(d: usize, own: usize) -> usize
-    requires { ⌜ (d ≤ own) × (own ≤ 255) ⌝ }
-    ensures { λ r. ⌜ (d < r) × (r ≤ own + 1) × (r ≤ 8 * (d / 8) + 8) ⌝ }
+// The first cue behind the byte that has the bit of cue d, among own own cues.
+fn next_byte(d: usize, own: usize) -> usize
+    requires { ⌜ (1 ≤ d) × (d ≤ own) × (own ≤ 255) ⌝ }
+    ensures { λ r. ⌜ (d < r) × (r ≤ own + 1) × (r ≤ 8 * ((d - 1) / 8) + 9) ⌝ }
 {
-    let e = 8 * (d / 8) + 8;
+    let e = 8 * ((d - 1) / 8) + 9;
     if own < e {
         return own + 1;
     }
     e
 }
 
-// The same for the own cues of a copy, by groups.
-fn give_own(q: Ask, s: &[u8; 297], own: usize, base: u32, page: &mut [u32], w: usize) -> usize
-    requires { ⌜ Coarse (now s) × (own ≤ 255) × (base + own ≤ 2147483647) × (q .room ≤ length (now page)) × (q .room ≤ 2147483647) × (w ≤ q .room + 1) ⌝ }
-    ensures { λ g. ⌜ Gives (q .room) (now (page .entry)) w (ownList q (now (s .entry)) base own) (now (page .exit)) g ⌝ }
+// The same for the own cues of a copy whose bits are set in the record at a place.
+fn give_own(q: Ask, s: &[u8], at: usize, own: usize, base: u32, page: &mut [u32], w: usize) -> usize
+    requires { ⌜ (at + 41 ≤ length (now s)) × (own ≤ 255) × (base + own ≤ 2147483647) × (q .room ≤ length (now page)) × (q .room ≤ 2147483647) × (w ≤ q .room + 1) ⌝ }
+    ensures { λ g. ⌜ Gives (q .room) (now (page .entry)) w (ownList q (now (s .entry)) (at + 9) base own) (now (page .exit)) g ⌝ }
 {
     let mut d = 1;
     let mut g = w;
     while d <= own {
-        if s[264 + d / 8] == 1 {
-            let flag = s[d];
-            g = give_if(q, page, g, flag, base + (d as u32));
-            d += 1;
+        let i = d - 1;
+        let b = s[at + 9 + i / 8];
+        if b == 0 {
+            d = next_byte(d, own);
             continue;
         }
-        d = next_group(d, own);
+        let flag = bit(b, i % 8);
+        g = give_if(q, page, g, flag, base + (d as u32));
+        d += 1;
     }
     g
 }
@@ -412,60 +424,60 @@ fn size_of(xs: &[u32], t: &[u32; 512], k: usize, r: usize) -> u32
     t[4 * j + 3]
 }
 
-// Gives the page the own cues of the copy of block k after base that its cue c is linked to.
+// Gives the page the own cues of the copy of block k after base that its cue c, whose record stands at a place, is linked to.
 fn give_block(
     xs: &[u32],
     t: &[u32; 512],
     q: Ask,
-    m: &[u8; 9216],
+    m: &[u8],
     k: usize,
+    at: usize,
     base: u32,
     c: u32,
     page: &mut [u32],
     w: usize,
 ) -> usize
-    requires { ⌜ Ground (now xs) (now t) × TableTo q (blocksOf (now xs)) (now m) k × May q (blocksOf (now xs)) k base c (now page) w ⌝ }
+    requires { ⌜ Ground (now xs) (now t) × Known q (blocksOf (now xs)) (now m) at k c × (at + 41 ≤ length (now m)) × May q (blocksOf (now xs)) k base c (now page) w ⌝ }
     ensures { λ g. ⌜ Walked q (blocksOf (now (xs .entry))) k base c base (now (page .entry)) w (ownOf (blocksOf (now (xs .entry))) k) (now (page .exit)) g ⌝ }
 {
     let own = own_of(xs, t, k);
-    let s = marks_of(xs, t, q, m, k, c);
-    give_own(q, &s, wide(own), base, page, w)
+    give_own(q, m, at, wide(own), base, page, w)
 }
 
-// The cue of the used block from which the walk goes on in the copy of the use of row r, which begins after base, or 0.
+// The join of the used block from which the walk goes on in the copy of the use of row r, which begins after base, or 8.
 fn door(
     xs: &[u32],
     t: &[u32; 512],
     q: Ask,
-    m: &[u8; 9216],
+    m: &[u8],
     k: usize,
     r: usize,
     base: u32,
     c: u32,
     w: usize,
-) -> u32
-    requires { ⌜ Ground (now xs) (now t) × UseRow (now xs) k r × TableTo q (blocksOf (now xs)) (now m) k × MayDoor q (now xs) k r base c w ⌝ }
-    ensures { λ d. ⌜ Door q (now (xs .entry)) k r base c w d ⌝ }
+) -> usize
+    requires { ⌜ Ground (now xs) (now t) × UseRow (now xs) k r × (328 * k + 328 ≤ length (now m)) × TableTo q (blocksOf (now xs)) (now m) k × MayDoor q (now xs) k r base c w ⌝ }
+    ensures { λ i. ⌜ Door q (now (xs .entry)) k r base c w i ⌝ }
 {
     let room = q.room;
     if room < w {
-        return 0;
+        return 8;
     }
     let size = size_of(xs, t, k, r);
     if base + size <= q.after {
-        return 0;
+        return 8;
     }
     let j = wide(value(xs, r, 2));
     let joins = joins_of(xs, t, j);
     let i = place(xs, r, joins, c);
     if joins <= i {
-        return 0;
+        return 8;
     }
-    let flag = m[72 * j + 9 * i + 8];
+    let flag = m[328 * j + 41 * i + 8];
     if flag == 1 {
-        return own_of(xs, t, j) + 1 + (i as u32);
+        return i;
     }
-    0
+    8
 }
 
 // Gives the page the cues inside the copy of block k after base that its cue c is linked to: the own ones, then those in the copies of its
@@ -474,17 +486,18 @@ fn walk(
     xs: &[u32],
     t: &[u32; 512],
     q: Ask,
-    m: &[u8; 9216],
+    m: &[u8],
     k: usize,
+    at: usize,
     base: u32,
     c: u32,
     page: &mut [u32],
     w: usize,
 ) -> usize
-    requires { ⌜ Ground (now xs) (now t) × TableTo q (blocksOf (now xs)) (now m) k × May q (blocksOf (now xs)) k base c (now page) w ⌝ }
+    requires { ⌜ Ground (now xs) (now t) × TableTo q (blocksOf (now xs)) (now m) k × Known q (blocksOf (now xs)) (now m) at k c × (328 * k + 328 ≤ length (now m)) × (at + 41 ≤ length (now m)) × May q (blocksOf (now xs)) k base c (now page) w ⌝ }
     ensures { λ g. ⌜ Walked q (blocksOf (now (xs .entry))) k base c base (now (page .entry)) w (total (blocksOf (now (xs .entry))) k) (now (page .exit)) g ⌝ }
 {
-    let mut g = give_block(xs, t, q, m, k, base, c, page, w);
+    let mut g = give_block(xs, t, q, m, k, at, base, c, page, w);
     let a = entry(t, k, 1);
     let e = entry(t, k, 2);
     let mut r = a;
@@ -502,7 +515,7 @@ fn enter(
     xs: &[u32],
     t: &[u32; 512],
     q: Ask,
-    m: &[u8; 9216],
+    m: &[u8],
     k: usize,
     r: usize,
     base: u32,
@@ -510,15 +523,22 @@ fn enter(
     page: &mut [u32],
     w: usize,
 ) -> usize
-    requires { ⌜ Ground (now xs) (now t) × UseRow (now xs) k r × TableTo q (blocksOf (now xs)) (now m) k × MayDoor q (now xs) k r base c w × (q .room ≤ length (now page)) ⌝ }
+    requires { ⌜ Ground (now xs) (now t) × UseRow (now xs) k r × (328 * k + 328 ≤ length (now m)) × TableTo q (blocksOf (now xs)) (now m) k × MayDoor q (now xs) k r base c w × (q .room ≤ length (now page)) ⌝ }
     ensures { λ g. ⌜ Entered q (now (xs .entry)) k r base c (now (page .entry)) w (now (page .exit)) g ⌝ }
 {
-    let d = door(xs, t, q, m, k, r, base, c, w);
-    if d == 0 {
+    let i = door(xs, t, q, m, k, r, base, c, w);
+    if i == 8 {
         return w;
     }
     let j = wide(value(xs, r, 2));
-    walk(xs, t, q, m, j, base, d, page, w)
+    let at = 328 * j + 41 * i;
+    let d = own_of(xs, t, j) + 1 + (i as u32);
+    let a = entry(t, j, 1);
+    let e = entry(t, j, 2);
+    if a == e {
+        return give_block(xs, t, q, m, j, at, base, d, page, w);
+    }
+    walk(xs, t, q, m, j, at, base, d, page, w)
 }
 
 // The lesser of x and y, where y counts only if it is marked and above last, and x is 0 for none.
@@ -539,14 +559,14 @@ fn lesser_of(flag: u8, y: u32, last: u32, x: u32) -> u32
 }
 
 // The least cue above last that a marked join meets, and 0 if there is none.
-fn next_join(s: &[u8; 297], from: usize, joins: usize, met: [u32; 8], last: u32) -> u32
-    requires { ⌜ (joins ≤ 8) × (from + 8 ≤ 264) ⌝ }
-    ensures { λ x. ⌜ Next (now (s .entry)) from joins met last x ⌝ }
+fn next_join(s: &[u8; 41], joins: usize, met: [u32; 8], last: u32) -> u32
+    requires { ⌜ joins ≤ 8 ⌝ }
+    ensures { λ x. ⌜ Next (now (s .entry)) joins met last x ⌝ }
 {
     let mut x = 0;
     let mut j = 0;
     while j < joins {
-        let flag = s[from + j];
+        let flag = s[j];
         let y = met[j];
         x = lesser_of(flag, y, last, x);
         j += 1;
@@ -555,22 +575,15 @@ fn next_join(s: &[u8; 297], from: usize, joins: usize, met: [u32; 8], last: u32)
 }
 
 // Gives the page the cues that the marked joins meet, in rising order.
-fn give_joins(
-    q: Ask,
-    s: &[u8; 297],
-    from: usize,
-    joins: usize,
-    met: [u32; 8],
-    page: &mut [u32],
-) -> usize
-    requires { ⌜ (joins ≤ 8) × (from + 8 ≤ 264) × (q .room ≤ length (now page)) × (q .room ≤ 2147483647) ⌝ }
-    ensures { λ g. ⌜ JoinsDone q (now (s .entry)) from joins met (now (page .entry)) 0 (now (page .exit)) g ⌝ }
+fn give_joins(q: Ask, s: &[u8; 41], joins: usize, met: [u32; 8], page: &mut [u32]) -> usize
+    requires { ⌜ (joins ≤ 8) × (q .room ≤ length (now page)) × (q .room ≤ 2147483647) ⌝ }
+    ensures { λ g. ⌜ JoinsDone q (now (s .entry)) joins met (now (page .entry)) 0 (now (page .exit)) g ⌝ }
 {
     let mut g = 0;
     let mut last = q.after;
     loop {
         let room = q.room;
-        let x = next_join(s, from, joins, met, last);
+        let x = next_join(s, joins, met, last);
         if x == 0 {
             return g;
         }
@@ -663,21 +676,57 @@ fn descend(xs: &[u32], t: &[u32; 512], blocks: u32, path: &[u32], depth: usize) 
     z
 }
 
-// Gives the page the cues asked for that own cue c of a copy is linked to.
-fn answer_from(xs: &[u32], t: &[u32; 512], q: Ask, z: Stand, c: u32, page: &mut [u32]) -> usize
-    requires { ⌜ Ground (now xs) (now t) × MayAnswer q (blocksOf (now xs)) (z .block) (z .base) c (now page) ⌝ }
+// Gives the page the cues asked for that own cue c of a copy is linked to, by means of a table.
+fn answer_by(
+    xs: &[u32],
+    t: &[u32; 512],
+    q: Ask,
+    z: Stand,
+    c: u32,
+    page: &mut [u32],
+    m: &mut [u8],
+) -> usize
+    requires { ⌜ Ground (now xs) (now t) × MayAnswer q (blocksOf (now xs)) (z .block) (z .base) c (now page) × (328 * (z .block) + 328 ≤ length (now m)) ⌝ }
     ensures { λ g. ⌜ Answered q (blocksOf (now (xs .entry))) (z .block) (z .base) (z .met) c (now (page .entry)) (now (page .exit)) g ⌝ }
 {
     let k = z.block;
     let base = z.base;
     let met = z.met;
-    let mut m: [u8; 9216] = [0; 9216];
-    fill(xs, t, q, &mut m, k);
+    let at = 328 * k;
+    fill(xs, t, q, m, k);
     let joins = joins_of(xs, t, k);
-    let from = wide(own_of(xs, t, k)) + 1;
-    let s = marks_of(xs, t, q, &m, k, c);
-    let g = give_joins(q, &s, from, joins, met, page);
-    walk(xs, t, q, &m, k, base, c, page, g)
+    let s = marks_of(xs, t, q, m, k, c);
+    copy_record(&s, m, at);
+    let g = give_joins(q, &s, joins, met, page);
+    walk(xs, t, q, m, k, at, base, c, page, g)
+}
+
+// The same in a low block, for which a short table is enough, and in any.
+fn answer_low(xs: &[u32], t: &[u32; 512], q: Ask, z: Stand, c: u32, page: &mut [u32]) -> usize
+    requires { ⌜ Ground (now xs) (now t) × MayAnswer q (blocksOf (now xs)) (z .block) (z .base) c (now page) × (z .block < 32) ⌝ }
+    ensures { λ g. ⌜ Answered q (blocksOf (now (xs .entry))) (z .block) (z .base) (z .met) c (now (page .entry)) (now (page .exit)) g ⌝ }
+{
+    let mut m: [u8; 10496] = [0; 10496];
+    answer_by(xs, t, q, z, c, page, &mut m)
+}
+
+fn answer_any(xs: &[u32], t: &[u32; 512], q: Ask, z: Stand, c: u32, page: &mut [u32]) -> usize
+    requires { ⌜ Ground (now xs) (now t) × MayAnswer q (blocksOf (now xs)) (z .block) (z .base) c (now page) ⌝ }
+    ensures { λ g. ⌜ Answered q (blocksOf (now (xs .entry))) (z .block) (z .base) (z .met) c (now (page .entry)) (now (page .exit)) g ⌝ }
+{
+    let mut m: [u8; 41984] = [0; 41984];
+    answer_by(xs, t, q, z, c, page, &mut m)
+}
+
+fn answer_from(xs: &[u32], t: &[u32; 512], q: Ask, z: Stand, c: u32, page: &mut [u32]) -> usize
+    requires { ⌜ Ground (now xs) (now t) × MayAnswer q (blocksOf (now xs)) (z .block) (z .base) c (now page) ⌝ }
+    ensures { λ g. ⌜ Answered q (blocksOf (now (xs .entry))) (z .block) (z .base) (z .met) c (now (page .entry)) (now (page .exit)) g ⌝ }
+{
+    let k = z.block;
+    if k < 32 {
+        return answer_low(xs, t, q, z, c, page);
+    }
+    answer_any(xs, t, q, z, c, page)
 }
 
 // As many cues as are ever written: there are not more in a show.

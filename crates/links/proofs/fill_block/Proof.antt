@@ -1,6 +1,8 @@
 -- `links::fill_block` meets its contract: the table is right for one join more each turn.
 use borrow.Author.Needs.{needs}
 use Prim.Native.Nat.{_-_, _≤_}
+use mathlib.Core.Path.{_≡_}
+use lib.ListN.{length}
 use Rattle.model.specs.Blocks.{blocksOf}
 use Rattle.links.specs.Near.{TableTo, ExactTo}
 use Rattle.links.proofs.Tables.{exact-begin, table-on, exact-on, table-end}
@@ -8,7 +10,7 @@ use Rattle.links.proofs.fill_block.Statement.{statement}
 use Rattle.links.proofs.fill_block.Tie as tie
 
 abbrev Inv-loop : tie.InvT-loop
-Inv-loop xs t q m₀ k joins i₀ m i = (i ≤ joins) × TableTo q (blocksOf xs) m k × ExactTo q (blocksOf xs) m k i
+Inv-loop xs t q m₀ k joins i₀ m i = (i ≤ joins) × (length m ≡ length m₀) × TableTo q (blocksOf xs) m k × ExactTo q (blocksOf xs) m k i
 
 abbrev μ-loop : tie.MeasureT-loop
 μ-loop xs t q m₀ k joins i₀ m i = joins - i
@@ -31,6 +33,9 @@ loop-less c = search needs
 loop-again : tie.Need-loop-again Inv-loop μ-loop
 loop-again c = search (table-on, exact-on, needs) fits 20000
 
+same-length : tie.Need-same-length Inv-loop μ-loop
+same-length c = search needs
+
 returns : tie.Need-returns Inv-loop μ-loop
 returns c = search (table-end, needs) fits 20000
 
@@ -46,4 +51,5 @@ fill-block-spec =
     add-i
     loop-less
     loop-again
+    same-length
     returns)

@@ -1,17 +1,8 @@
--- `links::inner` meets its contract: neither an own cue nor a use.
+-- `links::inner` meets its contract: own cues were seen, or a use has one.
 use borrow.Author.Needs.{needs}
 use Rattle.links.proofs.Tables.{inner-none}
 use Rattle.links.proofs.inner.Statement.{statement}
 use Rattle.links.proofs.inner.Tie as tie
-
-own-of-requires : tie.Need-own-of-requires
-own-of-requires c κs = search needs
-
-wide-requires : tie.Need-wide-requires
-wide-requires c κs = search needs
-
-any-own-requires : tie.Need-any-own-requires
-any-own-requires c κs = search needs
 
 returns : tie.Need-returns
 returns c = search needs
@@ -26,13 +17,4 @@ returns-3 : tie.Need-returns-3
 returns-3 c = search (inner-none, needs) fits 20000
 
 pub inner-spec : {M : Type 1} → statement M
-inner-spec =
-    tie.close
-    (tie.spec
-    own-of-requires
-    wide-requires
-    any-own-requires
-    returns
-    any-use-requires
-    returns-2
-    returns-3)
+inner-spec = tie.close (tie.spec returns any-use-requires returns-2 returns-3)

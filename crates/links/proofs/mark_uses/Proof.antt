@@ -13,10 +13,10 @@ use Rattle.links.proofs.mark_uses.Statement.{statement}
 use Rattle.links.proofs.mark_uses.Tie as tie
 
 abbrev Inv-loop : tie.InvT-loop
-Inv-loop xs t m k c s₀ a e r₀ s r = (a ≤ r) × (r ≤ e) × (length s ≡ 297) × Added (ByUses m (usesFrom xs (blocksOf xs) a (r - a)) c) s₀ s
+Inv-loop xs t m k own c s₀ a e r₀ s r = (a ≤ r) × (r ≤ e) × (length s ≡ 41) × Added own (ByUses m (usesFrom xs (blocksOf xs) a (r - a)) c) s₀ s
 
 abbrev μ-loop : tie.MeasureT-loop
-μ-loop xs t m k c s₀ a e r₀ s r = e - r
+μ-loop xs t m k own c s₀ a e r₀ s r = e - r
 
 entry-requires : tie.Need-entry-requires Inv-loop μ-loop
 entry-requires c κs = search needs

@@ -11,6 +11,9 @@ entry-requires c κs = search needs
 entry-requires-2 : tie.Need-entry-requires-2
 entry-requires-2 c κs = search needs
 
+own-of-requires : tie.Need-own-of-requires
+own-of-requires c κs = search needs
+
 add-mark-links : tie.Need-add-mark-links
 add-mark-links c = search needs
 
@@ -29,6 +32,7 @@ marks-of-spec =
     (tie.spec
     entry-requires
     entry-requires-2
+    own-of-requires
     add-mark-links
     mark-links-requires
     mark-uses-requires

@@ -28,8 +28,8 @@ add-flag c = search needs
 add-flag-2 : tie.Need-add-flag-2
 add-flag-2 c = search needs
 
-element-copy-out-flag : tie.Need-element-copy-out-flag
-element-copy-out-flag c = search needs
+shared-slice-read-flag : tie.Need-shared-slice-read-flag
+shared-slice-read-flag c = search needs
 
 returns : tie.Need-returns
 returns c = search (found-true, needs)
@@ -52,7 +52,7 @@ reaches-spec =
     mul-flag-2
     add-flag
     add-flag-2
-    element-copy-out-flag
+    shared-slice-read-flag
     returns
     returns-2
     returns-3)
