@@ -15,14 +15,14 @@ use Rattle.theory.proofs.Choices.{lt-then, lt-else}
 use Rattle.rules.specs.Index.{linkAt, linksFrom, useAt, usesFrom}
 use Rattle.links.specs.declared.Ask.{Ask}
 use Rattle.links.specs.Picks.{nearEnd, here, there, fits, IsLink, Picked}
-use Rattle.links.specs.Near.{Flag, Near, by-link, by-use, IsColumn, ByRow, ByUse, ByUses, Marks}
+use Rattle.links.specs.Near.{Flag, Near, by-link, by-use, IsColumn, ByRow, ByUse, ByUses, Quiet, UseMarked, UsesMarked, Marks}
 use Rattle.links.specs.Ground.{Ground, UseRow, bitAt, setBit, ownBit, markOf, On, HasPlace, Coarse, IsCue, Added, PlaceIs}
 use Rattle.links.proofs.Bits.{set-same, set-other, bit-none}
 use Rattle.links.proofs.Ground.{use-block, use-column, usesFrom-snoc, links-rows, uses-rows, joins-few, rows-few}
 
 -- The same marks, said otherwise.
 pub added-like : {own : ℕ} {P R : ℕ → Type 0} (s w : List ℕ) → Added own P s w → ((u : ℕ) → P u → R u) → ((u : ℕ) → R u → P u) → Added own R s w
-added-like {own} {P} {R} s w a to from = record { long = a .long; coarse = a .coarse; at = λ u h. (λ x. there u (a .at u h .0 x), λ y. a .at u h .1 (back u y)) }
+added-like {own} {P} {R} s w a to from = record { long = a .long; coarse = a .coarse; stays = a .stays; at = λ u h. (λ x. there u (a .at u h .0 x), λ y. a .at u h .1 (back u y)) }
   where
     there : (u : ℕ) → On own s u ⊎ P u → On own s u ⊎ R u
     there u (inl x) = inl x
@@ -38,7 +38,7 @@ module _ {own : ℕ} {P : ℕ → Type 0} (s w : List ℕ) where
   added-one d a p only = added-like s w a (λ u c. rw (c .is) p) (λ u x. record { is = only u x })
 
   pub added-none : w ≡ s → ((u : ℕ) → HasPlace own u → P u → ⊥) → Added own P s w
-  added-none e n = record { long = ap length e; coarse = λ c. (rw e c); at = λ u h. (λ x. inl (sym (ap (λ v. markOf own v u) e) ∙ x), λ y. back u h y) }
+  added-none e n = record { long = ap length e; coarse = λ c. (rw e c); stays = λ f. (rw e f); at = λ u h. (λ x. inl (sym (ap (λ v. markOf own v u) e) ∙ x), λ y. back u h y) }
     where
       back : (u : ℕ) → HasPlace own u → On own s u ⊎ P u → On own w u
       back u h (inl x) = ap (λ v. markOf own v u) e ∙ x
@@ -46,7 +46,7 @@ module _ {own : ℕ} {P : ℕ → Type 0} (s w : List ℕ) where
 
 -- Marks upon marks.
 pub added-more : {own : ℕ} {P Q R : ℕ → Type 0} (s w v : List ℕ) → Added own P s w → Added own Q w v → ((u : ℕ) → P u ⊎ Q u → R u) → ((u : ℕ) → R u → P u ⊎ Q u) → Added own R s v
-added-more {own} {P} {Q} {R} s w v a b to from = record { long = b .long ∙ a .long; coarse = λ c. b .coarse (a .coarse c); at = λ u h. (λ x. there u h (b .at u h .0 x), λ y. back u h y) }
+added-more {own} {P} {Q} {R} s w v a b to from = record { long = b .long ∙ a .long; coarse = λ c. b .coarse (a .coarse c); stays = λ f. b .stays (a .stays f); at = λ u h. (λ x. there u h (b .at u h .0 x), λ y. back u h y) }
   where
     there : (u : ℕ) → HasPlace own u → On own w u ⊎ Q u → On own s u ⊎ R u
     there u h (inr y) = inr (to u (inr y))
@@ -82,6 +82,7 @@ mark-join own d i x s o x₁ x₂ l h =
     record {
       long = length-set s i 1;
       coarse = λ c. record { at = λ u y z f. getD-set-other s i 8 1 0 (λ e. omega arith) ∙ c .at u y z (sym (own-same u z) ∙ f) };
+      stays = λ f. getD-set-other s i 8 1 0 (λ e. omega arith) ∙ f;
       at = λ u k. one u k (decLt own u) (ℕ-discrete u d);
     }
   where
@@ -118,6 +119,7 @@ mark-own own d i x b v s o p x₁ x₂ l h e₁ e₂ =
     record {
       long = length-set (set s (9 + i / 8) v) 8 1 ∙ length-set s (9 + i / 8) v;
       coarse = λ c. record { at = λ u y z f. getD-set-same (set s (9 + i / 8) v) 8 1 0 (rw length-set (omega arith)) };
+      stays = λ f. getD-set-same (set s (9 + i / 8) v) 8 1 0 (rw length-set (omega arith));
       at = λ u k. one u k (decLt own u) (ℕ-discrete u d) (ℕ-discrete ((u - 1) / 8) (i / 8));
     }
   where
@@ -170,6 +172,26 @@ mark-far own d i x s o x₁ x₂ h = added-none s s refl (λ u k y. omega (arith
 
 pub mark-zero : (own d : ℕ) (s : List ℕ) → d ≤ 0 → Added own (IsCue d) s s
 mark-zero own d s h = added-none s s refl (λ u k y. omega (arith, y .is, k))
+
+-- Flag 8 is no mark.
+added-noted : {own : ℕ} {P : ℕ → Type 0} (s w : List ℕ) → length s ≡ 41 → Added own P s w → Added own P s (set w 8 1)
+added-noted {own} {P} s w l a =
+    record {
+      long = length-set w 8 1 ∙ a .long;
+      coarse = λ c. record { at = λ u y z f. noted };
+      stays = λ f. noted;
+      at = λ u h. (λ x. a .at u h .0 (sym (same u h (decLt own u)) ∙ x), λ y. same u h (decLt own u) ∙ a .at u h .1 y);
+    }
+  where
+    noted : _≡_ {A = ℕ} (getD (set w 8 1) 8 0) 1
+    noted = getD-set-same w 8 1 0 (omega (arith, a .long))
+
+    same : (u : ℕ) → HasPlace own u → Dec (own < u) → markOf own (set w 8 1) u ≡ markOf own w u
+    same u h (yes y) = mark-join-is own u (set w 8 1) y ∙ getD-set-other w 8 (u - own - 1) 1 0 (λ e. omega arith) ∙ sym (mark-join-is own u w y)
+    same u h (no y) =
+        mark-own-is own u (set w 8 1) (omega arith)
+        ∙ ap (λ (b : ℕ). bitAt b ((u - 1) % 8)) (getD-set-other w 8 (9 + (u - 1) / 8) 1 0 (λ e. omega arith))
+        ∙ sym (mark-own-is own u w (omega arith))
 
 -- The link of a row.
 module _ (xs : List ℕ) (q : Ask) (r own c : ℕ) (s : List ℕ) where
@@ -297,7 +319,7 @@ module _ (xs t m : List ℕ) (g : Ground xs t) (k r own c x j joins i : ℕ) (o 
   pub use-at : (a : ℕ) → a < joins → getD (u .at) a 0 ≡ cell xs r (3 + a)
   use-at a h = use-column xs (blocksOf xs) r a (omega (arith, o .arity, arity)) (omega arith)
 
-  pub use-yes : (s w : List ℕ) → i < joins → Added own (ByRow xs m r (328 * j + 41 * i) joins) s w → Added own (ByUse m u c) s w
+  use-yes : (s w : List ℕ) → i < joins → Added own (ByRow xs m r (328 * j + 41 * i) joins) s w → Added own (ByUse m u c) s w
   use-yes s w h b = added-like s w b to from
     where
       to : (d : ℕ) → ByRow xs m r (328 * j + 41 * i) joins d → ByUse m u c d
@@ -322,31 +344,66 @@ module _ (xs t m : List ℕ) (g : Ground xs t) (k r own c x j joins i : ℕ) (o 
             flag = rw (ei, use-block xs (blocksOf xs) r, ← y) at (b .flag);
           }
 
-  pub use-no : (s : List ℕ) → joins ≤ i → Added own (ByUse m u c) s s
+  pub use-inside : (s w : List ℕ) → length s ≡ 41 → i < joins → Added own (ByRow xs m r (328 * j + 41 * i) joins) s w → UseMarked own m u c s (set w 8 1)
+  use-inside s w l h b =
+      record {
+        added = added-noted s w l (use-yes s w h b);
+        quiet = λ n. absurd (n (getD-set-same w 8 1 0 (omega (arith, b .long))));
+      }
+
+  pub use-quiet : (s w : List ℕ) → i < joins → Added own (ByRow xs m r (328 * j + 41 * i) joins) s w → (getD m (328 * j + 41 * i + 8) 0 ≡ 1 → ⊥)
+      → UseMarked own m u c s w
+  use-quiet s w h b z =
+      record {
+        added = use-yes s w h b;
+        quiet = λ n. record {
+          at = λ a l q f.
+              let s : a ≡ i = o .apart a i l (omega (arith, arity)) (q ∙ sym (use-at i h ∙ p .found h)) in
+              z (rw (s, use-block xs (blocksOf xs) r, ← y) at f);
+        };
+      }
+
+  pub use-no : (s : List ℕ) → joins ≤ i → UseMarked own m u c s s
   use-no s h =
-      added-none s s refl
-      (λ d k b. p .before (b .i) (omega (arith, arity, b .in-i)) (sym (use-at (b .i) (omega (arith, arity, b .in-i))) ∙ b .at-i))
+      record {
+        added = added-none s s refl (λ d k b. not-met (b .i) (b .in-i) (b .at-i));
+        quiet = λ n. record { at = λ a l q f. not-met a l q };
+      }
+    where
+      not-met : (a : ℕ) → a < length (u .at) → getD (u .at) a 0 ≡ c → ⊥
+      not-met a l q = p .before a (omega (arith, arity)) (sym (use-at a (omega (arith, arity))) ∙ q)
 
 -- The uses of rows.
 module _ (xs m : List ℕ) (a own c : ℕ) (s : List ℕ) where
   abbrev us : ℕ → List Use
   us n = usesFrom xs (blocksOf xs) a n
 
-  pub uses-begin : Added own (ByUses m (us (a - a)) c) s s
+  pub uses-begin : UsesMarked own m (us (a - a)) c s s
   unfolding usesFrom
   uses-begin =
       let e : a - a ≡ 0 = omega arith in
-      added-none s s refl (λ u k p. List·Memᴰ·not-nil (rw e at (p .member)))
+      record {
+        added = added-none s s refl (λ u k p. List·Memᴰ·not-nil (rw e at (p .member)));
+        quiet = λ n. record { at = λ u i. absurd (List·Memᴰ·not-nil (rw e at i)) };
+      }
 
-  pub uses-on : (r : ℕ) (w v : List ℕ) → a ≤ r → Added own (ByUses m (us (r - a)) c) s w → Added own (ByUse m (useAt xs (blocksOf xs) r) c) w v
-      → Added own (ByUses m (us (r + 1 - a)) c) s v
-  uses-on r w v h x y = added-more s w v x y to from
+  pub uses-on : (r : ℕ) (w v : List ℕ) → a ≤ r → UsesMarked own m (us (r - a)) c s w → UseMarked own m (useAt xs (blocksOf xs) r) c w v
+      → UsesMarked own m (us (r + 1 - a)) c s v
+  uses-on r w v h x y =
+      record {
+        added = added-more s w v (x .added) (y .added) to from;
+        quiet = λ n. record { at = λ u i. still n u (List·Memᴰ·append-cases (us (r - a)) (rw next at i)) };
+      }
     where
       next : us (r + 1 - a) ≡ us (r - a) ++ useAt xs (blocksOf xs) r ∷ []
       next =
           let e : r + 1 - a ≡ suc (r - a) = omega arith in
           let f : a + (r - a) ≡ r = omega arith in
           rw (e, usesFrom-snoc xs (blocksOf xs) a (r - a), f) refl
+
+      still : (getD v 8 0 ≡ 1 → ⊥) → (u : Use) → List·Memᴰ u (us (r - a)) ⊎ List·Memᴰ u (useAt xs (blocksOf xs) r ∷ []) → Quiet m c u
+      still n u (inl i) = x .quiet (λ f. n (y .added .stays f)) .at u i
+      still n u (inr i) = let e : u ≡ useAt xs (blocksOf xs) r = List·Memᴰ·eq-of-singleton i in rw e (y .quiet n)
 
       to : (d : ℕ) → ByUses m (us (r - a)) c d ⊎ ByUse m (useAt xs (blocksOf xs) r) c d → ByUses m (us (r + 1 - a)) c d
       to d (inl p) = record { use-of = p .use-of; member = rw next (Memᴰ·append-left _ (p .member)); by = p .by }
@@ -360,8 +417,11 @@ module _ (xs m : List ℕ) (a own c : ℕ) (s : List ℕ) where
           go (inl i) = inl (record { use-of = p .use-of; member = i; by = p .by })
           go (inr i) = let e : p .use-of ≡ useAt xs (blocksOf xs) r = List·Memᴰ·eq-of-singleton i in inr (rw e at (p .by))
 
+pub uses-long : {own : ℕ} {m : List ℕ} {u : Use} {c : ℕ} (s w : List ℕ) (n : ℕ) → UseMarked own m u c s w → length s ≡ n → length w ≡ n
+uses-long s w n a e = a .added .long ∙ e
+
 pub uses-end : (xs t m : List ℕ) (k a e r own c : ℕ) (s w : List ℕ) → Ground xs t → k < length (blocksOf xs) → a ≡ getD t (4 * k + 1) 0 → e ≡ getD t (4 * k + 2) 0
-    → r ≤ e → e ≤ r → Added own (ByUses m (usesFrom xs (blocksOf xs) a (r - a)) c) s w → Added own (ByUses m (blockAt (blocksOf xs) k .uses) c) s w
+    → r ≤ e → e ≤ r → UsesMarked own m (usesFrom xs (blocksOf xs) a (r - a)) c s w → UsesMarked own m (blockAt (blocksOf xs) k .uses) c s w
 uses-end xs t m k a e r own c s w g h x y i j b =
     let z : r ≡ getD t (4 * k + 2) 0 = omega arith in
     rw (uses-rows g k h) (rw (x, z) at b)
@@ -379,9 +439,10 @@ nothing-on own d k h f = go (decLt own d)
 near-own : (xs t m : List ℕ) (q : Ask) (k f a c : ℕ) (w v : List ℕ) → Ground xs t → k < length (blocksOf xs)
     → f ≡ getD t (4 * k + 0) 0 → a ≡ getD t (4 * k + 1) 0 → blockAt (blocksOf xs) k .own ≤ 255
     → Added (blockAt (blocksOf xs) k .own) (Picked q (linksFrom xs (f + 1) (a - (f + 1))) c) (replicate 41 0) w
-    → Added (blockAt (blocksOf xs) k .own) (ByUses m (blockAt (blocksOf xs) k .uses) c) w v → Marks q m (blockAt (blocksOf xs) k) c v
-near-own xs t m q k f a c w v g h x y few p r =
+    → UsesMarked (blockAt (blocksOf xs) k .own) m (blockAt (blocksOf xs) k .uses) c w v → Marks q m (blockAt (blocksOf xs) k) c v
+near-own xs t m q k f a c w v g h x y few p uses =
     record {
+      quiet = uses .quiet;
       long = r .long ∙ p .long ∙ length-replicate {A = ℕ} 41 0;
       coarse = r .coarse (p .coarse (record { at = λ d i j f. absurd (nothing-on (b .own) d (i, omega arith) few f) }));
       at = λ d o. (λ z. to d o (r .at d o .0 z), λ z. from d o z);
@@ -389,6 +450,9 @@ near-own xs t m q k f a c w v g h x y few p r =
   where
     b : Block
     b = blockAt (blocksOf xs) k
+
+    r : Added (b .own) (ByUses m (b .uses) c) w v
+    r = uses .added
 
     links-are : b .links ≡ linksFrom xs (f + 1) (a - (f + 1))
     links-are = rw (x, y) (links-rows g k h)
@@ -409,7 +473,7 @@ near-own xs t m q k f a c w v g h x y few p r =
 pub near-all : (xs t m : List ℕ) (q : Ask) (k f a own c : ℕ) (w v : List ℕ) → Ground xs t → k < length (blocksOf xs)
     → f ≡ getD t (4 * k + 0) 0 → a ≡ getD t (4 * k + 1) 0 → own ≡ ownOf (blocksOf xs) k → own ≤ 255
     → Added own (Picked q (linksFrom xs (f + 1) (a - (f + 1))) c) (replicate 41 0) w
-    → Added own (ByUses m (blockAt (blocksOf xs) k .uses) c) w v → Marks q m (blockAt (blocksOf xs) k) c v
+    → UsesMarked own m (blockAt (blocksOf xs) k .uses) c w v → Marks q m (blockAt (blocksOf xs) k) c v
 near-all xs t m q k f a own c w v g h x y eo few p r =
     let e : own ≡ blockAt (blocksOf xs) k .own = eo ∙ ownOf-at (blocksOf xs) k in
     near-own xs t m q k f a c w v g h x y (omega arith) (rw e at p) (rw e at r)

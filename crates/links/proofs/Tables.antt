@@ -15,77 +15,10 @@ use Rattle.theory.proofs.BlockAt.{ownOf-at}
 use Rattle.theory.proofs.Choices.{lt-then, lt-else}
 use Rattle.rules.specs.Index.{useAt, usesFrom}
 use Rattle.links.specs.declared.Ask.{Ask}
-use Rattle.links.specs.Near.{Flag, Near, Marks, Known, Exact, ExactBelow, SameTo, Unless, Quiet, QuietAll, Inner, Copied, JoinDone, ExactTo, TableTo}
+use Rattle.links.specs.Near.{Flag, Near, Marks, Known, Exact, ExactBelow, SameTo, Copied, JoinDone, ExactTo, TableTo}
 use Rattle.links.specs.Ground.{Ground, UseRow, bitAt, ownBit, markOf, On, HasPlace, PlaceIs}
 use Rattle.links.proofs.Ground.{use-block, use-column, usesFrom-snoc, uses-rows, joins-few, own-few}
 use Rattle.links.proofs.Near.{Right, known-near, exact-join, exact-same}
-
-pub found : (A : Type 0) (b : Bool) → b ≡ true → Unless b A
-found A b e = record { holds = λ f. absurd (true≢false (sym e ∙ f)) }
-
-pub found-true : (A : Type 0) → Unless true A
-found-true A = found A true refl
-
-pub lacking : (A : Type 0) → A → Unless false A
-lacking A a = record { holds = λ f. a }
-
--- The use of a row.
-module _ (xs t m : List ℕ) (g : Ground xs t) (k r c x j joins i : ℕ) (o : UseRow xs k r) (y₁ : x ≡ cell xs r 2) (y₂ : j ≡ x)
-    (n : joins ≡ joinsOf (blocksOf xs) j) (few : joins ≤ 8) (p : PlaceIs xs r joins c i) where
-  abbrev u : Use
-  u = useAt xs (blocksOf xs) r
-
-  arity : length (u .at) ≡ joins
-  arity = o .arity ∙ ap (joinsOf (blocksOf xs)) (sym (y₂ ∙ y₁)) ∙ sym n
-
-  use-at : (a : ℕ) → a < joins → getD (u .at) a 0 ≡ cell xs r (3 + a)
-  use-at a h = use-column xs (blocksOf xs) r a (omega (arith, o .arity, arity)) (omega arith)
-
-  pub quiet-flag : i < joins → (getD m (328 * j + 41 * i + 8) 0 ≡ 1 → ⊥) → Unless false (Quiet m c u)
-  quiet-flag h z =
-      lacking (Quiet m c u)
-      (record {
-        at = λ a l q f.
-            let s : a ≡ i = o .apart a i l (omega (arith, arity)) (q ∙ sym (use-at i h ∙ p .found h)) in
-            z (rw (s, use-block xs (blocksOf xs) r, ← y₁, ← y₂) at f);
-      })
-
-  pub quiet-none : joins ≤ i → Unless false (Quiet m c u)
-  quiet-none h =
-      lacking (Quiet m c u)
-      (record { at = λ a l q f. p .before a (omega (arith, arity)) (sym (use-at a (omega (arith, arity))) ∙ q) })
-
--- The uses of rows.
-module _ (xs m : List ℕ) (a c : ℕ) where
-  abbrev us : ℕ → List Use
-  us n = usesFrom xs (blocksOf xs) a n
-
-  pub quiet-begin : QuietAll m c (us (a - a))
-  unfolding usesFrom
-  quiet-begin = let e : a - a ≡ 0 = omega arith in record { at = λ u i. absurd (List·Memᴰ·not-nil (rw e at i)) }
-
-  pub quiet-on : (r : ℕ) (b : Bool) → a ≤ r → QuietAll m c (us (r - a)) → Unless b (Quiet m c (useAt xs (blocksOf xs) r)) → b ≡ false → QuietAll m c (us (r + 1 - a))
-  quiet-on r b h x y f = record { at = λ u i. go u (List·Memᴰ·append-cases (us (r - a)) (rw next at i)) }
-    where
-      next : us (r + 1 - a) ≡ us (r - a) ++ useAt xs (blocksOf xs) r ∷ []
-      next =
-          let e : r + 1 - a ≡ suc (r - a) = omega arith in
-          let f : a + (r - a) ≡ r = omega arith in
-          rw (e, usesFrom-snoc xs (blocksOf xs) a (r - a), f) refl
-
-      go : (u : Use) → List·Memᴰ u (us (r - a)) ⊎ List·Memᴰ u (useAt xs (blocksOf xs) r ∷ []) → Quiet m c u
-      go u (inl i) = x .at u i
-      go u (inr i) = let e : u ≡ useAt xs (blocksOf xs) r = List·Memᴰ·eq-of-singleton i in rw e (y .holds f)
-
-pub quiet-end : (xs t m : List ℕ) (k a e r c : ℕ) → Ground xs t → k < length (blocksOf xs) → a ≡ getD t (4 * k + 1) 0 → e ≡ getD t (4 * k + 2) 0
-    → r ≤ e → e ≤ r → QuietAll m c (usesFrom xs (blocksOf xs) a (r - a)) → Unless false (QuietAll m c (blockAt (blocksOf xs) k .uses))
-quiet-end xs t m k a e r c g h x y i j q =
-    let z : r ≡ getD t (4 * k + 2) 0 = omega arith in
-    lacking _ (rw (uses-rows g k h) (rw (x, z) at q))
-
-pub inner-none : (bs : List Block) (k : ℕ) (m : List ℕ) (c seen : ℕ) (y : Bool) → (seen ≡ 1 → ⊥)
-    → Unless y (QuietAll m c (blockAt bs k .uses)) → y ≡ false → Inner m (blockAt bs k) c seen 0
-inner-none bs k m c seen y n b q = record { own = λ z. n; uses = λ z. b .holds q }
 
 -- The bytes of a record.
 module _ (s : List ℕ) (at : ℕ) (m : List ℕ) where
@@ -121,53 +54,38 @@ mark-of-join own j s =
     lt-then own (own + 1 + j) _ _ (omega arith) ∙ ap (λ n. getD s n 0) e
 
 -- The record of a join.
-pub join-done : (q : Ask) (bs : List Block) (k i c own x : ℕ) (m s w : List ℕ) → TableTo q bs m k → i < joinsOf bs k → joinsOf bs k ≤ 8
-    → own ≡ ownOf bs k → own ≤ 255 → c ≡ own + 1 + i
-    → Marks q m (blockAt bs k) c s → Inner m (blockAt bs k) c (getD s 8 0) x → Copied s 41 (328 * k + 41 * i) m w → 328 * k + 328 ≤ length m
-    → JoinDone q bs k i m (set w (328 * k + 41 * i + 8) x)
-join-done q bs k i c own x m s w b h few eo small ec marks inn copied room =
-    record {
-      long = length-set w (328 * k + 41 * i + 8) x ∙ copied .long;
-      same = record { at = λ y l. getD-set-other w (328 * k + 41 * i + 8) y x 0 (λ e. omega arith) ∙ copied .same .at y l };
-      exact = exact-join q bs m v k i (b .below) h right;
-    }
+pub join-done : (q : Ask) (bs : List Block) (k i c own : ℕ) (m s w : List ℕ) → TableTo q bs m k → i < joinsOf bs k → joinsOf bs k ≤ 8
+    → own ≡ ownOf bs k → own ≤ 255 → c ≡ own + 1 + i → Marks q m (blockAt bs k) c s → Copied s 41 (328 * k + 41 * i) m w → JoinDone q bs k i m w
+join-done q bs k i c own m s w b h few eo small ec marks copied =
+    record { long = copied .long; same = copied .same; exact = exact-join q bs m w k i (b .below) h right }
   where
-    v : List ℕ
-    v = set w (328 * k + 41 * i + 8) x
-
     own-is : own ≡ blockAt bs k .own
     own-is = eo ∙ ownOf-at bs k
 
     cue : c ≡ blockAt bs k .own + 1 + i
     cue = omega (arith, own-is)
 
-    last : getD v (328 * k + 41 * i + 8) 0 ≡ x
-    last = getD-set-same w (328 * k + 41 * i + 8) x 0 (omega (arith, copied .long))
+    unset : (Flag w k i 8 → ⊥) → getD s 8 0 ≡ 1 → ⊥
+    unset n e = n (copied .put 8 (omega arith) ∙ e)
 
-    unset : (Flag v k i 8 → ⊥) → x ≡ 1 → ⊥
-    unset n e = n (last ∙ e)
-
-    byte : (n : ℕ) → n < 41 → (n ≡ 8 → ⊥) → getD v (328 * k + 41 * i + n) 0 ≡ getD s n 0
-    byte n l z = getD-set-other w (328 * k + 41 * i + 8) (328 * k + 41 * i + n) x 0 (λ e. z (omega arith)) ∙ copied .put n l
-
-    bit : (d : ℕ) → 1 ≤ d → d ≤ blockAt bs k .own → ownBit v (328 * k + 41 * i + 9) d ≡ markOf (blockAt bs k .own) s d
+    bit : (d : ℕ) → 1 ≤ d → d ≤ blockAt bs k .own → ownBit w (328 * k + 41 * i + 9) d ≡ markOf (blockAt bs k .own) s d
     bit d y z =
-        copied-bit s (328 * k + 41 * i) v (blockAt bs k .own) d
-        (λ n l. (let e : 328 * k + 41 * i + 9 + n ≡ 328 * k + 41 * i + (9 + n) = omega arith in rw e (byte (9 + n) (omega arith) (λ f. omega arith)))) y z (omega (arith, own-is))
+        copied-bit s (328 * k + 41 * i) w (blockAt bs k .own) d
+        (λ n l. (let e : 328 * k + 41 * i + 9 + n ≡ 328 * k + 41 * i + (9 + n) = omega arith in rw e (copied .put (9 + n) (omega arith)))) y z (omega (arith, own-is))
 
-    flag : (j : ℕ) → j < joinsOf bs k → getD v (328 * k + 41 * i + j) 0 ≡ markOf (blockAt bs k .own) s (blockAt bs k .own + 1 + j)
-    flag j l = byte j (omega arith) (λ e. omega arith) ∙ sym (mark-of-join (blockAt bs k .own) j s)
+    flag : (j : ℕ) → j < joinsOf bs k → getD w (328 * k + 41 * i + j) 0 ≡ markOf (blockAt bs k .own) s (blockAt bs k .own + 1 + j)
+    flag j l = copied .put j (omega arith) ∙ sym (mark-of-join (blockAt bs k .own) j s)
 
     at-mark : (d : ℕ) → HasPlace (blockAt bs k .own) d → On (blockAt bs k .own) s d ↔ Near q m (blockAt bs k) (blockAt bs k .own + 1 + i) d
     at-mark d l = rw cue at (marks .at d l)
 
-    right : Right q bs m v k i
+    right : Right q bs m w k i
     right =
         record {
           bits = λ d y z. (λ f. at-mark d (y, omega arith) .0 (sym (bit d y z) ∙ f), λ n. bit d y z ∙ at-mark d (y, omega arith) .1 n);
           across = λ j l. (λ f. at-mark (blockAt bs k .own + 1 + j) (omega arith, omega arith) .0 (sym (flag j l) ∙ f), λ y. flag j l ∙ at-mark (blockAt bs k .own + 1 + j) (omega arith, omega arith) .1 y);
-          own = λ n d a z y. inn .own (unset n) (marks .coarse .at d a z (at-mark d (a, omega arith) .1 y));
-          uses = λ n u j y l e. inn .uses (unset n) .at u j .at y l (e ∙ sym cue);
+          own = λ n d a z y. unset n (marks .coarse .at d a z (at-mark d (a, omega arith) .1 y));
+          uses = λ n u j y l e. marks .quiet (unset n) .at u j .at y l (e ∙ sym cue);
         }
 
 -- The record of an own cue, at the place of the first join of its block.

@@ -49,6 +49,7 @@ pub record IsCue (d u : ℕ) : Type 0 where
 pub record Added (own : ℕ) (P : ℕ → Type 0) (s w : List ℕ) : Type 0 where
   pub long : length w ≡ length s
   pub coarse : Coarse own s → Coarse own w
+  pub stays : getD s 8 0 ≡ 1 → getD w 8 0 ≡ 1
   pub at : (d : ℕ) → HasPlace own d → On own w d ↔ (On own s d ⊎ P d)
 
 -- Place i is the first one of a use's row that holds cue c, or the number of its joins where none does.

@@ -15,7 +15,7 @@ use Rattle.theory.proofs.BlockAt.{spot}
 use Rattle.theory.proofs.Locality.{Sound}
 use Rattle.links.specs.declared.Ask.{Ask}
 use Rattle.links.specs.Picks.{here, there, fits, Picked}
-use Rattle.links.specs.Ground.{ownBit, On, HasPlace, Coarse}
+use Rattle.links.specs.Ground.{ownBit, On, HasPlace, Coarse, Added}
 
 abbrev pub Flag : List ℕ → ℕ → ℕ → ℕ → Type 0
 Flag m k i j = getD m (328 * k + 41 * i + j) 0 ≡ 1
@@ -52,11 +52,28 @@ pub record IsColumn (xs : List ℕ) (r j flag d : ℕ) : Type 0 where
   pub at-j : cell xs r (3 + j) ≡ d
   pub set : flag ≡ 1
 
+-- The table has no cue inside the copy of a use for the join that meets cue c; and so for some uses.
+pub record Quiet (m : List ℕ) (c : ℕ) (u : Use) : Type 0 where
+  pub at : (n : ℕ) → n < length (u .at) → getD (u .at) n 0 ≡ c → Flag m (u .block) n 8 → ⊥
+
+pub record QuietAll (m : List ℕ) (c : ℕ) (us : List Use) : Type 0 where
+  pub at : (u : Use) → List·Memᴰ u us → Quiet m c u
+
+-- After the marks of a use, and of some uses: where flag 8 is not set, nothing inside them is linked to cue c.
+pub record UseMarked (own : ℕ) (m : List ℕ) (u : Use) (c : ℕ) (s w : List ℕ) : Type 0 where
+  pub added : Added own (ByUse m u c) s w
+  pub quiet : (getD w 8 0 ≡ 1 → ⊥) → Quiet m c u
+
+pub record UsesMarked (own : ℕ) (m : List ℕ) (us : List Use) (c : ℕ) (s w : List ℕ) : Type 0 where
+  pub added : Added own (ByUses m us c) s w
+  pub quiet : (getD w 8 0 ≡ 1 → ⊥) → QuietAll m c us
+
 -- The record s marks the cues of the block that are linked to its cue c.
 pub record Marks (q : Ask) (m : List ℕ) (b : Block) (c : ℕ) (s : List ℕ) : Type 0 where
   pub long : length s ≡ 41
   pub coarse : Coarse (b .own) s
   pub at : (d : ℕ) → HasPlace (b .own) d → On (b .own) s d ↔ Near q m b c d
+  pub quiet : (getD s 8 0 ≡ 1 → ⊥) → QuietAll m c (b .uses)
 
 -- The record at a place of the table has the bits of the own cues that are linked to cue c of block k, whatever cues the joins meet.
 pub record Known (q : Ask) (bs : List Block) (m : List ℕ) (at k c : ℕ) : Type 0 where
@@ -78,22 +95,6 @@ pub record ExactBelow (q : Ask) (bs : List Block) (m : List ℕ) (k : ℕ) : Typ
 -- Two tables agree up to a place.
 pub record SameTo (n : ℕ) (m w : List ℕ) : Type 0 where
   pub at : (x : ℕ) → x < n → getD w x 0 ≡ getD m x 0
-
--- A fact that is known where a test fails.
-pub record Unless (b : Bool) (A : Type 0) : Type 0 where
-  pub holds : b ≡ false → A
-
--- The table has no cue inside the copy of a use for the join that meets cue c; and so for some uses.
-pub record Quiet (m : List ℕ) (c : ℕ) (u : Use) : Type 0 where
-  pub at : (n : ℕ) → n < length (u .at) → getD (u .at) n 0 ≡ c → Flag m (u .block) n 8 → ⊥
-
-pub record QuietAll (m : List ℕ) (c : ℕ) (us : List Use) : Type 0 where
-  pub at : (u : Use) → List·Memᴰ u us → Quiet m c u
-
--- What is known of a cue whose flag for cues inside is x, where its flag for own cues was seen.
-pub record Inner (m : List ℕ) (b : Block) (c : ℕ) (seen x : ℕ) : Type 0 where
-  pub own : (x ≡ 1 → ⊥) → seen ≡ 1 → ⊥
-  pub uses : (x ≡ 1 → ⊥) → QuietAll m c (b .uses)
 
 -- The first bytes of s stand in w from a place on, and what was before that in m is as it was.
 pub record Copied (s : List ℕ) (many at : ℕ) (m w : List ℕ) : Type 0 where

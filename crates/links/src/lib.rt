@@ -11,7 +11,7 @@ ghost use Rattle.model.specs.Verdicts.{verdict};
 ghost use Rattle.model.specs.declared.Verdict.the-variants.{Accepted};
 ghost use Rattle.rules.specs.Index.{Indexed, linksFrom, linkAt, useAt};
 ghost use Rattle.links.specs.Picks.{nearEnd, fits, IsLink, Picked};
-ghost use Rattle.links.specs.Near.{ByUse, ByUses, IsColumn, ByRow, Marks, Known, Unless, Quiet, QuietAll, Inner, Copied, JoinDone, TableTo};
+ghost use Rattle.links.specs.Near.{IsColumn, ByRow, UseMarked, UsesMarked, Marks, Known, Copied, JoinDone, TableTo};
 ghost use Rattle.links.specs.Pages.{Gives};
 ghost use Rattle.links.specs.Walks.{stepList, ownList, May, MayDoor, Walked, Entered, Door};
 ghost use Rattle.links.specs.Joins.{lesser, Next, JoinsDone};
@@ -218,19 +218,24 @@ fn mark_use(
     s: &mut [u8; 41],
 )
     requires { ⌜ Ground (now xs) (now t) × UseRow (now xs) k r × (328 * k + 328 ≤ length (now m)) × (length (now s) ≡ 41) × (own ≤ 255) ⌝ }
-    ensures { λ _. ⌜ Added own (ByUse (now (m .entry)) (useAt (now (xs .entry)) (blocksOf (now (xs .entry))) r) c) (now (s .entry)) (now (s .exit)) ⌝ }
+    ensures { λ _. ⌜ UseMarked own (now (m .entry)) (useAt (now (xs .entry)) (blocksOf (now (xs .entry))) r) c (now (s .entry)) (now (s .exit)) ⌝ }
 {
     let j = wide(value(xs, r, 2));
     let joins = joins_of(xs, t, j);
     let i = place(xs, r, joins, c);
     if i < joins {
-        mark_row(xs, m, r, 328 * j + 41 * i, joins, own, s);
+        let at = 328 * j + 41 * i;
+        mark_row(xs, m, r, at, joins, own, s);
+        let flag = m[at + 8];
+        if flag == 1 {
+            s[8] = 1;
+        }
     }
 }
 
 fn mark_uses(xs: &[u32], t: &[u32; 512], m: &[u8], k: usize, own: u32, c: u32, s: &mut [u8; 41])
     requires { ⌜ Ground (now xs) (now t) × (k < length (blocksOf (now xs))) × (328 * k + 328 ≤ length (now m)) × (length (now s) ≡ 41) × (own ≤ 255) ⌝ }
-    ensures { λ _. ⌜ Added own (ByUses (now (m .entry)) (blockAt (blocksOf (now (xs .entry))) k .uses) c) (now (s .entry)) (now (s .exit)) ⌝ }
+    ensures { λ _. ⌜ UsesMarked own (now (m .entry)) (blockAt (blocksOf (now (xs .entry))) k .uses) c (now (s .entry)) (now (s .exit)) ⌝ }
 {
     let a = entry(t, k, 1);
     let e = entry(t, k, 2);
@@ -255,54 +260,6 @@ fn marks_of(xs: &[u32], t: &[u32; 512], q: Ask, m: &[u8], k: usize, c: u32) -> [
     s
 }
 
-// The use of a row meets cue c, and has a cue inside that is linked to it.
-fn reaches(xs: &[u32], t: &[u32; 512], m: &[u8], k: usize, r: usize, c: u32) -> bool
-    requires { ⌜ Ground (now xs) (now t) × UseRow (now xs) k r × (328 * k + 328 ≤ length (now m)) ⌝ }
-    ensures { λ b. ⌜ Unless b (Quiet (now (m .entry)) c (useAt (now (xs .entry)) (blocksOf (now (xs .entry))) r)) ⌝ }
-{
-    let j = wide(value(xs, r, 2));
-    let joins = joins_of(xs, t, j);
-    let i = place(xs, r, joins, c);
-    if i < joins {
-        let flag = m[328 * j + 41 * i + 8];
-        if flag == 1 {
-            return true;
-        }
-    }
-    false
-}
-
-// So does some use of block k.
-fn any_use(xs: &[u32], t: &[u32; 512], m: &[u8], k: usize, c: u32) -> bool
-    requires { ⌜ Ground (now xs) (now t) × (k < length (blocksOf (now xs))) × (328 * k + 328 ≤ length (now m)) ⌝ }
-    ensures { λ b. ⌜ Unless b (QuietAll (now (m .entry)) c (blockAt (blocksOf (now (xs .entry))) k .uses)) ⌝ }
-{
-    let a = entry(t, k, 1);
-    let e = entry(t, k, 2);
-    let mut r = a;
-    while r < e {
-        if reaches(xs, t, m, k, r, c) {
-            return true;
-        }
-        r += 1;
-    }
-    false
-}
-
-// 1 if cue c of block k is linked to a cue numbered inside.
-fn inner(xs: &[u32], t: &[u32; 512], m: &[u8], k: usize, c: u32, seen: u8) -> u8
-    requires { ⌜ Ground (now xs) (now t) × (k < length (blocksOf (now xs))) × (328 * k + 328 ≤ length (now m)) ⌝ }
-    ensures { λ x. ⌜ Inner (now (m .entry)) (blockAt (blocksOf (now (xs .entry))) k) c seen x ⌝ }
-{
-    if seen == 1 {
-        return 1;
-    }
-    if any_use(xs, t, m, k, c) {
-        return 1;
-    }
-    0
-}
-
 // Copies a record of marks into the table.
 fn copy_record(s: &[u8; 41], m: &mut [u8], at: usize)
     requires { ⌜ (at + 41 ≤ length (now m)) × (length (now s) ≡ 41) ⌝ }
@@ -325,10 +282,7 @@ fn fill_join(xs: &[u32], t: &[u32; 512], q: Ask, m: &mut [u8], k: usize, i: usiz
     let own = own_of(xs, t, k);
     let c = own + 1 + (i as u32);
     let s = marks_of(xs, t, q, m, k, c);
-    let seen = s[8];
-    let x = inner(xs, t, m, k, c, seen);
     copy_record(&s, m, at);
-    m[at + 8] = x;
 }
 
 // Fills the table for block k.

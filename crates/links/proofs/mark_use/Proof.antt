@@ -1,6 +1,6 @@
 -- `links::mark_use` meets its contract: the use marks by the join that meets the cue, if there is one.
 use borrow.Author.Needs.{needs}
-use Rattle.links.proofs.Marks.{use-yes, use-no}
+use Rattle.links.proofs.Marks.{use-inside, use-quiet, use-no}
 use Rattle.links.proofs.mark_use.Statement.{statement}
 use Rattle.links.proofs.mark_use.Tie as tie
 
@@ -16,23 +16,35 @@ joins-of-requires c κs = search needs
 place-requires : tie.Need-place-requires
 place-requires c κs = search needs
 
-mul-mark-row : tie.Need-mul-mark-row
-mul-mark-row c = search needs
+mul-at : tie.Need-mul-at
+mul-at c = search needs
 
-mul-mark-row-2 : tie.Need-mul-mark-row-2
-mul-mark-row-2 c = search needs
+mul-at-2 : tie.Need-mul-at-2
+mul-at-2 c = search needs
 
-add-mark-row : tie.Need-add-mark-row
-add-mark-row c = search needs
+add-at : tie.Need-add-at
+add-at c = search needs
 
 mark-row-requires : tie.Need-mark-row-requires
 mark-row-requires c κs = search needs
 
+add-flag : tie.Need-add-flag
+add-flag c = search needs
+
+shared-slice-read-flag : tie.Need-shared-slice-read-flag
+shared-slice-read-flag c = search needs
+
+element-write-s : tie.Need-element-write-s
+element-write-s c = search needs
+
 returns : tie.Need-returns
-returns c = search (use-yes, needs) fits 20000
+returns c = search (use-inside, needs) fits 20000
 
 returns-2 : tie.Need-returns-2
-returns-2 c = search (use-no, needs) fits 20000
+returns-2 c = search (use-quiet, needs) fits 20000
+
+returns-3 : tie.Need-returns-3
+returns-3 c = search (use-no, needs) fits 20000
 
 pub mark-use-spec : {M : Type 1} → statement M
 mark-use-spec =
@@ -42,9 +54,13 @@ mark-use-spec =
     wide-requires
     joins-of-requires
     place-requires
-    mul-mark-row
-    mul-mark-row-2
-    add-mark-row
+    mul-at
+    mul-at-2
+    add-at
     mark-row-requires
+    add-flag
+    shared-slice-read-flag
+    element-write-s
     returns
-    returns-2)
+    returns-2
+    returns-3)

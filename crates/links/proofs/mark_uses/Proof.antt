@@ -5,15 +5,14 @@ use mathlib.Core.Path.{_≡_}
 use lib.ListN.{length}
 use Rattle.model.specs.Blocks.{blocksOf}
 use Rattle.rules.specs.Index.{usesFrom}
-use Rattle.links.specs.Near.{ByUses}
-use Rattle.links.specs.Ground.{Added}
-use Rattle.links.proofs.Marks.{uses-begin, uses-on, uses-end, added-long}
+use Rattle.links.specs.Near.{UsesMarked}
+use Rattle.links.proofs.Marks.{uses-begin, uses-on, uses-end, uses-long}
 use Rattle.links.proofs.Ground.{row-known, rows-order}
 use Rattle.links.proofs.mark_uses.Statement.{statement}
 use Rattle.links.proofs.mark_uses.Tie as tie
 
 abbrev Inv-loop : tie.InvT-loop
-Inv-loop xs t m k own c s₀ a e r₀ s r = (a ≤ r) × (r ≤ e) × (length s ≡ 41) × Added own (ByUses m (usesFrom xs (blocksOf xs) a (r - a)) c) s₀ s
+Inv-loop xs t m k own c s₀ a e r₀ s r = (a ≤ r) × (r ≤ e) × (length s ≡ 41) × UsesMarked own m (usesFrom xs (blocksOf xs) a (r - a)) c s₀ s
 
 abbrev μ-loop : tie.MeasureT-loop
 μ-loop xs t m k own c s₀ a e r₀ s r = e - r
@@ -37,7 +36,7 @@ loop-less : tie.Need-loop-less Inv-loop μ-loop
 loop-less c = search needs
 
 loop-again : tie.Need-loop-again Inv-loop μ-loop
-loop-again c = search (uses-on, added-long, needs)
+loop-again c = search (uses-on, uses-long, needs)
 
 returns : tie.Need-returns Inv-loop μ-loop
 returns c = search (uses-end, needs) fits 20000
