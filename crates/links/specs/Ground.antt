@@ -16,6 +16,13 @@ pub record Ground (xs t : List ℕ) : Type 0 where
   pub show : Show xs
   pub indexed : Indexed xs t
 
+-- A table is long enough for the record at a place, and for the records of block k.
+abbrev pub HasRecord : List ℕ → ℕ → Type 0
+HasRecord m at = at + 41 ≤ length m
+
+abbrev pub HasBlock : List ℕ → ℕ → Type 0
+HasBlock m k = 328 * k + 328 ≤ length m
+
 -- Bit n of a byte, and the byte with that bit set.
 abbrev pub bitAt : ℕ → ℕ → ℕ
 bitAt b n = b / 2 ^ n % 2

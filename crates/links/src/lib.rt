@@ -17,7 +17,35 @@ ghost use Rattle.links.specs.Walks.{stepList, ownList, May, MayDoor, Wal
 ghost use Rattle.links.specs.Joins.{lesser, Next, JoinsDone};
 ghost use Rattle.links.specs.Stands.{Standing, MayStep, Stepped, ColumnsFit, MeetIs, Trail};
 ghost use Rattle.links.specs.Answer.{cueOf, linkedCues, IsListed, MayAnswer, Answered};
-ghost use Rattle.links.specs.Ground.{Ground, UseRow, bitAt, setBit, ownBit, IsCue, Added, PlaceIs};
+ghost use Rattle.links.specs.Ground.{Ground, UseRow, HasRecord, HasBlock, bitAt, setBit, IsCue, Added, PlaceIs};
+
+// The values of a row, and the first of those that name cues; the numbers of a block in the index.
+const ROW: usize = 11;
+
+const COLUMNS: usize = 3;
+
+const ENTRY: usize = 4;
+
+const INDEX: usize = 512;
+// A block has at most this many joins.
+const JOINS: usize = 8;
+// A record has a flag for each join, one that says that there is something inside, and 32 bytes with a bit for each own cue. The table
+// has one for each join, and so many bytes for each block.
+const INSIDE: usize = 8;
+
+const BITS: usize = 9;
+
+const RECORD: usize = 41;
+
+const BLOCK: usize = 328;
+// A table has 128 blocks, and a short one those below LOW.
+const TABLE: usize = 41984;
+
+const LOW: usize = 32;
+
+const LOW_TABLE: usize = 10496;
+// More cues than this no show has.
+const CUES: usize = 2147483647;
 
 // What is asked for: the cues that links with labels lo to hi lead to from the cue, or inward from which they lead to it, that are greater
 // than after; and how many of them may be written.
@@ -39,7 +67,7 @@ pub struct Listed {
 pub struct Stand {
     pub block: usize,
     pub base: u32,
-    pub met: [u32; 8],
+    pub met: [u32; JOINS],
 }
 
 // A number as an index.
@@ -54,7 +82,7 @@ fn value(xs: &[u32], r: usize, c: usize) -> u32
     requires { ⌜ (r < 4294967296) × (c < 11) ⌝ }
     ensures { λ v. ⌜ v ≡ cell (now (xs .entry)) r c ⌝ }
 {
-    let i = r * 11 + c;
+    let i = r * ROW + c;
     if i < xs.len() {
         return xs[i];
     }
@@ -62,22 +90,22 @@ fn value(xs: &[u32], r: usize, c: usize) -> u32
 }
 
 // Number c of block k in the index.
-fn entry(t: &[u32; 512], k: usize, c: usize) -> usize
+fn entry(t: &[u32; INDEX], k: usize, c: usize) -> usize
     requires { ⌜ (k < 128) × (c < 4) ⌝ }
     ensures { λ v. ⌜ (v ≡ getD (now (t .entry)) (4 * k + c) 0) × (v < 4294967296) ⌝ }
 {
-    wide(t[4 * k + c])
+    wide(t[ENTRY * k + c])
 }
 
 // How many joins, and how many own cues, block k has.
-fn joins_of(xs: &[u32], t: &[u32; 512], k: usize) -> usize
+fn joins_of(xs: &[u32], t: &[u32; INDEX], k: usize) -> usize
     requires { ⌜ Ground (now xs) (now t) × (k < length (blocksOf (now xs))) ⌝ }
     ensures { λ v. ⌜ (v ≡ joinsOf (blocksOf (now (xs .entry))) k) × (v ≤ 8) ⌝ }
 {
     wide(value(xs, entry(t, k, 0), 2))
 }
 
-fn own_of(xs: &[u32], t: &[u32; 512], k: usize) -> u32
+fn own_of(xs: &[u32], t: &[u32; INDEX], k: usize) -> u32
     requires { ⌜ Ground (now xs) (now t) × (k < length (blocksOf (now xs))) ⌝ }
     ensures { λ v. ⌜ (v ≡ ownOf (blocksOf (now (xs .entry))) k) × (v ≤ 255) ⌝ }
 {
@@ -121,27 +149,27 @@ fn with_bit(b: u8, n: usize) -> u8
 
 // Marks cue d of a block with own own cues. In a record of 41 bytes flags 0 to 7 are for joins; flag 8 says that an own cue, or a cue
 // inside a use, is marked; 32 bytes behind them have a bit for each own cue.
-fn mark(s: &mut [u8; 41], own: u32, d: u32)
+fn mark(s: &mut [u8; RECORD], own: u32, d: u32)
     requires { ⌜ (length (now s) ≡ 41) × (own ≤ 255) ⌝ }
     ensures { λ _. ⌜ Added own (IsCue d) (now (s .entry)) (now (s .exit)) ⌝ }
 {
     if own < d {
         let j = wide(d - own - 1);
-        if j < 8 {
+        if j < JOINS {
             s[j] = 1;
         }
         return;
     }
     if 0 < d {
         let i = wide(d - 1);
-        let b = s[9 + i / 8];
-        s[9 + i / 8] = with_bit(b, i % 8);
-        s[8] = 1;
+        let b = s[BITS + i / 8];
+        s[BITS + i / 8] = with_bit(b, i % 8);
+        s[INSIDE] = 1;
     }
 }
 
 // Marks the other end of the link of row r if the question picks it and it has one end at cue c; and so for rows a to e.
-fn mark_link(xs: &[u32], q: Ask, r: usize, own: u32, c: u32, s: &mut [u8; 41])
+fn mark_link(xs: &[u32], q: Ask, r: usize, own: u32, c: u32, s: &mut [u8; RECORD])
     requires { ⌜ (r < 4294967296) × (length (now s) ≡ 41) × (own ≤ 255) ⌝ }
     ensures { λ _. ⌜ Added own (IsLink q (linkAt (now (xs .entry)) r) c) (now (s .entry)) (now (s .exit)) ⌝ }
 {
@@ -155,7 +183,7 @@ fn mark_link(xs: &[u32], q: Ask, r: usize, own: u32, c: u32, s: &mut [u8; 41])
     }
 }
 
-fn mark_links(xs: &[u32], q: Ask, a: usize, e: usize, own: u32, c: u32, s: &mut [u8; 41])
+fn mark_links(xs: &[u32], q: Ask, a: usize, e: usize, own: u32, c: u32, s: &mut [u8; RECORD])
     requires { ⌜ (e < 4294967296) × (a ≤ e) × (length (now s) ≡ 41) × (own ≤ 255) ⌝ }
     ensures { λ _. ⌜ Added own (Picked q (linksFrom (now (xs .entry)) a (e - a)) c) (now (s .entry)) (now (s .exit)) ⌝ }
 {
@@ -173,7 +201,7 @@ fn place(xs: &[u32], r: usize, joins: usize, c: u32) -> usize
 {
     let mut i = 0;
     while i < joins {
-        let x = value(xs, r, 3 + i);
+        let x = value(xs, r, COLUMNS + i);
         if x == c {
             return i;
         }
@@ -183,18 +211,18 @@ fn place(xs: &[u32], r: usize, joins: usize, c: u32) -> usize
 }
 
 // Marks the cue in a column of a use whose flag is set.
-fn mark_column(xs: &[u32], r: usize, j: usize, flag: u8, own: u32, s: &mut [u8; 41])
+fn mark_column(xs: &[u32], r: usize, j: usize, flag: u8, own: u32, s: &mut [u8; RECORD])
     requires { ⌜ (r < 4294967296) × (j < 8) × (length (now s) ≡ 41) × (own ≤ 255) ⌝ }
     ensures { λ _. ⌜ Added own (IsColumn (now (xs .entry)) r j flag) (now (s .entry)) (now (s .exit)) ⌝ }
 {
     if flag == 1 {
-        let d = value(xs, r, 3 + j);
+        let d = value(xs, r, COLUMNS + j);
         mark(s, own, d);
     }
 }
 
 // Marks the cues that a use meets at joins linked to one of its joins, whose flags stand in the table from at on.
-fn mark_row(xs: &[u32], m: &[u8], r: usize, at: usize, joins: usize, own: u32, s: &mut [u8; 41])
+fn mark_row(xs: &[u32], m: &[u8], r: usize, at: usize, joins: usize, own: u32, s: &mut [u8; RECORD])
     requires { ⌜ (r < 4294967296) × (joins ≤ 8) × (at + 8 ≤ length (now m)) × (at < 65536) × (length (now s) ≡ 41) × (own ≤ 255) ⌝ }
     ensures { λ _. ⌜ Added own (ByRow (now (xs .entry)) (now (m .entry)) r at joins) (now (s .entry)) (now (s .exit)) ⌝ }
 {
@@ -209,32 +237,40 @@ fn mark_row(xs: &[u32], m: &[u8], r: usize, at: usize, joins: usize, own: u32, s
 // Marks the cues that are linked to cue c inside the copy of the use of row r; and so for all uses of block k.
 fn mark_use(
     xs: &[u32],
-    t: &[u32; 512],
+    t: &[u32; INDEX],
     m: &[u8],
     k: usize,
     r: usize,
     own: u32,
     c: u32,
-    s: &mut [u8; 41],
+    s: &mut [u8; RECORD],
 )
-    requires { ⌜ Ground (now xs) (now t) × UseRow (now xs) k r × (328 * k + 328 ≤ length (now m)) × (length (now s) ≡ 41) × (own ≤ 255) ⌝ }
+    requires { ⌜ Ground (now xs) (now t) × UseRow (now xs) k r × HasBlock (now m) k × (length (now s) ≡ 41) × (own ≤ 255) ⌝ }
     ensures { λ _. ⌜ UseMarked own (now (m .entry)) (useAt (now (xs .entry)) (blocksOf (now (xs .entry))) r) c (now (s .entry)) (now (s .exit)) ⌝ }
 {
     let j = wide(value(xs, r, 2));
     let joins = joins_of(xs, t, j);
     let i = place(xs, r, joins, c);
     if i < joins {
-        let at = 328 * j + 41 * i;
+        let at = BLOCK * j + RECORD * i;
         mark_row(xs, m, r, at, joins, own, s);
-        let flag = m[at + 8];
+        let flag = m[at + INSIDE];
         if flag == 1 {
-            s[8] = 1;
+            s[INSIDE] = 1;
         }
     }
 }
 
-fn mark_uses(xs: &[u32], t: &[u32; 512], m: &[u8], k: usize, own: u32, c: u32, s: &mut [u8; 41])
-    requires { ⌜ Ground (now xs) (now t) × (k < length (blocksOf (now xs))) × (328 * k + 328 ≤ length (now m)) × (length (now s) ≡ 41) × (own ≤ 255) ⌝ }
+fn mark_uses(
+    xs: &[u32],
+    t: &[u32; INDEX],
+    m: &[u8],
+    k: usize,
+    own: u32,
+    c: u32,
+    s: &mut [u8; RECORD],
+)
+    requires { ⌜ Ground (now xs) (now t) × (k < length (blocksOf (now xs))) × HasBlock (now m) k × (length (now s) ≡ 41) × (own ≤ 255) ⌝ }
     ensures { λ _. ⌜ UsesMarked own (now (m .entry)) (blockAt (blocksOf (now (xs .entry))) k .uses) c (now (s .entry)) (now (s .exit)) ⌝ }
 {
     let a = entry(t, k, 1);
@@ -247,11 +283,11 @@ fn mark_uses(xs: &[u32], t: &[u32; 512], m: &[u8], k: usize, own: u32, c: u32, s
 }
 
 // Marks the cues of block k that are linked to its cue c.
-fn marks_of(xs: &[u32], t: &[u32; 512], q: Ask, m: &[u8], k: usize, c: u32) -> [u8; 41]
-    requires { ⌜ Ground (now xs) (now t) × (k < length (blocksOf (now xs))) × (328 * k + 328 ≤ length (now m)) ⌝ }
+fn marks_of(xs: &[u32], t: &[u32; INDEX], q: Ask, m: &[u8], k: usize, c: u32) -> [u8; RECORD]
+    requires { ⌜ Ground (now xs) (now t) × (k < length (blocksOf (now xs))) × HasBlock (now m) k ⌝ }
     ensures { λ s. ⌜ Marks q (now (m .entry)) (blockAt (blocksOf (now (xs .entry))) k) c s ⌝ }
 {
-    let mut s: [u8; 41] = [0; 41];
+    let mut s: [u8; RECORD] = [0; RECORD];
     let f = entry(t, k, 0);
     let a = entry(t, k, 1);
     let own = own_of(xs, t, k);
@@ -261,12 +297,12 @@ fn marks_of(xs: &[u32], t: &[u32; 512], q: Ask, m: &[u8], k: usize, c: u32) -> [
 }
 
 // Copies a record of marks into the table.
-fn copy_record(s: &[u8; 41], m: &mut [u8], at: usize)
-    requires { ⌜ (at + 41 ≤ length (now m)) × (length (now s) ≡ 41) ⌝ }
+fn copy_record(s: &[u8; RECORD], m: &mut [u8], at: usize)
+    requires { ⌜ HasRecord (now m) at × (length (now s) ≡ 41) ⌝ }
     ensures { λ _. ⌜ Copied (now (s .entry)) 41 at (now (m .entry)) (now (m .exit)) ⌝ }
 {
     let mut j = 0;
-    while j < 41 {
+    while j < RECORD {
         let x = s[j];
         m[at + j] = x;
         j += 1;
@@ -274,11 +310,11 @@ fn copy_record(s: &[u8; 41], m: &mut [u8], at: usize)
 }
 
 // Fills the table for join i of block k.
-fn fill_join(xs: &[u32], t: &[u32; 512], q: Ask, m: &mut [u8], k: usize, i: usize)
-    requires { ⌜ Ground (now xs) (now t) × (k < length (blocksOf (now xs))) × (328 * k + 328 ≤ length (now m)) × (i < joinsOf (blocksOf (now xs)) k) × (i < 8) × TableTo q (blocksOf (now xs)) (now m) k ⌝ }
+fn fill_join(xs: &[u32], t: &[u32; INDEX], q: Ask, m: &mut [u8], k: usize, i: usize)
+    requires { ⌜ Ground (now xs) (now t) × (k < length (blocksOf (now xs))) × HasBlock (now m) k × (i < joinsOf (blocksOf (now xs)) k) × (i < 8) × TableTo q (blocksOf (now xs)) (now m) k ⌝ }
     ensures { λ _. ⌜ JoinDone q (blocksOf (now (xs .entry))) k i (now (m .entry)) (now (m .exit)) ⌝ }
 {
-    let at = 328 * k + 41 * i;
+    let at = BLOCK * k + RECORD * i;
     let own = own_of(xs, t, k);
     let c = own + 1 + (i as u32);
     let s = marks_of(xs, t, q, m, k, c);
@@ -286,8 +322,8 @@ fn fill_join(xs: &[u32], t: &[u32; 512], q: Ask, m: &mut [u8], k: usize, i: usiz
 }
 
 // Fills the table for block k.
-fn fill_block(xs: &[u32], t: &[u32; 512], q: Ask, m: &mut [u8], k: usize)
-    requires { ⌜ Ground (now xs) (now t) × (k < length (blocksOf (now xs))) × (328 * k + 328 ≤ length (now m)) × TableTo q (blocksOf (now xs)) (now m) k ⌝ }
+fn fill_block(xs: &[u32], t: &[u32; INDEX], q: Ask, m: &mut [u8], k: usize)
+    requires { ⌜ Ground (now xs) (now t) × (k < length (blocksOf (now xs))) × HasBlock (now m) k × TableTo q (blocksOf (now xs)) (now m) k ⌝ }
     ensures { λ _. ⌜ TableTo q (blocksOf (now (xs .entry))) (now (m .exit)) (k + 1) ⌝ }
 {
     let joins = joins_of(xs, t, k);
@@ -299,8 +335,8 @@ fn fill_block(xs: &[u32], t: &[u32; 512], q: Ask, m: &mut [u8], k: usize)
 }
 
 // Fills the table for the blocks below k.
-fn fill(xs: &[u32], t: &[u32; 512], q: Ask, m: &mut [u8], k: usize)
-    requires { ⌜ Ground (now xs) (now t) × (k < length (blocksOf (now xs))) × (328 * k + 328 ≤ length (now m)) ⌝ }
+fn fill(xs: &[u32], t: &[u32; INDEX], q: Ask, m: &mut [u8], k: usize)
+    requires { ⌜ Ground (now xs) (now t) × (k < length (blocksOf (now xs))) × HasBlock (now m) k ⌝ }
     ensures { λ _. ⌜ TableTo q (blocksOf (now (xs .entry))) (now (m .exit)) k ⌝ }
 {
     let mut j = 0;
@@ -350,14 +386,14 @@ fn next_byte(d: usize, own: usize) -> usize
 
 // The same for the own cues of a copy whose bits are set in the record at a place.
 fn give_own(q: Ask, s: &[u8], at: usize, own: usize, base: u32, page: &mut [u32], w: usize) -> usize
-    requires { ⌜ (at + 41 ≤ length (now s)) × (own ≤ 255) × (base + own ≤ 2147483647) × (q .room ≤ length (now page)) × (q .room ≤ 2147483647) × (w ≤ q .room + 1) ⌝ }
+    requires { ⌜ HasRecord (now s) at × (own ≤ 255) × (base + own ≤ 2147483647) × (q .room ≤ length (now page)) × (q .room ≤ 2147483647) × (w ≤ q .room + 1) ⌝ }
     ensures { λ g. ⌜ Gives (q .room) (now (page .entry)) w (ownList q (now (s .entry)) (at + 9) base own) (now (page .exit)) g ⌝ }
 {
     let mut d = 1;
     let mut g = w;
     while d <= own {
         let i = d - 1;
-        let b = s[at + 9 + i / 8];
+        let b = s[at + BITS + i / 8];
         if b == 0 {
             d = next_byte(d, own);
             continue;
@@ -370,18 +406,18 @@ fn give_own(q: Ask, s: &[u8], at: usize, own: usize, base: u32, page: &mut [u32]
 }
 
 // The total of the block that the use of row r names.
-fn size_of(xs: &[u32], t: &[u32; 512], k: usize, r: usize) -> u32
+fn size_of(xs: &[u32], t: &[u32; INDEX], k: usize, r: usize) -> u32
     requires { ⌜ Ground (now xs) (now t) × UseRow (now xs) k r ⌝ }
     ensures { λ n. ⌜ n ≡ total (blocksOf (now (xs .entry))) (cell (now (xs .entry)) r 2) ⌝ }
 {
     let j = wide(value(xs, r, 2));
-    t[4 * j + 3]
+    t[ENTRY * j + 3]
 }
 
 // Gives the page the own cues of the copy of block k after base that its cue c, whose record stands at a place, is linked to.
 fn give_block(
     xs: &[u32],
-    t: &[u32; 512],
+    t: &[u32; INDEX],
     q: Ask,
     m: &[u8],
     k: usize,
@@ -391,7 +427,7 @@ fn give_block(
     page: &mut [u32],
     w: usize,
 ) -> usize
-    requires { ⌜ Ground (now xs) (now t) × Known q (blocksOf (now xs)) (now m) at k c × (at + 41 ≤ length (now m)) × May q (blocksOf (now xs)) k base c (now page) w ⌝ }
+    requires { ⌜ Ground (now xs) (now t) × Known q (blocksOf (now xs)) (now m) at k c × HasRecord (now m) at × May q (blocksOf (now xs)) k base c (now page) w ⌝ }
     ensures { λ g. ⌜ Walked q (blocksOf (now (xs .entry))) k base c base (now (page .entry)) w (ownOf (blocksOf (now (xs .entry))) k) (now (page .exit)) g ⌝ }
 {
     let own = own_of(xs, t, k);
@@ -401,7 +437,7 @@ fn give_block(
 // The join of the used block from which the walk goes on in the copy of the use of row r, which begins after base, or 8.
 fn door(
     xs: &[u32],
-    t: &[u32; 512],
+    t: &[u32; INDEX],
     q: Ask,
     m: &[u8],
     k: usize,
@@ -410,35 +446,35 @@ fn door(
     c: u32,
     w: usize,
 ) -> usize
-    requires { ⌜ Ground (now xs) (now t) × UseRow (now xs) k r × (328 * k + 328 ≤ length (now m)) × TableTo q (blocksOf (now xs)) (now m) k × MayDoor q (now xs) k r base c w ⌝ }
+    requires { ⌜ Ground (now xs) (now t) × UseRow (now xs) k r × HasBlock (now m) k × TableTo q (blocksOf (now xs)) (now m) k × MayDoor q (now xs) k r base c w ⌝ }
     ensures { λ i. ⌜ Door q (now (xs .entry)) k r base c w i ⌝ }
 {
     let room = q.room;
     if room < w {
-        return 8;
+        return JOINS;
     }
     let size = size_of(xs, t, k, r);
     if base + size <= q.after {
-        return 8;
+        return JOINS;
     }
     let j = wide(value(xs, r, 2));
     let joins = joins_of(xs, t, j);
     let i = place(xs, r, joins, c);
     if joins <= i {
-        return 8;
+        return JOINS;
     }
-    let flag = m[328 * j + 41 * i + 8];
+    let flag = m[BLOCK * j + RECORD * i + INSIDE];
     if flag == 1 {
         return i;
     }
-    8
+    JOINS
 }
 
 // Gives the page the cues inside the copy of block k after base that its cue c is linked to: the own ones, then those in the copies of its
 // uses.
 fn walk(
     xs: &[u32],
-    t: &[u32; 512],
+    t: &[u32; INDEX],
     q: Ask,
     m: &[u8],
     k: usize,
@@ -448,7 +484,7 @@ fn walk(
     page: &mut [u32],
     w: usize,
 ) -> usize
-    requires { ⌜ Ground (now xs) (now t) × TableTo q (blocksOf (now xs)) (now m) k × Known q (blocksOf (now xs)) (now m) at k c × (328 * k + 328 ≤ length (now m)) × (at + 41 ≤ length (now m)) × May q (blocksOf (now xs)) k base c (now page) w ⌝ }
+    requires { ⌜ Ground (now xs) (now t) × TableTo q (blocksOf (now xs)) (now m) k × Known q (blocksOf (now xs)) (now m) at k c × HasBlock (now m) k × HasRecord (now m) at × May q (blocksOf (now xs)) k base c (now page) w ⌝ }
     ensures { λ g. ⌜ Walked q (blocksOf (now (xs .entry))) k base c base (now (page .entry)) w (total (blocksOf (now (xs .entry))) k) (now (page .exit)) g ⌝ }
 {
     let mut g = give_block(xs, t, q, m, k, at, base, c, page, w);
@@ -467,7 +503,7 @@ fn walk(
 // The same for the copy of the use of row r of block k, which begins after base.
 fn enter(
     xs: &[u32],
-    t: &[u32; 512],
+    t: &[u32; INDEX],
     q: Ask,
     m: &[u8],
     k: usize,
@@ -477,15 +513,15 @@ fn enter(
     page: &mut [u32],
     w: usize,
 ) -> usize
-    requires { ⌜ Ground (now xs) (now t) × UseRow (now xs) k r × (328 * k + 328 ≤ length (now m)) × TableTo q (blocksOf (now xs)) (now m) k × MayDoor q (now xs) k r base c w × (q .room ≤ length (now page)) ⌝ }
+    requires { ⌜ Ground (now xs) (now t) × UseRow (now xs) k r × HasBlock (now m) k × TableTo q (blocksOf (now xs)) (now m) k × MayDoor q (now xs) k r base c w × (q .room ≤ length (now page)) ⌝ }
     ensures { λ g. ⌜ Entered q (now (xs .entry)) k r base c (now (page .entry)) w (now (page .exit)) g ⌝ }
 {
     let i = door(xs, t, q, m, k, r, base, c, w);
-    if i == 8 {
+    if i == JOINS {
         return w;
     }
     let j = wide(value(xs, r, 2));
-    let at = 328 * j + 41 * i;
+    let at = BLOCK * j + RECORD * i;
     let d = own_of(xs, t, j) + 1 + (i as u32);
     let a = entry(t, j, 1);
     let e = entry(t, j, 2);
@@ -513,7 +549,7 @@ fn lesser_of(flag: u8, y: u32, last: u32, x: u32) -> u32
 }
 
 // The least cue above last that a marked join meets, and 0 if there is none.
-fn next_join(s: &[u8; 41], joins: usize, met: [u32; 8], last: u32) -> u32
+fn next_join(s: &[u8; RECORD], joins: usize, met: [u32; JOINS], last: u32) -> u32
     requires { ⌜ joins ≤ 8 ⌝ }
     ensures { λ x. ⌜ Next (now (s .entry)) joins met last x ⌝ }
 {
@@ -529,7 +565,7 @@ fn next_join(s: &[u8; 41], joins: usize, met: [u32; 8], last: u32) -> u32
 }
 
 // Gives the page the cues that the marked joins meet, in rising order.
-fn give_joins(q: Ask, s: &[u8; 41], joins: usize, met: [u32; 8], page: &mut [u32]) -> usize
+fn give_joins(q: Ask, s: &[u8; RECORD], joins: usize, met: [u32; JOINS], page: &mut [u32]) -> usize
     requires { ⌜ (joins ≤ 8) × (q .room ≤ length (now page)) × (q .room ≤ 2147483647) ⌝ }
     ensures { λ g. ⌜ JoinsDone q (now (s .entry)) joins met (now (page .entry)) 0 (now (page .exit)) g ⌝ }
 {
@@ -547,7 +583,7 @@ fn give_joins(q: Ask, s: &[u8; 41], joins: usize, met: [u32; 8], page: &mut [u32
 }
 
 // The number of cue c of a copy.
-fn cue_number(own: u32, base: u32, met: [u32; 8], c: u32) -> u32
+fn cue_number(own: u32, base: u32, met: [u32; JOINS], c: u32) -> u32
     requires { ⌜ (c ≤ own + 8) × (base + own ≤ 2147483647) ⌝ }
     ensures { λ v. ⌜ v ≡ cueAt own base met c ⌝ }
 {
@@ -559,14 +595,14 @@ fn cue_number(own: u32, base: u32, met: [u32; 8], c: u32) -> u32
 }
 
 // The cues that the joins of the use of row r meet, in a copy.
-fn meet(xs: &[u32], r: usize, joins: usize, own: u32, base: u32, met: [u32; 8]) -> [u32; 8]
+fn meet(xs: &[u32], r: usize, joins: usize, own: u32, base: u32, met: [u32; JOINS]) -> [u32; JOINS]
     requires { ⌜ (r < 1024) × (joins ≤ 8) × (base + own ≤ 2147483647) × ColumnsFit (now xs) r joins own ⌝ }
     ensures { λ out. ⌜ MeetIs (now (xs .entry)) r joins own base met out ⌝ }
 {
-    let mut out: [u32; 8] = [0; 8];
+    let mut out: [u32; JOINS] = [0; JOINS];
     let mut j = 0;
     while j < joins {
-        let x = value(xs, r, 3 + j);
+        let x = value(xs, r, COLUMNS + j);
         let y = cue_number(own, base, met, x);
         out[j] = y;
         j += 1;
@@ -575,7 +611,7 @@ fn meet(xs: &[u32], r: usize, joins: usize, own: u32, base: u32, met: [u32; 8]) 
 }
 
 // Where the copy of the use of row r begins, in the copy of block k after base.
-fn begins(xs: &[u32], t: &[u32; 512], k: usize, r: usize, base: u32) -> u32
+fn begins(xs: &[u32], t: &[u32; INDEX], k: usize, r: usize, base: u32) -> u32
     requires { ⌜ Ground (now xs) (now t) × (k < length (blocksOf (now xs))) × (base + total (blocksOf (now xs)) k ≤ 2147483647) × (getD (now t) (4 * k + 1) 0 ≤ r) × (r < getD (now t) (4 * k + 2) 0) ⌝ }
     ensures { λ b. ⌜ b ≡ base + ownOf (blocksOf (now (xs .entry))) k + sumOver (total (blocksOf (now (xs .entry)))) (take (r - getD (now (t .entry)) (4 * k + 1) 0) (blockAt (blocksOf (now (xs .entry))) k .uses)) ⌝ }
 {
@@ -590,7 +626,7 @@ fn begins(xs: &[u32], t: &[u32; 512], k: usize, r: usize, base: u32) -> u32
 }
 
 // One step of a path: into the p-th use of a copy.
-fn step(xs: &[u32], t: &[u32; 512], z: Stand, p: u32) -> Stand
+fn step(xs: &[u32], t: &[u32; INDEX], z: Stand, p: u32) -> Stand
     requires { ⌜ Ground (now xs) (now t) × MayStep (blocksOf (now xs)) (z .block) (z .base) p ⌝ }
     ensures { λ y. ⌜ Stepped (blocksOf (now (xs .entry))) p (z .block) (z .base) (z .met) (y .block) (y .base) (y .met) ⌝ }
 {
@@ -611,11 +647,11 @@ fn step(xs: &[u32], t: &[u32; 512], z: Stand, p: u32) -> Stand
 }
 
 // The copy at the end of a path of the show.
-fn descend(xs: &[u32], t: &[u32; 512], blocks: u32, path: &[u32], depth: usize) -> Stand
+fn descend(xs: &[u32], t: &[u32; INDEX], blocks: u32, path: &[u32], depth: usize) -> Stand
     requires { ⌜ Ground (now xs) (now t) × (blocks ≡ length (blocksOf (now xs))) × Trail (blocksOf (now xs)) (now path) depth ⌝ }
     ensures { λ z. ⌜ Standing (blocksOf (now (xs .entry))) (take depth (now (path .entry))) (z .block) (z .base) (z .met) ⌝ }
 {
-    let none: [u32; 8] = [0; 8];
+    let none: [u32; JOINS] = [0; JOINS];
     let mut z = Stand {
         block: wide(blocks - 1),
         base: 0,
@@ -633,20 +669,20 @@ fn descend(xs: &[u32], t: &[u32; 512], blocks: u32, path: &[u32], depth: usize) 
 // Gives the page the cues asked for that own cue c of a copy is linked to, by means of a table.
 fn answer_by(
     xs: &[u32],
-    t: &[u32; 512],
+    t: &[u32; INDEX],
     q: Ask,
     z: Stand,
     c: u32,
     page: &mut [u32],
     m: &mut [u8],
 ) -> usize
-    requires { ⌜ Ground (now xs) (now t) × MayAnswer q (blocksOf (now xs)) (z .block) (z .base) c (now page) × (328 * (z .block) + 328 ≤ length (now m)) ⌝ }
+    requires { ⌜ Ground (now xs) (now t) × MayAnswer q (blocksOf (now xs)) (z .block) (z .base) c (now page) × HasBlock (now m) (z .block) ⌝ }
     ensures { λ g. ⌜ Answered q (blocksOf (now (xs .entry))) (z .block) (z .base) (z .met) c (now (page .entry)) (now (page .exit)) g ⌝ }
 {
     let k = z.block;
     let base = z.base;
     let met = z.met;
-    let at = 328 * k;
+    let at = BLOCK * k;
     fill(xs, t, q, m, k);
     let joins = joins_of(xs, t, k);
     let s = marks_of(xs, t, q, m, k, c);
@@ -656,28 +692,28 @@ fn answer_by(
 }
 
 // The same in a low block, for which a short table is enough, and in any.
-fn answer_low(xs: &[u32], t: &[u32; 512], q: Ask, z: Stand, c: u32, page: &mut [u32]) -> usize
+fn answer_low(xs: &[u32], t: &[u32; INDEX], q: Ask, z: Stand, c: u32, page: &mut [u32]) -> usize
     requires { ⌜ Ground (now xs) (now t) × MayAnswer q (blocksOf (now xs)) (z .block) (z .base) c (now page) × (z .block < 32) ⌝ }
     ensures { λ g. ⌜ Answered q (blocksOf (now (xs .entry))) (z .block) (z .base) (z .met) c (now (page .entry)) (now (page .exit)) g ⌝ }
 {
-    let mut m: [u8; 10496] = [0; 10496];
+    let mut m: [u8; LOW_TABLE] = [0; LOW_TABLE];
     answer_by(xs, t, q, z, c, page, &mut m)
 }
 
-fn answer_any(xs: &[u32], t: &[u32; 512], q: Ask, z: Stand, c: u32, page: &mut [u32]) -> usize
+fn answer_any(xs: &[u32], t: &[u32; INDEX], q: Ask, z: Stand, c: u32, page: &mut [u32]) -> usize
     requires { ⌜ Ground (now xs) (now t) × MayAnswer q (blocksOf (now xs)) (z .block) (z .base) c (now page) ⌝ }
     ensures { λ g. ⌜ Answered q (blocksOf (now (xs .entry))) (z .block) (z .base) (z .met) c (now (page .entry)) (now (page .exit)) g ⌝ }
 {
-    let mut m: [u8; 41984] = [0; 41984];
+    let mut m: [u8; TABLE] = [0; TABLE];
     answer_by(xs, t, q, z, c, page, &mut m)
 }
 
-fn answer_from(xs: &[u32], t: &[u32; 512], q: Ask, z: Stand, c: u32, page: &mut [u32]) -> usize
+fn answer_from(xs: &[u32], t: &[u32; INDEX], q: Ask, z: Stand, c: u32, page: &mut [u32]) -> usize
     requires { ⌜ Ground (now xs) (now t) × MayAnswer q (blocksOf (now xs)) (z .block) (z .base) c (now page) ⌝ }
     ensures { λ g. ⌜ Answered q (blocksOf (now (xs .entry))) (z .block) (z .base) (z .met) c (now (page .entry)) (now (page .exit)) g ⌝ }
 {
     let k = z.block;
-    if k < 32 {
+    if k < LOW {
         return answer_low(xs, t, q, z, c, page);
     }
     answer_any(xs, t, q, z, c, page)
@@ -687,8 +723,8 @@ fn answer_from(xs: &[u32], t: &[u32; 512], q: Ask, z: Stand, c: u32, page: &mut 
 fn room_of(size: usize) -> usize
     ensures { λ r. ⌜ r ≡ min size 2147483647 ⌝ }
 {
-    if 2147483647 < size {
-        return 2147483647;
+    if CUES < size {
+        return CUES;
     }
     size
 }
@@ -697,7 +733,7 @@ fn room_of(size: usize) -> usize
 // has room for. The cue is given by its path and its own cue; t is the index of the rows.
 pub fn list(
     xs: &[u32],
-    t: &[u32; 512],
+    t: &[u32; INDEX],
     blocks: u32,
     inward: bool,
     path: &[u32],
