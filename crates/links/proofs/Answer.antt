@@ -17,7 +17,7 @@ use Rattle.theory.proofs.BlockAt.{spot, links-at, ownOf-at, joinsOf-at, total-a
 use Rattle.theory.proofs.Locality.{Sound, Low}
 use Rattle.links.specs.declared.Ask.{Ask}
 use Rattle.links.specs.Picks.{here, there, Picked, wanted}
-use Rattle.links.specs.Near.{Near, Marks, TableTo}
+use Rattle.links.specs.Near.{Near, Marks, Ready}
 use Rattle.links.specs.Ground.{markOf, On, HasPlace}
 use Rattle.links.proofs.Tables.{mark-of-join}
 use Rattle.links.specs.Pages.{Gives}
@@ -28,7 +28,7 @@ use Rattle.links.proofs.Picked.{both-ends, wanted-append}
 use Rattle.links.proofs.Filled.{gives-append}
 use Rattle.links.proofs.Near.{near-picked, picked-near, join-number, join-cue}
 
-module _ (q : Ask) (bs : List Block) (m : List ℕ) (k base : ℕ) (met : List ℕ) (c : ℕ) (s : List ℕ) (tab : TableTo q bs m k) (marks : Marks q m (blockAt bs k) c s)
+module _ (q : Ask) (bs : List Block) (m : List ℕ) (k base : ℕ) (met : List ℕ) (c : ℕ) (s : List ℕ) (tab : Ready q bs m k c) (marks : Marks q m (blockAt bs k) c s)
     (cue : Cue (blockAt bs k) c) (sound : Sound (spot bs k base (take (joinsOf bs k) met))) (low : Low (spot bs k base (take (joinsOf bs k) met))) where
   abbrev z : Spot
   z = spot bs k base (take (joinsOf bs k) met)
@@ -42,10 +42,10 @@ module _ (q : Ask) (bs : List Block) (m : List ℕ) (k base : ℕ) (met : List �
   -- What join j meets.
   join-is : (j : ℕ) → j < joinsOf bs k → number z (ownOf bs k + 1 + j) ≡ getD met j 0
   join-is j h =
-      rw (ownOf-at bs k) (join-number q bs m k base (take (joinsOf bs k) met) sound (tab .below) j) ∙ getD-take (joinsOf bs k) met j 0 h
+      rw (ownOf-at bs k) (join-number q bs m k base (take (joinsOf bs k) met) sound j) ∙ getD-take (joinsOf bs k) met j 0 h
 
   join-here : (j : ℕ) → j < joinsOf bs k → Cue (blockAt bs k) (ownOf bs k + 1 + j)
-  join-here j h = rw (ownOf-at bs k) (join-cue q bs m k base (take (joinsOf bs k) met) sound (tab .below) j h)
+  join-here j h = rw (ownOf-at bs k) (join-cue q bs m k base (take (joinsOf bs k) met) sound j h)
 
   flag-near : (j : ℕ) → j < joinsOf bs k → (getD s j 0 ≡ 1) ↔ Near q m (blockAt bs k) c (ownOf bs k + 1 + j)
   flag-near j h =
@@ -58,7 +58,7 @@ module _ (q : Ask) (bs : List Block) (m : List ℕ) (k base : ℕ) (met : List �
       record {
         to = λ u o.
             rw (links-are, ← o .meets, ← join-is (o .j) (o .within))
-            (near-picked q bs m k base (take (joinsOf bs k) met) sound (tab .below) c (ownOf bs k + 1 + o .j) (flag-near (o .j) (o .within) .0 (o .flag)));
+            (near-picked q bs m k base (take (joinsOf bs k) met) sound c (ownOf bs k + 1 + o .j) tab (flag-near (o .j) (o .within) .0 (o .flag)));
         low = λ u o.
             let e : getD (take (joinsOf bs k) met) (o .j) 0 ≡ u = getD-take (joinsOf bs k) met (o .j) 0 (o .within) ∙ o .meets in
             rw e at (low (getD (take (joinsOf bs k) met) (o .j) 0) (getD-mem (take (joinsOf bs k) met) (o .j) (omega (arith, o .within, sound .fit .fits, joinsOf-at bs k))));
@@ -77,13 +77,13 @@ module _ (q : Ask) (bs : List Block) (m : List ℕ) (k base : ℕ) (met : List �
             j = j;
             within = w;
             flag = flag-near j w .1
-                (picked-near q bs m k base (take (joinsOf bs k) met) sound (tab .below) c (ownOf bs k + 1 + j) cue (join-here j w)
+                (picked-near q bs m k base (take (joinsOf bs k) met) sound c (ownOf bs k + 1 + j) tab cue (join-here j w)
                 (rw (join-is j w, m′) (rw links-are at p)));
             meets = m′;
           }
 
 pub answered : (q : Ask) (bs : List Block) (m : List ℕ) (k base : ℕ) (met : List ℕ) (c joins g₁ g : ℕ) (s page p₁ after : List ℕ)
-    → TableTo q bs m k → MayAnswer q bs k base c page → Marks q m (blockAt bs k) c s → joins ≡ joinsOf bs k
+    → Ready q bs m k c → MayAnswer q bs k base c page → Marks q m (blockAt bs k) c s → joins ≡ joinsOf bs k
     → JoinsDone q s joins met page 0 p₁ g₁ → Walked q bs k base c base p₁ g₁ (total bs k) after g → Answered q bs k base met c page after g
 answered q bs m k base met c joins g₁ g s page p₁ after tab may marks ej done walked =
     record {

@@ -3,7 +3,7 @@ use Prim.Native.Nat.{ℕ, zero, suc, _+_, _*_, _-_, _≤_, _<_}
 use native.Mathlib.Omega.{arith}
 use native.Mathlib.Decide.{ℕ-discrete, decLt}
 use mathlib.Core.Path.{_≡_, refl, sym, _∙_, ap}
-use mathlib.Core.List.{List, [], _∷_, _++_, append-nil, List·Memᴰ}
+use mathlib.Core.List.{List, [], _∷_, _++_, append-nil, List·Memᴰ, List·Memᴰ·head, List·Memᴰ·tail}
 use lib.ListN.{length, getD, take, drop}
 use lib.Seq.{take-suc, split-at, take-all}
 use Rattle.model.specs.Rows.{cell}
@@ -18,10 +18,10 @@ use Rattle.theory.proofs.Locality.{Sound, Part, part-own, part-sound, copies-he
 use Rattle.rules.specs.Index.{useAt}
 use Rattle.links.specs.declared.Ask.{Ask}
 use Rattle.links.specs.Picks.{Picked, wanted}
-use Rattle.links.specs.Near.{Flag, Near, Known, ExactBelow, TableTo}
+use Rattle.links.specs.Near.{Flag, Near, Known, Done, Ready}
 use Rattle.links.specs.Pages.{Gives}
-use Rattle.links.specs.Walks.{stepList, ownList, copyList, May, MayDoor, Walked, Entered, Door, Going}
-use Rattle.links.specs.Ground.{Ground, UseRow, ownBit, PlaceIs}
+use Rattle.links.specs.Walks.{stepList, ownList, copyList, May, MayDoor, Walked, UsesWalked, Entered, Door, Going}
+use Rattle.links.specs.Ground.{Ground, UseRow, UseIn, ownBit, PlaceIs}
 use Rattle.links.proofs.Picked.{wanted-append, wanted-nil, wanted-yes, wanted-not, wanted-under, wanted-low}
 use Rattle.links.proofs.Filled.{gives-nil, gives-full, gives-append}
 use Rattle.links.proofs.Ground.{use-block, use-column, uses-rows, usesFrom-length, usesFrom-at}
@@ -111,7 +111,7 @@ module _ (q : Ask) (xs t m : List ℕ) (g : Ground xs t) (k r place c w : ℕ) (
   door-low size e h = door-nil q xs k r place c w (may .bound) (λ base met sound part. wanted-low q _ _ place _ (omega arith))
 
   module _ (x j joins i : ℕ) (o : UseRow xs k r) (y₁ : x ≡ cell xs r 2) (y₂ : j ≡ x) (n : joins ≡ joinsOf (blocksOf xs) j) (few : joins ≤ 8)
-      (p : PlaceIs xs r joins c i) (tab : TableTo q (blocksOf xs) m k) where
+      (p : PlaceIs xs r joins c i) (tab : Ready q (blocksOf xs) m k c) where
     arity : length (useAt xs (blocksOf xs) r .at) ≡ joins
     arity = o .arity ∙ ap (joinsOf (blocksOf xs)) (sym (y₂ ∙ y₁)) ∙ sym n
 
@@ -122,7 +122,7 @@ module _ (q : Ask) (xs t m : List ℕ) (g : Ground xs t) (k r place c w : ℕ) (
     unfolding useAt
     door-apart h =
         door-nil q xs k r place c w (may .bound)
-        (λ base met sound part. wanted-apart q (blocksOf xs) m k base met sound (tab .below) (record { of = useAt xs (blocksOf xs) r; base = place }) part c
+        (λ base met sound part. wanted-apart q (blocksOf xs) m k base met sound (record { of = useAt xs (blocksOf xs) r; base = place }) part c
         (cue-is (blocksOf xs) k c (may .low) (may .high))
         (λ a l e. p .before a (omega (arith, arity)) (sym (use-at a (omega (arith, arity))) ∙ e)))
 
@@ -130,7 +130,7 @@ module _ (q : Ask) (xs t m : List ℕ) (g : Ground xs t) (k r place c w : ℕ) (
     unfolding useAt
     door-clear h f =
         door-nil q xs k r place c w (may .bound)
-        (λ base met sound part. wanted-clear q (blocksOf xs) m k base met sound (tab .below) (record { of = useAt xs (blocksOf xs) r; base = place }) part c i
+        (λ base met sound part. wanted-clear q (blocksOf xs) m k base met sound (record { of = useAt xs (blocksOf xs) r; base = place }) part c i tab
         (omega (arith, arity)) (use-at i h ∙ p .found h) (rw (y₂, y₁) at f))
 
     pub door-open : i < joins → Door q xs k r place c w i
@@ -151,10 +151,10 @@ door-small q xs t k r place c w i g door n = omega (arith, door .within n, joins
 
 module _ (q : Ask) (xs t m : List ℕ) (g : Ground xs t) (k r place c w i x j own d : ℕ) (page : List ℕ) (o : UseRow xs k r) (door : Door q xs k r place c w i)
     (open-door : i ≡ 8 → ⊥) (y₁ : x ≡ cell xs r 2) (y₂ : j ≡ x) (y₃ : own ≡ ownOf (blocksOf xs) j) (y₄ : d ≡ own + 1 + i) where
-  pub may-walk : MayDoor q xs k r place c w → q .room ≤ length page → May q (blocksOf xs) j place d page w
-  may-walk may l =
+  pub may-walk : (f : ℕ) → MayDoor q xs k r place c w → q .room ≤ length page → f ≤ q .room + 1 → May q (blocksOf xs) j place d page f
+  may-walk f may l b =
       let e : j ≡ cell xs r 2 = y₂ ∙ y₁ in
-      let f : own ≡ ownOf (blocksOf xs) (cell xs r 2) = rw e at y₃ in
+      let n : own ≡ ownOf (blocksOf xs) (cell xs r 2) = rw e at y₃ in
       rw e
       (record {
         known = omega (arith, o .lower, o .known);
@@ -163,22 +163,29 @@ module _ (q : Ask) (xs t m : List ℕ) (g : Ground xs t) (k r place c w i x j ow
         small = may .small;
         room = l;
         fits = may .fits;
-        bound = may .bound;
+        bound = b;
       })
 
-  pub door-known : TableTo q (blocksOf xs) m k → Known q (blocksOf xs) m (328 * j + 41 * i) j d
-  door-known tab =
-      let e : j ≡ cell xs r 2 = y₂ ∙ y₁ in
-      let h : i < joinsOf (blocksOf xs) j = rw (← e) at (door .within open-door) in
-      rw (y₄, y₃) (tab .below .at j i (omega (arith, o .lower)) h .known)
-
-  pub table-less : TableTo q (blocksOf xs) m k → TableTo q (blocksOf xs) m j
-  table-less tab = record { below = record { at = λ a i h l. tab .below .at a i (omega (arith, o .lower)) l } }
-
-  pub enter-walk : (after : List ℕ) (f : ℕ) → TableTo q (blocksOf xs) m k
-      → Walked q (blocksOf xs) j place d place page w (total (blocksOf xs) j) after f → Entered q xs k r place c page w after f
+  made : Ready q (blocksOf xs) m k c → UseIn xs k r → Done m j i
   unfolding useAt
-  enter-walk after f tab walked =
+  made tab here =
+      let e : j ≡ cell xs r 2 = y₂ ∙ y₁ in
+      rw e
+      (tab .done .at (useAt xs (blocksOf xs) r) (here .member) .at i (omega (arith, o .arity, door .within open-door))
+      (use-column xs (blocksOf xs) r i (door .within open-door) (door-small q xs t k r place c w i g door open-door) ∙ door .meets open-door))
+
+  at-join : i < joinsOf (blocksOf xs) j
+  at-join = let e : j ≡ cell xs r 2 = y₂ ∙ y₁ in rw e (door .within open-door)
+
+  pub door-known : Ready q (blocksOf xs) m k c → UseIn xs k r → Known q (blocksOf xs) m (328 * j + 41 * i) j d
+  door-known tab here = rw (y₄, y₃) (tab .table .exact j i at-join (made tab here) .known)
+
+  pub table-less : Ready q (blocksOf xs) m k c → UseIn xs k r → Ready q (blocksOf xs) m j d
+  table-less tab here = record { table = tab .table; done = rw (y₄, y₃) (tab .table .closed j i at-join (made tab here)) }
+
+  pub enter-walk : (after : List ℕ) (f : ℕ) → Walked q (blocksOf xs) j place d place page w (total (blocksOf xs) j) after f → Entered q xs k r place c page w after f
+  unfolding useAt
+  enter-walk after f walked =
       record {
         long = walked .long;
         bound = walked .bound;
@@ -189,9 +196,9 @@ module _ (q : Ask) (xs t m : List ℕ) (g : Ground xs t) (k r place c w i x j ow
             let inside : Sound (spot bs (cell xs r 2) place (meets z p)) = part-sound sound p part in
             let h : i < length (useAt xs bs r .at) = omega (arith, o .arity, door .within open-door) in
             let n : number (spot bs (cell xs r 2) place (meets z p)) d ≡ number z c =
-            rw (cue-at) (join-number q bs m (cell xs r 2) place (meets z p) inside lower-table i
-            ∙ met-at q bs m k base met sound (tab .below) p i c h (use-column xs bs r i (door .within open-door) (omega (arith, door .within open-door, few)) ∙ door .meets open-door)) in
-            rw (links-at bs (sound .good) k base met, wanted-part q bs m k base met sound (tab .below) p part (number z c), ← n)
+            rw (cue-at) (join-number q bs m (cell xs r 2) place (meets z p) inside i
+            ∙ met-at q bs m k base met sound p i c h (use-column xs bs r i (door .within open-door) (omega (arith, door .within open-door, few)) ∙ door .meets open-door)) in
+            rw (links-at bs (sound .good) k base met, wanted-part q bs m k base met sound p part (number z c), ← n)
             ((rw e at walked) .gives (meets z p) inside);
       }
     where
@@ -204,9 +211,6 @@ module _ (q : Ask) (xs t m : List ℕ) (g : Ground xs t) (k r place c w i x j ow
       cue-at : d ≡ blockAt bs (cell xs r 2) .own + 1 + i
       cue-at = let e : j ≡ cell xs r 2 = y₂ ∙ y₁ in let f : own ≡ ownOf bs (cell xs r 2) = rw e at y₃ in omega (arith, ownOf-at bs (cell xs r 2))
 
-      lower-table : ExactBelow q bs m (cell xs r 2)
-      lower-table = record { at = λ a i h l. tab .below .at a i (omega (arith, o .lower)) l }
-
 -- The uses up to one more.
 sum-append : (f : ℕ → ℕ) (us ws : List Use) → sumOver f (us ++ ws) ≡ sumOver f us + sumOver f ws
 unfolding sumOver
@@ -216,6 +220,11 @@ sum-append f (u ∷ us) ws = omega (arith, sum-append f us ws)
 sum-one : (f : ℕ → ℕ) (u : Use) → sumOver f (u ∷ []) ≡ f (u .block)
 unfolding sumOver
 sum-one f u = omega arith
+
+use-mem : (us : List Use) (i : ℕ) (d : Use) → i < length us → List·Memᴰ (getD us i d) us
+use-mem [] i d h = absurd (omega arith)
+use-mem (u ∷ us) zero d h = List·Memᴰ·head refl
+use-mem (u ∷ us) (suc i) d h = List·Memᴰ·tail (use-mem us i d (omega arith))
 
 abbrev pub noUse : Use
 noUse = record { block = 0; at = [] }
@@ -235,6 +244,9 @@ module _ (xs t : List ℕ) (g : Ground xs t) (k base a e : ℕ) (known : k < len
   use-here r x y =
       let z : a + (r - a) ≡ r = omega arith in
       rw (uses-rows g k known, ← y₁, ← y₂) (usesFrom-at xs bs a (e - a) (r - a) noUse (omega arith) ∙ ap (useAt xs bs) z)
+
+  pub use-in : (r : ℕ) → a ≤ r → r < e → UseIn xs k r
+  use-in r x y = record { member = rw (← use-here r x y) (use-mem us (r - a) noUse (omega (arith, many))) }
 
   size-all : total bs k ≡ ownOf bs k + sumOver (total bs) us
   size-all = omega (arith, total-at bs (g .show .good) k 0 [], ownOf-at bs k)
@@ -324,6 +336,17 @@ module _ (q : Ask) (xs t : List ℕ) (g : Ground xs t) (k base c a e : ℕ) (pag
             rw (d, wanted-append q (number (spot (blocksOf xs) k base met) c) (links (blocksOf xs) k base met) base (ownOf (blocksOf xs) k) (b - (base + ownOf (blocksOf xs) k)))
             (gives-append (q .room) first v _ _ page after w f (own .gives met sound) (go .walked .gives met sound));
       }
+
+-- After all uses the copy is walked.
+pub uses-walked : (q : Ask) (xs t : List ℕ) (g : Ground xs t) (k base c a e : ℕ) (page : List ℕ) (w : ℕ) (known : k < length (blocksOf xs))
+    → a ≡ getD t (4 * k + 1) 0 → e ≡ getD t (4 * k + 2) 0 → (r b f : ℕ) (after : List ℕ) → a ≤ e → r ≤ e → e ≤ r
+    → Going q xs k base c a page w r b after f → UsesWalked q (blocksOf xs) k base c page w after f
+uses-walked q xs t g k base c a e page w known y₁ y₂ r b f after x y z go =
+    record {
+      long = go .walked .long;
+      bound = go .walked .bound;
+      whole = λ first v own. going-end q xs t g k base c a e page w known y₁ y₂ r b f v after first x y z own go;
+    }
 
 -- A copy of a block without uses has no cues but its own.
 pub leaf-walked : (q : Ask) (xs t : List ℕ) (g : Ground xs t) (k base c a e : ℕ) (page : List ℕ) (w : ℕ) (after : List ℕ) (f : ℕ) → k < length (blocksOf xs)

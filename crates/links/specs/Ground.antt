@@ -2,13 +2,13 @@
 use Prim.Native.Nat.{ℕ, _+_, _-_, _*_, _/_, _%_, _^_, _≤_, _<_}
 use mathlib.Core.Path.{_≡_}
 use mathlib.Core.Logic.{_↔_, _⊎_}
-use mathlib.Core.List.{List}
+use mathlib.Core.List.{List, List·Memᴰ}
 use lib.ListN.{length, getD}
 use lib.Bits.{bitOr}
 use Rattle.model.specs.Choice.{ifLt}
 use Rattle.model.specs.Rows.{cell}
 use Rattle.theory.specs.Accepted.{Show}
-use Rattle.model.specs.Blocks.{Use, joinsOf, ownOf, blocksOf}
+use Rattle.model.specs.Blocks.{Use, blockAt, joinsOf, ownOf, blocksOf}
 use Rattle.theory.proofs.Members.{Apart}
 use Rattle.rules.specs.Index.{useAt, Indexed}
 
@@ -73,3 +73,7 @@ pub record UseRow (xs : List ℕ) (k r : ℕ) : Type 0 where
   pub arity : length (useAt xs (blocksOf xs) r .at) ≡ joinsOf (blocksOf xs) (cell xs r 2)
   pub cues : (n : ℕ) → n < joinsOf (blocksOf xs) (cell xs r 2) → cell xs r (3 + n) ≤ ownOf (blocksOf xs) k + joinsOf (blocksOf xs) k
   pub apart : Apart (useAt xs (blocksOf xs) r .at)
+
+-- It is one of the uses of block k.
+pub record UseIn (xs : List ℕ) (k r : ℕ) : Type 0 where
+  pub member : List·Memᴰ (useAt xs (blocksOf xs) r) (blockAt (blocksOf xs) k .uses)

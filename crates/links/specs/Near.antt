@@ -8,7 +8,7 @@ use mathlib.Core.Bool.{Bool, true, false}
 use mathlib.Core.List.{List, [], _∷_, List·Memᴰ}
 use lib.ListN.{length, getD}
 use Rattle.model.specs.Rows.{cell}
-use Rattle.model.specs.Blocks.{Link, Use, Block, joinsOf, ownOf, total}
+use Rattle.model.specs.Blocks.{Link, Use, Block, blockAt, joinsOf, ownOf, total}
 use Rattle.model.specs.Unfolding.{links}
 use Rattle.theory.proofs.Ranges.{number}
 use Rattle.theory.proofs.BlockAt.{spot}
@@ -88,30 +88,61 @@ pub record Exact (q : Ask) (bs : List Block) (m : List ℕ) (k i : ℕ) : Type 0
       → (u : ℕ) → base < u → u ≤ base + total bs k → Picked q (links bs k base met) (getD met i 0) u → ⊥
   pub known : Known q bs m (328 * k + 41 * i) k (ownOf bs k + 1 + i)
 
--- It is right for the blocks below k.
-pub record ExactBelow (q : Ask) (bs : List Block) (m : List ℕ) (k : ℕ) : Type 0 where
-  pub at : (j i : ℕ) → j < k → i < joinsOf bs j → Exact q bs m j i
+-- The record of join i of block k is made; and those of the joins that meet cue c in a use, and in some uses.
+abbrev pub Done : List ℕ → ℕ → ℕ → Type 0
+Done m k i = getD m (328 * k + 41 * i + 8) 0 ≡ 0 → ⊥
 
--- Two tables agree up to a place.
-pub record SameTo (n : ℕ) (m w : List ℕ) : Type 0 where
-  pub at : (x : ℕ) → x < n → getD w x 0 ≡ getD m x 0
+pub record DoneUse (m : List ℕ) (c : ℕ) (u : Use) : Type 0 where
+  pub few : length (u .at) ≤ 8
+  pub at : (n : ℕ) → n < length (u .at) → getD (u .at) n 0 ≡ c → Done m (u .block) n
 
--- The first bytes of s stand in w from a place on, and what was before that in m is as it was.
+pub record DoneUses (m : List ℕ) (c : ℕ) (us : List Use) : Type 0 where
+  pub at : (u : Use) → List·Memᴰ u us → DoneUse m c u
+
+-- The records that are made are right, and so are those made that they rest on.
+pub record Table (q : Ask) (bs : List Block) (m : List ℕ) : Type 0 where
+  pub exact : (k i : ℕ) → i < joinsOf bs k → Done m k i → Exact q bs m k i
+  pub closed : (k i : ℕ) → i < joinsOf bs k → Done m k i → DoneUses m (ownOf bs k + 1 + i) (blockAt bs k .uses)
+
+-- And those that cue c of block k rests on.
+pub record Ready (q : Ask) (bs : List Block) (m : List ℕ) (k c : ℕ) : Type 0 where
+  pub table : Table q bs m
+  pub done : DoneUses m c (blockAt bs k .uses)
+
+-- Records that were made are as they were.
+pub record Kept (m w : List ℕ) : Type 0 where
+  pub at : (k i n : ℕ) → i < 8 → n < 41 → Done m k i → getD w (328 * k + 41 * i + n) 0 ≡ getD m (328 * k + 41 * i + n) 0
+
+-- The first bytes of s stand in w from a place on, and what is outside a record there is as it was in m.
 pub record Copied (s : List ℕ) (many at : ℕ) (m w : List ℕ) : Type 0 where
   pub long : length w ≡ length m
-  pub same : SameTo at m w
+  pub before : (x : ℕ) → x < at → getD w x 0 ≡ getD m x 0
+  pub behind : (x : ℕ) → at + 41 ≤ x → getD w x 0 ≡ getD m x 0
   pub put : (j : ℕ) → j < many → getD w (at + j) 0 ≡ getD s j 0
 
--- The table is right for one join more.
-pub record JoinDone (q : Ask) (bs : List Block) (k i : ℕ) (m w : List ℕ) : Type 0 where
-  pub long : length w ≡ length m
-  pub same : SameTo (328 * k + 41 * i) m w
-  pub exact : Exact q bs w k i
+pub record Settled (flag r : ℕ) : Type 0 where
+  pub made : r ≡ 0 → ⊥
+  pub set : flag ≡ 1 → r ≡ 1
 
--- For the joins below i of block k.
-pub record ExactTo (q : Ask) (bs : List Block) (m : List ℕ) (k i : ℕ) : Type 0 where
-  pub at : (j : ℕ) → j < i → j < joinsOf bs k → Exact q bs m k j
+-- After the marks of a use, of some uses and of a cue, and after a record was made: the table is as right as before.
+pub record UseStep (q : Ask) (bs : List Block) (own c : ℕ) (u : Use) (m s w v : List ℕ) : Type 0 where
+  pub marked : UseMarked own w u c s v
+  pub table : Table q bs w
+  pub kept : Kept m w
+  pub done : DoneUse w c u
 
--- For all blocks below k, and some length.
-pub record TableTo (q : Ask) (bs : List Block) (m : List ℕ) (k : ℕ) : Type 0 where
-  pub below : ExactBelow q bs m k
+pub record UsesStep (q : Ask) (bs : List Block) (own c : ℕ) (us : List Use) (m s w v : List ℕ) : Type 0 where
+  pub marked : UsesMarked own w us c s v
+  pub table : Table q bs w
+  pub kept : Kept m w
+  pub done : DoneUses w c us
+
+pub record MarksStep (q : Ask) (bs : List Block) (k c : ℕ) (m w s : List ℕ) : Type 0 where
+  pub marks : Marks q w (blockAt bs k) c s
+  pub ready : Ready q bs w k c
+  pub kept : Kept m w
+
+pub record RecordMade (q : Ask) (bs : List Block) (k i : ℕ) (m w : List ℕ) : Type 0 where
+  pub table : Table q bs w
+  pub kept : Kept m w
+  pub done : Done w k i

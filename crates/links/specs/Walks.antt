@@ -52,6 +52,12 @@ pub record Walked (q : Ask) (bs : List Block) (k base c place : ℕ) (page : Lis
   pub bound : g ≤ q .room + 1
   pub gives : (met : List ℕ) → Sound (spot bs k base met) → Gives (q .room) page w (copyList q bs k base met c place size) after g
 
+-- After the walk of its uses: where its own cues were walked before, it is walked as a whole.
+pub record UsesWalked (q : Ask) (bs : List Block) (k base c : ℕ) (page : List ℕ) (w : ℕ) (after : List ℕ) (g : ℕ) : Type 0 where
+  pub long : length after ≡ length page
+  pub bound : g ≤ q .room + 1
+  pub whole : (first : List ℕ) (v : ℕ) → Walked q bs k base c base first v (ownOf bs k) page w → Walked q bs k base c base first v (total bs k) after g
+
 -- After the copy of the use of row r, which begins after place, in a copy of block k.
 pub record Entered (q : Ask) (xs : List ℕ) (k r place c : ℕ) (page : List ℕ) (w : ℕ) (after : List ℕ) (g : ℕ) : Type 0 where
   pub long : length after ≡ length page

@@ -11,13 +11,13 @@ ghost use Rattle.model.specs.Verdicts.{verdict};
 ghost use Rattle.model.specs.declared.Verdict.the-variants.{Accepted};
 ghost use Rattle.rules.specs.Index.{Indexed, linksFrom, linkAt, useAt};
 ghost use Rattle.links.specs.Picks.{nearEnd, fits, IsLink, Picked};
-ghost use Rattle.links.specs.Near.{IsColumn, ByRow, UseMarked, UsesMarked, Marks, Known, Copied, JoinDone, TableTo};
+ghost use Rattle.links.specs.Near.{IsColumn, ByRow, Known, Copied, Settled, Table, Ready, RecordMade, UseStep, UsesStep, MarksStep};
 ghost use Rattle.links.specs.Pages.{Gives};
-ghost use Rattle.links.specs.Walks.{stepList, ownList, May, MayDoor, Walked, Entered, Door};
+ghost use Rattle.links.specs.Walks.{stepList, ownList, May, MayDoor, Walked, UsesWalked, Entered, Door};
 ghost use Rattle.links.specs.Joins.{lesser, Next, JoinsDone};
 ghost use Rattle.links.specs.Stands.{Standing, MayStep, Stepped, ColumnsFit, MeetIs, Trail};
 ghost use Rattle.links.specs.Answer.{cueOf, linkedCues, IsListed, MayAnswer, Answered};
-ghost use Rattle.links.specs.Ground.{Ground, UseRow, HasRecord, HasBlock, bitAt, setBit, IsCue, Added, PlaceIs};
+ghost use Rattle.links.specs.Ground.{Ground, UseRow, UseIn, HasRecord, HasBlock, bitAt, setBit, IsCue, Added, PlaceIs};
 
 // The values of a row, and the first of those that name cues; the numbers of a block in the index.
 const ROW: usize = 11;
@@ -234,68 +234,6 @@ fn mark_row(xs: &[u32], m: &[u8], r: usize, at: usize, joins: usize, own: u32, s
     }
 }
 
-// Marks the cues that are linked to cue c inside the copy of the use of row r; and so for all uses of block k.
-fn mark_use(
-    xs: &[u32],
-    t: &[u32; INDEX],
-    m: &[u8],
-    k: usize,
-    r: usize,
-    own: u32,
-    c: u32,
-    s: &mut [u8; RECORD],
-)
-    requires { ⌜ Ground (now xs) (now t) × UseRow (now xs) k r × HasBlock (now m) k × (length (now s) ≡ 41) × (own ≤ 255) ⌝ }
-    ensures { λ _. ⌜ UseMarked own (now (m .entry)) (useAt (now (xs .entry)) (blocksOf (now (xs .entry))) r) c (now (s .entry)) (now (s .exit)) ⌝ }
-{
-    let j = wide(value(xs, r, 2));
-    let joins = joins_of(xs, t, j);
-    let i = place(xs, r, joins, c);
-    if i < joins {
-        let at = BLOCK * j + RECORD * i;
-        mark_row(xs, m, r, at, joins, own, s);
-        let flag = m[at + INSIDE];
-        if flag == 1 {
-            s[INSIDE] = 1;
-        }
-    }
-}
-
-fn mark_uses(
-    xs: &[u32],
-    t: &[u32; INDEX],
-    m: &[u8],
-    k: usize,
-    own: u32,
-    c: u32,
-    s: &mut [u8; RECORD],
-)
-    requires { ⌜ Ground (now xs) (now t) × (k < length (blocksOf (now xs))) × HasBlock (now m) k × (length (now s) ≡ 41) × (own ≤ 255) ⌝ }
-    ensures { λ _. ⌜ UsesMarked own (now (m .entry)) (blockAt (blocksOf (now (xs .entry))) k .uses) c (now (s .entry)) (now (s .exit)) ⌝ }
-{
-    let a = entry(t, k, 1);
-    let e = entry(t, k, 2);
-    let mut r = a;
-    while r < e {
-        mark_use(xs, t, m, k, r, own, c, s);
-        r += 1;
-    }
-}
-
-// Marks the cues of block k that are linked to its cue c.
-fn marks_of(xs: &[u32], t: &[u32; INDEX], q: Ask, m: &[u8], k: usize, c: u32) -> [u8; RECORD]
-    requires { ⌜ Ground (now xs) (now t) × (k < length (blocksOf (now xs))) × HasBlock (now m) k ⌝ }
-    ensures { λ s. ⌜ Marks q (now (m .entry)) (blockAt (blocksOf (now (xs .entry))) k) c s ⌝ }
-{
-    let mut s: [u8; RECORD] = [0; RECORD];
-    let f = entry(t, k, 0);
-    let a = entry(t, k, 1);
-    let own = own_of(xs, t, k);
-    mark_links(xs, q, f + 1, a, own, c, &mut s);
-    mark_uses(xs, t, m, k, own, c, &mut s);
-    s
-}
-
 // Copies a record of marks into the table.
 fn copy_record(s: &[u8; RECORD], m: &mut [u8], at: usize)
     requires { ⌜ HasRecord (now m) at × (length (now s) ≡ 41) ⌝ }
@@ -309,41 +247,96 @@ fn copy_record(s: &[u8; RECORD], m: &mut [u8], at: usize)
     }
 }
 
-// Fills the table for join i of block k.
-fn fill_join(xs: &[u32], t: &[u32; INDEX], q: Ask, m: &mut [u8], k: usize, i: usize)
-    requires { ⌜ Ground (now xs) (now t) × (k < length (blocksOf (now xs))) × HasBlock (now m) k × (i < joinsOf (blocksOf (now xs)) k) × (i < 8) × TableTo q (blocksOf (now xs)) (now m) k ⌝ }
-    ensures { λ _. ⌜ JoinDone q (blocksOf (now (xs .entry))) k i (now (m .entry)) (now (m .exit)) ⌝ }
+// Flag 8 of a record that is made: 1 if something inside was marked, and 2 if nothing was.
+fn settled(flag: u8) -> u8
+    ensures { λ r. ⌜ Settled flag r ⌝ }
+{
+    if flag == 1 {
+        return 1;
+    }
+    2
+}
+
+// Marks the cues that are linked to cue c inside the copy of the use of row r; and so for all uses of block k.
+fn mark_use(
+    xs: &[u32],
+    t: &[u32; INDEX],
+    q: Ask,
+    m: &mut [u8],
+    k: usize,
+    r: usize,
+    own: u32,
+    c: u32,
+    s: &mut [u8; RECORD],
+)
+    requires { ⌜ Ground (now xs) (now t) × UseRow (now xs) k r × HasBlock (now m) k × (length (now s) ≡ 41) × (own ≤ 255) × Table q (blocksOf (now xs)) (now m) ⌝ }
+    ensures { λ _. ⌜ UseStep q (blocksOf (now (xs .entry))) own c (useAt (now (xs .entry)) (blocksOf (now (xs .entry))) r) (now (m .entry)) (now (s .entry)) (now (m .exit)) (now (s .exit)) ⌝ }
+{
+    let j = wide(value(xs, r, 2));
+    let joins = joins_of(xs, t, j);
+    let i = place(xs, r, joins, c);
+    if i < joins {
+        let at = BLOCK * j + RECORD * i;
+        ready(xs, t, q, m, j, i);
+        mark_row(xs, m, r, at, joins, own, s);
+        let flag = m[at + INSIDE];
+        if flag == 1 {
+            s[INSIDE] = 1;
+        }
+    }
+}
+
+fn mark_uses(
+    xs: &[u32],
+    t: &[u32; INDEX],
+    q: Ask,
+    m: &mut [u8],
+    k: usize,
+    own: u32,
+    c: u32,
+    s: &mut [u8; RECORD],
+)
+    requires { ⌜ Ground (now xs) (now t) × (k < length (blocksOf (now xs))) × HasBlock (now m) k × (length (now s) ≡ 41) × (own ≤ 255) × Table q (blocksOf (now xs)) (now m) ⌝ }
+    ensures { λ _. ⌜ UsesStep q (blocksOf (now (xs .entry))) own c (blockAt (blocksOf (now (xs .entry))) k .uses) (now (m .entry)) (now (s .entry)) (now (m .exit)) (now (s .exit)) ⌝ }
+{
+    let a = entry(t, k, 1);
+    let e = entry(t, k, 2);
+    let mut r = a;
+    while r < e {
+        mark_use(xs, t, q, m, k, r, own, c, s);
+        r += 1;
+    }
+}
+
+// Marks the cues of block k that are linked to its cue c.
+fn marks_of(xs: &[u32], t: &[u32; INDEX], q: Ask, m: &mut [u8], k: usize, c: u32) -> [u8; RECORD]
+    requires { ⌜ Ground (now xs) (now t) × (k < length (blocksOf (now xs))) × HasBlock (now m) k × Table q (blocksOf (now xs)) (now m) ⌝ }
+    ensures { λ s. ⌜ MarksStep q (blocksOf (now (xs .entry))) k c (now (m .entry)) (now (m .exit)) s ⌝ }
+{
+    let mut s: [u8; RECORD] = [0; RECORD];
+    let f = entry(t, k, 0);
+    let a = entry(t, k, 1);
+    let own = own_of(xs, t, k);
+    mark_links(xs, q, f + 1, a, own, c, &mut s);
+    mark_uses(xs, t, q, m, k, own, c, &mut s);
+    s
+}
+
+// Makes the record of join i of block k, if it is not there yet.
+fn ready(xs: &[u32], t: &[u32; INDEX], q: Ask, m: &mut [u8], k: usize, i: usize)
+    requires { ⌜ Ground (now xs) (now t) × (k < length (blocksOf (now xs))) × HasBlock (now m) k × (i < joinsOf (blocksOf (now xs)) k) × (i < 8) × Table q (blocksOf (now xs)) (now m) ⌝ }
+    ensures { λ _. ⌜ RecordMade q (blocksOf (now (xs .entry))) k i (now (m .entry)) (now (m .exit)) ⌝ }
 {
     let at = BLOCK * k + RECORD * i;
+    let known = m[at + INSIDE];
+    if 0 < known {
+        return;
+    }
     let own = own_of(xs, t, k);
     let c = own + 1 + (i as u32);
     let s = marks_of(xs, t, q, m, k, c);
     copy_record(&s, m, at);
-}
-
-// Fills the table for block k.
-fn fill_block(xs: &[u32], t: &[u32; INDEX], q: Ask, m: &mut [u8], k: usize)
-    requires { ⌜ Ground (now xs) (now t) × (k < length (blocksOf (now xs))) × HasBlock (now m) k × TableTo q (blocksOf (now xs)) (now m) k ⌝ }
-    ensures { λ _. ⌜ TableTo q (blocksOf (now (xs .entry))) (now (m .exit)) (k + 1) ⌝ }
-{
-    let joins = joins_of(xs, t, k);
-    let mut i = 0;
-    while i < joins {
-        fill_join(xs, t, q, m, k, i);
-        i += 1;
-    }
-}
-
-// Fills the table for the blocks below k.
-fn fill(xs: &[u32], t: &[u32; INDEX], q: Ask, m: &mut [u8], k: usize)
-    requires { ⌜ Ground (now xs) (now t) × (k < length (blocksOf (now xs))) × HasBlock (now m) k ⌝ }
-    ensures { λ _. ⌜ TableTo q (blocksOf (now (xs .entry))) (now (m .exit)) k ⌝ }
-{
-    let mut j = 0;
-    while j < k {
-        fill_block(xs, t, q, m, j);
-        j += 1;
-    }
+    m[at + INSIDE] = settled(s[INSIDE]);
 }
 
 // One cue more for the page.
@@ -446,7 +439,7 @@ fn door(
     c: u32,
     w: usize,
 ) -> usize
-    requires { ⌜ Ground (now xs) (now t) × UseRow (now xs) k r × HasBlock (now m) k × TableTo q (blocksOf (now xs)) (now m) k × MayDoor q (now xs) k r base c w ⌝ }
+    requires { ⌜ Ground (now xs) (now t) × UseRow (now xs) k r × HasBlock (now m) k × Ready q (blocksOf (now xs)) (now m) k c × MayDoor q (now xs) k r base c w ⌝ }
     ensures { λ i. ⌜ Door q (now (xs .entry)) k r base c w i ⌝ }
 {
     let room = q.room;
@@ -470,24 +463,22 @@ fn door(
     JOINS
 }
 
-// Gives the page the cues inside the copy of block k after base that its cue c is linked to: the own ones, then those in the copies of its
-// uses.
+// Gives the page the cues that cue c of the copy of block k after base is linked to in the copies of its uses.
 fn walk(
     xs: &[u32],
     t: &[u32; INDEX],
     q: Ask,
     m: &[u8],
     k: usize,
-    at: usize,
     base: u32,
     c: u32,
     page: &mut [u32],
     w: usize,
 ) -> usize
-    requires { ⌜ Ground (now xs) (now t) × TableTo q (blocksOf (now xs)) (now m) k × Known q (blocksOf (now xs)) (now m) at k c × HasBlock (now m) k × HasRecord (now m) at × May q (blocksOf (now xs)) k base c (now page) w ⌝ }
-    ensures { λ g. ⌜ Walked q (blocksOf (now (xs .entry))) k base c base (now (page .entry)) w (total (blocksOf (now (xs .entry))) k) (now (page .exit)) g ⌝ }
+    requires { ⌜ Ground (now xs) (now t) × Ready q (blocksOf (now xs)) (now m) k c × HasBlock (now m) k × May q (blocksOf (now xs)) k base c (now page) w ⌝ }
+    ensures { λ g. ⌜ UsesWalked q (blocksOf (now (xs .entry))) k base c (now (page .entry)) w (now (page .exit)) g ⌝ }
 {
-    let mut g = give_block(xs, t, q, m, k, at, base, c, page, w);
+    let mut g = w;
     let a = entry(t, k, 1);
     let e = entry(t, k, 2);
     let mut r = a;
@@ -500,7 +491,7 @@ fn walk(
     g
 }
 
-// The same for the copy of the use of row r of block k, which begins after base.
+// Gives the page the cues inside the copy of the use of row r of block k, which begins after base: the own ones, then those of its uses.
 fn enter(
     xs: &[u32],
     t: &[u32; INDEX],
@@ -513,7 +504,7 @@ fn enter(
     page: &mut [u32],
     w: usize,
 ) -> usize
-    requires { ⌜ Ground (now xs) (now t) × UseRow (now xs) k r × HasBlock (now m) k × TableTo q (blocksOf (now xs)) (now m) k × MayDoor q (now xs) k r base c w × (q .room ≤ length (now page)) ⌝ }
+    requires { ⌜ Ground (now xs) (now t) × UseRow (now xs) k r × UseIn (now xs) k r × HasBlock (now m) k × Ready q (blocksOf (now xs)) (now m) k c × MayDoor q (now xs) k r base c w × (q .room ≤ length (now page)) ⌝ }
     ensures { λ g. ⌜ Entered q (now (xs .entry)) k r base c (now (page .entry)) w (now (page .exit)) g ⌝ }
 {
     let i = door(xs, t, q, m, k, r, base, c, w);
@@ -523,12 +514,13 @@ fn enter(
     let j = wide(value(xs, r, 2));
     let at = BLOCK * j + RECORD * i;
     let d = own_of(xs, t, j) + 1 + (i as u32);
+    let g = give_block(xs, t, q, m, j, at, base, d, page, w);
     let a = entry(t, j, 1);
     let e = entry(t, j, 2);
     if a == e {
-        return give_block(xs, t, q, m, j, at, base, d, page, w);
+        return g;
     }
-    walk(xs, t, q, m, j, at, base, d, page, w)
+    walk(xs, t, q, m, j, base, d, page, g)
 }
 
 // The lesser of x and y, where y counts only if it is marked and above last, and x is 0 for none.
@@ -676,19 +668,17 @@ fn answer_by(
     page: &mut [u32],
     m: &mut [u8],
 ) -> usize
-    requires { ⌜ Ground (now xs) (now t) × MayAnswer q (blocksOf (now xs)) (z .block) (z .base) c (now page) × HasBlock (now m) (z .block) ⌝ }
+    requires { ⌜ Ground (now xs) (now t) × MayAnswer q (blocksOf (now xs)) (z .block) (z .base) c (now page) × HasBlock (now m) (z .block) × Table q (blocksOf (now xs)) (now m) ⌝ }
     ensures { λ g. ⌜ Answered q (blocksOf (now (xs .entry))) (z .block) (z .base) (z .met) c (now (page .entry)) (now (page .exit)) g ⌝ }
 {
     let k = z.block;
     let base = z.base;
     let met = z.met;
-    let at = BLOCK * k;
-    fill(xs, t, q, m, k);
     let joins = joins_of(xs, t, k);
     let s = marks_of(xs, t, q, m, k, c);
-    copy_record(&s, m, at);
     let g = give_joins(q, &s, joins, met, page);
-    walk(xs, t, q, m, k, at, base, c, page, g)
+    let h = give_block(xs, t, q, &s, k, 0, base, c, page, g);
+    walk(xs, t, q, m, k, base, c, page, h)
 }
 
 // The same in a low block, for which a short table is enough, and in any.
