@@ -417,15 +417,6 @@ module _ (xs m : List ℕ) (a own c : ℕ) (s : List ℕ) where
           go (inl i) = inl (record { use-of = p .use-of; member = i; by = p .by })
           go (inr i) = let e : p .use-of ≡ useAt xs (blocksOf xs) r = List·Memᴰ·eq-of-singleton i in inr (rw e at (p .by))
 
-pub uses-long : {own : ℕ} {m : List ℕ} {u : Use} {c : ℕ} (s w : List ℕ) (n : ℕ) → UseMarked own m u c s w → length s ≡ n → length w ≡ n
-uses-long s w n a e = a .added .long ∙ e
-
-pub uses-end : (xs t m : List ℕ) (k a e r own c : ℕ) (s w : List ℕ) → Ground xs t → k < length (blocksOf xs) → a ≡ getD t (4 * k + 1) 0 → e ≡ getD t (4 * k + 2) 0
-    → r ≤ e → e ≤ r → UsesMarked own m (usesFrom xs (blocksOf xs) a (r - a)) c s w → UsesMarked own m (blockAt (blocksOf xs) k .uses) c s w
-uses-end xs t m k a e r own c s w g h x y i j b =
-    let z : r ≡ getD t (4 * k + 2) 0 = omega arith in
-    rw (uses-rows g k h) (rw (x, z) at b)
-
 -- All rows of a block, from no marks.
 nothing-on : (own d : ℕ) → HasPlace own d → own ≤ 255 → On own (replicate 41 0) d → ⊥
 nothing-on own d k h f = go (decLt own d)

@@ -13,7 +13,7 @@ use Rattle.model.specs.Unfolding.{cueAt, renamed, links}
 use Rattle.theory.specs.WellFormed.{Cue, GoodLink, GoodUse}
 use Rattle.theory.proofs.Members.{getD-mem, mem-at, map-mem, mem-map, getD-map-in}
 use Rattle.theory.proofs.Ranges.{Within, inner, join, Copy, copies-use, copies-of, Inside, uses-copy, links-within, Spot, Fit, number, own-links, part-links, all-links, extent, meets, size, Own, number-own, own-own, meets-own, part-use, arity, part-range, cueAt-own, cueAt-join}
-use Rattle.theory.proofs.BlockAt.{spot, total-at, links-at, lower-at, joinsOf-at, ownOf-at}
+use Rattle.theory.proofs.BlockAt.{spot, total-at, links-at, joinsOf-at, ownOf-at}
 use Rattle.theory.proofs.Locality.{Sound, Part, Numbered, part-spot, part-own, not-inside, link-part, part-link, number-apart, part-sound, part-total, numbered-cases}
 use Rattle.links.specs.declared.Ask.{Ask}
 use Rattle.links.specs.Picks.{here, there, fits, Picked, wanted}
@@ -35,9 +35,6 @@ module _ (q : Ask) (bs : List Block) (m : List ℕ) (k base : ℕ) (met : List �
 
   abbrev E : List Link
   E = all-links z
-
-  pub part-lower : (p : Copy) → Part z p → p .of .block < k
-  part-lower p i = lower-at bs (g .good) k (p .of) (copies-use (total bs) (base + blockAt bs k .own) (blockAt bs k .uses) p i)
 
   -- A cue of the block that is an end of a link of a part is met by a join of the part.
   meets-at : (p : Copy) → Part z p → (c : ℕ) → Cue (blockAt bs k) c → Within (p .base) (size z p) (meets z p) (number z c)

@@ -19,32 +19,37 @@ ghost use Rattle.links.specs.Stands.{Standing, MayStep, Stepped, Columns
 ghost use Rattle.links.specs.Answer.{cueOf, linkedCues, IsListed, MayAnswer, Answered};
 ghost use Rattle.links.specs.Ground.{Ground, UseRow, UseIn, HasRecord, HasBlock, bitAt, setBit, IsCue, Added, PlaceIs};
 
-// The values of a row, and the first of those that name cues; the numbers of a block in the index.
+// The values of a row.
 const ROW: usize = 11;
 
+// The first value of a row that names a cue.
 const COLUMNS: usize = 3;
 
+// The numbers of a block in the index, and of all blocks.
 const ENTRY: usize = 4;
 
 const INDEX: usize = 512;
-// A block has at most this many joins.
+
+// The most joins of a block.
 const JOINS: usize = 8;
-// A record has a flag for each join, one that says that there is something inside, and 32 bytes with a bit for each own cue. The table
-// has one for each join, and so many bytes for each block.
+
+// A record of marks: a flag for each join, then one for what is inside, then 32 bytes with a bit for each own cue.
 const INSIDE: usize = 8;
 
 const BITS: usize = 9;
 
 const RECORD: usize = 41;
 
+// The records of a block's joins in a table; a table of all 128 blocks, and a short one of the blocks below LOW.
 const BLOCK: usize = 328;
-// A table has 128 blocks, and a short one those below LOW.
+
 const TABLE: usize = 41984;
 
 const LOW: usize = 32;
 
 const LOW_TABLE: usize = 10496;
-// More cues than this no show has.
+
+// The most cues of a show.
 const CUES: usize = 2147483647;
 
 // What is asked for: the cues that links with labels lo to hi lead to from the cue, or inward from which they lead to it, that are greater
@@ -147,8 +152,7 @@ fn with_bit(b: u8, n: usize) -> u8
     b | (1 << n)
 }
 
-// Marks cue d of a block with own own cues. In a record of 41 bytes flags 0 to 7 are for joins; flag 8 says that an own cue, or a cue
-// inside a use, is marked; 32 bytes behind them have a bit for each own cue.
+// Marks cue d of a block with own own cues in a record. A marked own cue also sets the flag for what is inside.
 fn mark(s: &mut [u8; RECORD], own: u32, d: u32)
     requires { ⌜ (length (now s) ≡ 41) × (own ≤ 255) ⌝ }
     ensures { λ _. ⌜ Added own (IsCue d) (now (s .entry)) (now (s .exit)) ⌝ }
@@ -247,7 +251,8 @@ fn copy_record(s: &[u8; RECORD], m: &mut [u8], at: usize)
     }
 }
 
-// Flag 8 of a record that is made: 1 if something inside was marked, and 2 if nothing was.
+// The flag for what is inside, of a record that is made: 1 if something was marked there, and 2 if nothing was. 0 says that there is no
+// record yet.
 fn settled(flag: u8) -> u8
     ensures { λ r. ⌜ Settled flag r ⌝ }
 {
