@@ -176,13 +176,16 @@ pub steps-long : {q : Ask} {bs : List Block} {own c : ℕ} {u : Use} (m s w v : 
 steps-long m s w v n a e = a .marked .added .long ∙ e
 
 -- All rows of a block.
-pub marks-step : (xs t : List ℕ) (q : Ask) (k f a own c : ℕ) (m m₁ w v : List ℕ) → Ground xs t → k < length (blocksOf xs)
+pub zero-long : (s : List ℕ) → s ≡ replicate 41 0 → length s ≡ 41
+zero-long s z = ap length z ∙ length-replicate {A = ℕ} 41 0
+
+pub marks-step : (xs t : List ℕ) (q : Ask) (k f a own c : ℕ) (m m₁ s w v : List ℕ) → s ≡ replicate 41 0 → Ground xs t → k < length (blocksOf xs)
     → f ≡ getD t (4 * k + 0) 0 → a ≡ getD t (4 * k + 1) 0 → own ≡ ownOf (blocksOf xs) k → own ≤ 255
-    → Added own (Picked q (linksFrom xs (f + 1) (a - (f + 1))) c) (replicate 41 0) w
+    → Added own (Picked q (linksFrom xs (f + 1) (a - (f + 1))) c) s w
     → UsesStep q (blocksOf xs) own c (blockAt (blocksOf xs) k .uses) m w m₁ v → MarksStep q (blocksOf xs) k c m m₁ v
-marks-step xs t q k f a own c m m₁ w v g h x y eo few p r =
+marks-step xs t q k f a own c m m₁ s w v z g h x y eo few p r =
     record {
-      marks = near-all xs t m₁ q k f a own c w v g h x y eo few p (r .marked);
+      marks = near-all xs t m₁ q k f a own c w v g h x y eo few (rw z at p) (r .marked);
       ready = record { table = r .table; done = r .done };
       kept = r .kept;
     }

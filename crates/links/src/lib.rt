@@ -3,7 +3,7 @@ ghost use mathlib.Core.Path.{_≡_};
 ghost use mathlib.Core.Logic.{_≢_};
 ghost use mathlib.Core.List.{List, [], _∷_};
 ghost use Prim.Native.Nat.{ℕ, _+_, _*_, _-_, _≤_, _<_, _/_, min};
-ghost use lib.ListN.{length, getD, take, set};
+ghost use lib.ListN.{length, getD, take, set, replicate};
 ghost use Rattle.model.specs.Rows.{cell};
 ghost use Rattle.model.specs.Unfolding.{cueAt};
 ghost use Rattle.model.specs.Blocks.{blockAt, joinsOf, ownOf, sumOver, total, blocksOf};
@@ -313,18 +313,24 @@ fn mark_uses(
     }
 }
 
-// Marks the cues of block k that are linked to its cue c.
-fn marks_of(xs: &[u32], t: &[u32; INDEX], q: Ask, m: &mut [u8], k: usize, c: u32) -> [u8; RECORD]
-    requires { ⌜ Ground (now xs) (now t) × (k < length (blocksOf (now xs))) × HasBlock (now m) k × Table q (blocksOf (now xs)) (now m) ⌝ }
-    ensures { λ s. ⌜ MarksStep q (blocksOf (now (xs .entry))) k c (now (m .entry)) (now (m .exit)) s ⌝ }
+// Marks the cues of block k that are linked to its cue c in a record without marks.
+fn marks_of(
+    xs: &[u32],
+    t: &[u32; INDEX],
+    q: Ask,
+    m: &mut [u8],
+    k: usize,
+    c: u32,
+    s: &mut [u8; RECORD],
+)
+    requires { ⌜ Ground (now xs) (now t) × (k < length (blocksOf (now xs))) × HasBlock (now m) k × Table q (blocksOf (now xs)) (now m) × (now s ≡ replicate 41 0) ⌝ }
+    ensures { λ _. ⌜ MarksStep q (blocksOf (now (xs .entry))) k c (now (m .entry)) (now (m .exit)) (now (s .exit)) ⌝ }
 {
-    let mut s: [u8; RECORD] = [0; RECORD];
     let f = entry(t, k, 0);
     let a = entry(t, k, 1);
     let own = own_of(xs, t, k);
-    mark_links(xs, q, f + 1, a, own, c, &mut s);
-    mark_uses(xs, t, q, m, k, own, c, &mut s);
-    s
+    mark_links(xs, q, f + 1, a, own, c, s);
+    mark_uses(xs, t, q, m, k, own, c, s);
 }
 
 // Makes the record of join i of block k, if it is not there yet.
@@ -339,7 +345,8 @@ fn ready(xs: &[u32], t: &[u32; INDEX], q: Ask, m: &mut [u8], k: usize, i: usize)
     }
     let own = own_of(xs, t, k);
     let c = own + 1 + (i as u32);
-    let s = marks_of(xs, t, q, m, k, c);
+    let mut s: [u8; RECORD] = [0; RECORD];
+    marks_of(xs, t, q, m, k, c, &mut s);
     copy_record(&s, m, at);
     m[at + INSIDE] = settled(s[INSIDE]);
 }
@@ -680,7 +687,8 @@ fn answer_by(
     let base = z.base;
     let met = z.met;
     let joins = joins_of(xs, t, k);
-    let s = marks_of(xs, t, q, m, k, c);
+    let mut s: [u8; RECORD] = [0; RECORD];
+    marks_of(xs, t, q, m, k, c, &mut s);
     let g = give_joins(q, &s, joins, met, page);
     let h = give_block(xs, t, q, &s, k, 0, base, c, page, g);
     walk(xs, t, q, m, k, base, c, page, h)

@@ -3,13 +3,13 @@ use borrow.Author.Needs.{needs}
 use Prim.Native.Nat.{ℕ, _+_, _*_, _-_, _≤_, _<_}
 use mathlib.Core.Path.{_≡_, refl, _∙_}
 use mathlib.Core.List.{[]}
-use lib.ListN.{length, length-replicate}
+use lib.ListN.{length}
 use Rattle.model.specs.Blocks.{blocksOf}
 use Rattle.rules.specs.Index.{usesFrom}
 use Rattle.links.specs.Near.{UsesStep}
 use Rattle.links.proofs.Ground.{row-known, rows-order, links-order}
 use Rattle.links.proofs.Marks.{use-inside, use-quiet}
-use Rattle.links.proofs.Tables.{step-made, step-none, steps-begin, steps-on, steps-end, steps-long, marks-step, made-before, made-now, written-long}
+use Rattle.links.proofs.Tables.{step-made, step-none, steps-begin, steps-on, steps-end, steps-long, marks-step, zero-long, made-before, made-now, written-long}
 use native.Mathlib.Omega.{arith}
 use borrow.Fn.Kinds.{In}
 use borrow.Fn.PlainCycle.{Measures, is, falls, and}
@@ -44,7 +44,7 @@ abbrev μ-mark-use : Measures 4 mark-use-kinds.ps ℕ
 abbrev μ-mark-uses : Measures 4 mark-uses-kinds.ps ℕ
 μ-mark-uses κs a = 4 * (a .1 .1 .1 .1 .0) + 1
 
-abbrev μ-marks-of : Measures 3 marks-of-kinds.ps ℕ
+abbrev μ-marks-of : Measures 4 marks-of-kinds.ps ℕ
 μ-marks-of κs a = 4 * (a .1 .1 .1 .1 .0) + 2
 
 abbrev μ-ready : Measures 3 ready-kinds.ps ℕ
@@ -64,12 +64,12 @@ abbrev mark-uses-below : ℕ → In 4 mark-uses-kinds.ps
 mark-uses-below t =
     and 4 mark-uses-kinds.ps (falls 4 mark-uses-kinds.ps _<_ μ-mark-uses t) mark-uses.Pre
 
-abbrev marks-of-at : ℕ → In 3 marks-of-kinds.ps
-marks-of-at t = and 3 marks-of-kinds.ps (is 3 marks-of-kinds.ps μ-marks-of t) marks-of.Pre
+abbrev marks-of-at : ℕ → In 4 marks-of-kinds.ps
+marks-of-at t = and 4 marks-of-kinds.ps (is 4 marks-of-kinds.ps μ-marks-of t) marks-of.Pre
 
-abbrev marks-of-below : ℕ → In 3 marks-of-kinds.ps
+abbrev marks-of-below : ℕ → In 4 marks-of-kinds.ps
 marks-of-below t =
-    and 3 marks-of-kinds.ps (falls 3 marks-of-kinds.ps _<_ μ-marks-of t) marks-of.Pre
+    and 4 marks-of-kinds.ps (falls 4 marks-of-kinds.ps _<_ μ-marks-of t) marks-of.Pre
 
 abbrev ready-at : ℕ → In 3 ready-kinds.ps
 ready-at t = and 3 ready-kinds.ps (is 3 ready-kinds.ps μ-ready t) ready.Pre
@@ -570,7 +570,7 @@ marks-of-mark-links-requires : (t : ℕ) → marks-of-lts.Need-mark-links-requir
   mark-uses-below t,
   mark-uses.Post,
 ) (marks-of-at t) marks-of.Post
-marks-of-mark-links-requires t c κs = search (links-order, needs) fits 20000
+marks-of-mark-links-requires t c κs = search (links-order, zero-long, needs) fits 20000
 
 marks-of-mark-uses-requires : (t : ℕ) → marks-of-lts.Need-mark-uses-requires (
   entry-reads.Asked,
@@ -589,7 +589,7 @@ marks-of-mark-uses-requires t c κs =
         pre .0,
         pre .1,
         pre .2,
-        c .before .before .mark-links .ensures .long ∙ length-replicate {A = ℕ} 41 0,
+        c .before .before .mark-links .ensures .long ∙ zero-long _ (pre .4),
         c .before .before .before .before .own-of .ensures .1,
         pre .3,
       ),
@@ -620,7 +620,7 @@ marks-of-returns : (t : ℕ) → marks-of-lts.Need-returns (
 marks-of-returns t c =
     let pre = c .before .before .before .before .before .before .before .before .before .before .before .before .pre .1 in
     let own = c .before .before .before .before .before .before .before .own-of .ensures in
-    marks-step _ _ _ _ _ _ _ _ _ _ _ _ (pre .0) (pre .1) (c .before .before .before .before .before .before .before .before .before .entry .ensures .0) (c .before .before .before .before .before .before .before .before .entry2 .ensures .0) (own .0) (own .1)
+    marks-step _ _ _ _ _ _ _ _ _ _ _ _ _ (pre .4) (pre .0) (pre .1) (c .before .before .before .before .before .before .before .before .before .entry .ensures .0) (c .before .before .before .before .before .before .before .before .entry2 .ensures .0) (own .0) (own .1)
     (c .before .before .before .before .before .mark-links .ensures) (c .before .before .mark-uses .ensures)
 
 ready-mul-at : (t : ℕ) → ready-lts.Need-mul-at (
@@ -755,8 +755,8 @@ ready-marks-of-requires : (t : ℕ) → ready-lts.Need-marks-of-requires (
   settled-reads.Learnt,
 ) (ready-at t) ready.Post
 ready-marks-of-requires t c κs =
-    let pre = c .before .before .before .before .before .before .pre .1 in
-    (omega (arith, c .before .before .before .before .before .before .pre .0), (pre .0, pre .1, pre .2, pre .5))
+    let pre = c .before .before .before .before .before .before .before .pre .1 in
+    (omega (arith, c .before .before .before .before .before .before .before .pre .0), (pre .0, pre .1, pre .2, pre .5, refl))
 
 ready-copy-record-requires : (t : ℕ) → ready-lts.Need-copy-record-requires (
   own-of-reads.Asked,
@@ -769,7 +769,7 @@ ready-copy-record-requires : (t : ℕ) → ready-lts.Need-copy-record-requires (
   settled-reads.Learnt,
 ) (ready-at t) ready.Post
 ready-copy-record-requires t c κs =
-    let pre = c .before .before .before .before .before .before .before .before .before .before .before .pre .1 in
+    let pre = c .before .before .before .before .before .before .before .before .before .before .before .before .pre .1 in
     let marks = c .before .before .before .before .marks-of in
     (omega (arith, pre .2, pre .4, marks .kept), marks .ensures .marks .long)
 
@@ -820,7 +820,7 @@ ready-slice-write-m : (t : ℕ) → ready-lts.Need-slice-write-m (
   settled-reads.Learnt,
 ) (ready-at t) ready.Post
 ready-slice-write-m t c =
-    let pre = c .before .before .before .before .before .before .before .before .before .before .before .before .before .before .before .pre .1 in
+    let pre = c .before .before .before .before .before .before .before .before .before .before .before .before .before .before .before .before .pre .1 in
     omega (arith, pre .2, pre .4, c .before .before .before .before .before .before .before .before .marks-of .kept, c .before .before .before .copy-record .kept)
 
 ready-same-length : (t : ℕ) → ready-lts.Need-same-length (
@@ -833,7 +833,7 @@ ready-same-length : (t : ℕ) → ready-lts.Need-same-length (
   settled-reads.Asked,
   settled-reads.Learnt,
 ) (ready-at t) ready.Post
-ready-same-length t c = written-long _ _ _ _ (c .before .before .before .before .before .before .before .before .before .before .before .before .before .before .before .args .m .now) _ _ (c .before .before .before .copy-record .ensures) (omega (arith, c .before .before .before .before .before .before .before .before .marks-of .kept))
+ready-same-length t c = written-long _ _ _ _ (c .before .before .before .before .before .before .before .before .before .before .before .before .before .before .before .before .args .m .now) _ _ (c .before .before .before .copy-record .ensures) (omega (arith, c .before .before .before .before .before .before .before .before .marks-of .kept))
 
 ready-returns-2 : (t : ℕ) → ready-lts.Need-returns-2 (
   own-of-reads.Asked,
@@ -846,10 +846,10 @@ ready-returns-2 : (t : ℕ) → ready-lts.Need-returns-2 (
   settled-reads.Learnt,
 ) (ready-at t) ready.Post
 ready-returns-2 t c =
-    let pre = c .before .before .before .before .before .before .before .before .before .before .before .before .before .before .before .pre .1 in
-    let own = c .before .before .before .before .before .before .before .before .before .before .own-of in
+    let pre = c .before .before .before .before .before .before .before .before .before .before .before .before .before .before .before .before .pre .1 in
+    let own = c .before .before .before .before .before .before .before .before .before .before .before .own-of in
     let marks = c .before .before .before .before .before .before .before .before .marks-of in
-    made-now _ _ (pre .0) _ _ _ _ (own .result) _ _ _ _ _ _ (pre .3) refl (c .before .before .before .before .before .before .before .before .before .before .before .if1 .left) (own .ensures .0) (own .ensures .1) (omega arith) (marks .ensures)
+    made-now _ _ (pre .0) _ _ _ _ (own .result) _ _ _ _ _ _ (pre .3) refl (c .before .before .before .before .before .before .before .before .before .before .before .before .if1 .left) (own .ensures .0) (own .ensures .1) (omega arith) (marks .ensures)
     (c .before .before .before .copy-record .ensures) (c .settled .ensures) (omega (arith, pre .2, marks .kept))
 
 pub +mark-use+mark-uses+marks-of+ready-spec : {M : Type 1} → statement M

@@ -22,7 +22,7 @@ slice-aggregate-give-block c = search needs
 
 give-block-requires : tie.Need-give-block-requires
 give-block-requires c κs =
-    let pre = c .before .before .before .before .before .before .before .before .before .before .before .before .before .before .before .before .pre in
+    let pre = c .before .before .before .before .before .before .before .before .before .before .before .before .before .before .before .before .before .pre in
     let marks = c .before .before .before .before .before .before .before .before .before .marks-of .ensures in
     let joins = c .before .before .before .before .give-joins .ensures in (
       pre .0,
@@ -33,7 +33,7 @@ give-block-requires c κs =
 
 walk-requires : tie.Need-walk-requires
 walk-requires c κs =
-    let pre = c .before .before .before .before .before .before .before .before .before .before .before .before .before .before .before .before .before .before .before .before .before .pre in
+    let pre = c .before .before .before .before .before .before .before .before .before .before .before .before .before .before .before .before .before .before .before .before .before .before .pre in
     let marks = c .before .before .before .before .before .before .before .before .before .before .before .before .before .before .marks-of in
     let joins = c .before .before .before .before .before .before .before .before .before .give-joins .ensures in
     let given = c .before .before .before .before .give-block .ensures in (
@@ -52,7 +52,7 @@ same-length-2 c = search needs
 returns : tie.Need-returns
 returns c =
     let marks = c .before .before .before .before .before .before .before .before .before .before .before .before .before .before .before .before .before .marks-of .ensures in
-    answered _ _ _ _ _ _ _ _ _ _ _ _ _ _ (marks .ready) (c .before .before .before .before .before .before .before .before .before .before .before .before .before .before .before .before .before .before .before .before .before .before .before .before .pre .1) (marks .marks) (c .before .before .before .before .before .before .before .before .before .before .before .before .before .before .before .before .before .before .before .joins-of .ensures .0)
+    answered _ _ _ _ _ _ _ _ _ _ _ _ _ _ (marks .ready) (c .before .before .before .before .before .before .before .before .before .before .before .before .before .before .before .before .before .before .before .before .before .before .before .before .before .pre .1) (marks .marks) (c .before .before .before .before .before .before .before .before .before .before .before .before .before .before .before .before .before .before .before .before .joins-of .ensures .0)
     (c .before .before .before .before .before .before .before .before .before .before .before .before .give-joins .ensures) (c .before .before .walk .ensures .whole _ _ (c .before .before .before .before .before .before .before .give-block .ensures))
 
 pub answer-by-spec : {M : Type 1} → statement M
