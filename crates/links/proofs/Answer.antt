@@ -3,7 +3,7 @@ use Prim.Native.Nat.{ℕ, zero, suc, _+_, _*_, _-_, _≤_, _<_, min}
 use native.Mathlib.Omega.{arith}
 use native.Mathlib.Decide.{decLt, decLe}
 use mathlib.Core.Path.{_≡_, refl, sym, _∙_, ap}
-use mathlib.Core.Logic.{_⊎_, inl, inr}
+use mathlib.Core.Logic.{_↔_, _⊎_, inl, inr}
 use mathlib.Core.Bool.{Bool, true, false}
 use mathlib.Core.List.{List, [], _∷_, _++_, append-nil, List·Memᴰ}
 use lib.ListN.{length, getD, take, length-take}
@@ -17,7 +17,9 @@ use Rattle.theory.proofs.BlockAt.{spot, links-at, ownOf-at, joinsOf-at, total-a
 use Rattle.theory.proofs.Locality.{Sound, Low}
 use Rattle.links.specs.declared.Ask.{Ask}
 use Rattle.links.specs.Picks.{here, there, Picked, wanted}
-use Rattle.links.specs.Near.{Near, Marks, TableTo}
+use Rattle.links.specs.Near.{Near, Marks, Ready}
+use Rattle.links.specs.Ground.{markOf, On, HasPlace}
+use Rattle.links.proofs.Tables.{mark-of-join}
 use Rattle.links.specs.Pages.{Gives}
 use Rattle.links.specs.Walks.{May, Walked}
 use Rattle.links.specs.Joins.{Met, MeetsJust, JoinsDone}
@@ -26,7 +28,7 @@ use Rattle.links.proofs.Picked.{both-ends, wanted-append}
 use Rattle.links.proofs.Filled.{gives-append}
 use Rattle.links.proofs.Near.{near-picked, picked-near, join-number, join-cue}
 
-module _ (q : Ask) (bs : List Block) (m : List ℕ) (k base : ℕ) (met : List ℕ) (c : ℕ) (s : List ℕ) (tab : TableTo q bs m k) (marks : Marks q m (blockAt bs k) c s)
+module _ (q : Ask) (bs : List Block) (m : List ℕ) (k base : ℕ) (met : List ℕ) (c : ℕ) (s : List ℕ) (tab : Ready q bs m k c) (marks : Marks q m (blockAt bs k) c s)
     (cue : Cue (blockAt bs k) c) (sound : Sound (spot bs k base (take (joinsOf bs k) met))) (low : Low (spot bs k base (take (joinsOf bs k) met))) where
   abbrev z : Spot
   z = spot bs k base (take (joinsOf bs k) met)
@@ -40,21 +42,23 @@ module _ (q : Ask) (bs : List Block) (m : List ℕ) (k base : ℕ) (met : List �
   -- What join j meets.
   join-is : (j : ℕ) → j < joinsOf bs k → number z (ownOf bs k + 1 + j) ≡ getD met j 0
   join-is j h =
-      rw (ownOf-at bs k) (join-number q bs m k base (take (joinsOf bs k) met) sound (tab .below) j) ∙ getD-take (joinsOf bs k) met j 0 h
+      rw (ownOf-at bs k) (join-number q bs m k base (take (joinsOf bs k) met) sound j) ∙ getD-take (joinsOf bs k) met j 0 h
 
   join-here : (j : ℕ) → j < joinsOf bs k → Cue (blockAt bs k) (ownOf bs k + 1 + j)
-  join-here j h = rw (ownOf-at bs k) (join-cue q bs m k base (take (joinsOf bs k) met) sound (tab .below) j h)
+  join-here j h = rw (ownOf-at bs k) (join-cue q bs m k base (take (joinsOf bs k) met) sound j h)
 
-  small : (j : ℕ) → j < joinsOf bs k → ownOf bs k + 1 + j < 264
-  small j h = omega (arith, sound .fit .good .own, sound .fit .good .joins, ownOf-at bs k, joinsOf-at bs k)
+  flag-near : (j : ℕ) → j < joinsOf bs k → (getD s j 0 ≡ 1) ↔ Near q m (blockAt bs k) c (ownOf bs k + 1 + j)
+  flag-near j h =
+      rw (ownOf-at bs k, ← mark-of-join (blockAt bs k .own) j s)
+      (marks .at (blockAt bs k .own + 1 + j) (omega arith, omega (arith, sound .fit .good .joins, joinsOf-at bs k)))
 
   -- The marked joins meet the linked cues up to base.
-  meets-just : MeetsJust q E (number z c) base s (ownOf bs k + 1) (joinsOf bs k) met
+  meets-just : MeetsJust q E (number z c) base s (joinsOf bs k) met
   meets-just =
       record {
         to = λ u o.
             rw (links-are, ← o .meets, ← join-is (o .j) (o .within))
-            (near-picked q bs m k base (take (joinsOf bs k) met) sound (tab .below) c (ownOf bs k + 1 + o .j) (marks .at (ownOf bs k + 1 + o .j) (small (o .j) (o .within)) .0 (o .flag)));
+            (near-picked q bs m k base (take (joinsOf bs k) met) sound c (ownOf bs k + 1 + o .j) tab (flag-near (o .j) (o .within) .0 (o .flag)));
         low = λ u o.
             let e : getD (take (joinsOf bs k) met) (o .j) 0 ≡ u = getD-take (joinsOf bs k) met (o .j) 0 (o .within) ∙ o .meets in
             rw e at (low (getD (take (joinsOf bs k) met) (o .j) 0) (getD-mem (take (joinsOf bs k) met) (o .j) (omega (arith, o .within, sound .fit .fits, joinsOf-at bs k))));
@@ -63,7 +67,7 @@ module _ (q : Ask) (bs : List Block) (m : List ℕ) (k base : ℕ) (met : List �
       }
     where
       go : (u : ℕ) → u ≤ base → (p : Picked q E (number z c) u) → Within base (total bs k) (take (joinsOf bs k) met) (there q (p .link))
-          → Met s (ownOf bs k + 1) (joinsOf bs k) met u
+          → Met s (joinsOf bs k) met u
       go u h p (inner x y) = absurd (omega (arith, p .to))
       go u h p (join i) =
           let (j, l, e) = mem-at (there q (p .link)) i in
@@ -72,24 +76,23 @@ module _ (q : Ask) (bs : List Block) (m : List ℕ) (k base : ℕ) (met : List �
           record {
             j = j;
             within = w;
-            flag = marks .at (ownOf bs k + 1 + j) (small j w) .1
-                (picked-near q bs m k base (take (joinsOf bs k) met) sound (tab .below) c (ownOf bs k + 1 + j) cue (join-here j w)
+            flag = flag-near j w .1
+                (picked-near q bs m k base (take (joinsOf bs k) met) sound c (ownOf bs k + 1 + j) tab cue (join-here j w)
                 (rw (join-is j w, m′) (rw links-are at p)));
             meets = m′;
           }
 
-pub answered : (q : Ask) (bs : List Block) (m : List ℕ) (k base : ℕ) (met : List ℕ) (c own from joins g₁ g : ℕ) (s page p₁ after : List ℕ)
-    → TableTo q bs m k → MayAnswer q bs k base c page → Marks q m (blockAt bs k) c s → own ≡ ownOf bs k → from ≡ own + 1 → joins ≡ joinsOf bs k
-    → JoinsDone q s from joins met page 0 p₁ g₁ → Walked q bs k base c base p₁ g₁ (total bs k) after g → Answered q bs k base met c page after g
-answered q bs m k base met c own from joins g₁ g s page p₁ after tab may marks eo ef ej done walked =
+pub answered : (q : Ask) (bs : List Block) (m : List ℕ) (k base : ℕ) (met : List ℕ) (c joins g₁ g : ℕ) (s page p₁ after : List ℕ)
+    → Ready q bs m k c → MayAnswer q bs k base c page → Marks q m (blockAt bs k) c s → joins ≡ joinsOf bs k
+    → JoinsDone q s joins met page 0 p₁ g₁ → Walked q bs k base c base p₁ g₁ (total bs k) after g → Answered q bs k base met c page after g
+answered q bs m k base met c joins g₁ g s page p₁ after tab may marks ej done walked =
     record {
       gives = λ sound low.
-          let e : from ≡ ownOf bs k + 1 = omega arith in
           let z : 0 + base ≡ base = omega arith in
           let v : ℕ = number (spot bs k base (take (joinsOf bs k) met)) c in
           let L : List Link = links bs k base (take (joinsOf bs k) met) in
-          let just : MeetsJust q L v base s from joins met =
-          rw (e, ej) (meets-just q bs m k base met c s tab marks (omega (arith, may .low, may .high, ownOf-at bs k)) sound low) in
+          let just : MeetsJust q L v base s joins met =
+          rw ej (meets-just q bs m k base met c s tab marks (omega (arith, may .low, may .high, ownOf-at bs k)) sound low) in
           rw (wanted-append q v L 0 base (total bs k), z)
           (gives-append (q .room) page 0 _ _ p₁ after g₁ g (done .all L v base just) (walked .gives (take (joinsOf bs k) met) sound));
     }

@@ -1,5 +1,5 @@
 -- Laws of filling a page.
-use Prim.Native.Nat.{ℕ, zero, suc, _+_, _*_, _/_, _-_, _≤_, _<_, min}
+use Prim.Native.Nat.{ℕ, zero, suc, _+_, _*_, _/_, _%_, _-_, _≤_, _<_, min}
 use native.Mathlib.Omega.{arith}
 use native.Mathlib.Decide.{decLt}
 use native.Mathlib.Numerals.{add-one}
@@ -11,7 +11,8 @@ use Rattle.model.specs.Choice.{ifLt, ifEq}
 use Rattle.model.specs.Lists.{overwrite}
 use Rattle.theory.proofs.Choices.{lt-then, lt-else, eq-then, eq-else}
 use Rattle.links.specs.declared.Ask.{Ask}
-use Rattle.links.specs.Ground.{Coarse}
+use Rattle.links.specs.Ground.{bitAt, ownBit}
+use Rattle.links.proofs.Bits.{bit-none}
 use Rattle.links.specs.Pages.{Filled, put, puts, Gives}
 use Rattle.links.specs.Walks.{stepList, ownList}
 
@@ -134,37 +135,43 @@ module _ (q : Ask) (p : List ℕ) (w : ℕ) where
   unfolding stepList
   step-no flag u f b = gives-nil (q .room) p w (stepList q flag u) (eq-else flag 1 _ _ f) b
 
-  pub own-begin : (s : List ℕ) (base : ℕ) → w ≤ q .room + 1 → Gives (q .room) p w (ownList q s base (1 - 1)) p w
-  unfolding ownList
-  own-begin s base b = gives-nil (q .room) p w [] refl b
+  module _ (s : List ℕ) (at base : ℕ) where
+    pub own-begin : w ≤ q .room + 1 → Gives (q .room) p w (ownList q s at base (1 - 1)) p w
+    unfolding ownList
+    own-begin b = gives-nil (q .room) p w [] refl b
 
-  pub own-on : (s : List ℕ) (base d g h : ℕ) (p₁ p₂ : List ℕ) → 1 ≤ d → Gives (q .room) p w (ownList q s base (d - 1)) p₁ g
-      → Gives (q .room) p₁ g (stepList q (getD s d 0) (base + d)) p₂ h → Gives (q .room) p w (ownList q s base (d + 1 - 1)) p₂ h
-  unfolding ownList
-  own-on s base d g h p₁ p₂ l x y =
-      let e : d + 1 - 1 ≡ suc (d - 1) = omega arith in
-      let f : suc (d - 1) ≡ d = omega arith in
-      rw e (gives-append (q .room) p w (ownList q s base (d - 1)) (stepList q (getD s (suc (d - 1)) 0) (base + suc (d - 1))) p₁ p₂ g h x (rw f y))
+    pub own-on : (d i b f g h : ℕ) (p₁ p₂ : List ℕ) → 1 ≤ d → i ≡ d - 1 → b ≡ getD s (at + i / 8) 0 → f ≡ bitAt b (i % 8)
+        → Gives (q .room) p w (ownList q s at base (d - 1)) p₁ g → Gives (q .room) p₁ g (stepList q f (base + d)) p₂ h
+        → Gives (q .room) p w (ownList q s at base (d + 1 - 1)) p₂ h
+    unfolding ownList ownBit
+    own-on d i b f g h p₁ p₂ l j e₁ e₂ x y =
+        let e : d + 1 - 1 ≡ suc (d - 1) = omega arith in
+        let n : suc (d - 1) ≡ d = omega arith in
+        let v : f ≡ ownBit s at d = e₂ ∙ ap (λ (z : ℕ). bitAt z (i % 8)) e₁ ∙ ap (λ (z : ℕ). bitAt (getD s (at + z / 8) 0) (z % 8)) j in
+        rw e
+        (gives-append (q .room) p w (ownList q s at base (d - 1)) (stepList q (ownBit s at (suc (d - 1))) (base + suc (d - 1))) p₁ p₂ g h x (rw (n, ← v) y))
 
-  -- A group of cues without marks.
-  pub own-skip : (s : List ℕ) (base d r own g : ℕ) (p₁ : List ℕ) → Coarse s → 1 ≤ d → d ≤ own → own ≤ 255 → d < r → r ≤ own + 1 → r ≤ 8 * (d / 8) + 8
-      → (getD s (264 + d / 8) 0 ≡ 1 → ⊥) → Gives (q .room) p w (ownList q s base (d - 1)) p₁ g → Gives (q .room) p w (ownList q s base (r - 1)) p₁ g
-  unfolding ownList stepList
-  own-skip s base d r own g p₁ c a b o h k l n x =
-      let e : r - 1 ≡ d + (r - d) - 1 = omega arith in
-      rw (ap (ownList q s base) e ∙ same (r - d) (omega arith)) x
-    where
-      bare : (u : ℕ) → d ≤ u → u < r → getD s u 0 ≡ 1 → ⊥
-      bare u y z f = let e : u / 8 ≡ d / 8 = omega arith in n (rw e at (c .at u (omega arith) f))
+    -- A byte without bits.
+    pub own-skip : (d i b r own g : ℕ) (p₁ : List ℕ) → 1 ≤ d → d ≤ own → i ≡ d - 1 → b ≡ getD s (at + i / 8) 0 → b ≡ 0 → d < r → r ≤ own + 1 → r ≤ 8 * ((d - 1) / 8) + 9
+        → Gives (q .room) p w (ownList q s at base (d - 1)) p₁ g → Gives (q .room) p w (ownList q s at base (r - 1)) p₁ g
+    unfolding ownList stepList ownBit
+    own-skip d i b r own g p₁ a o j e₁ e₂ h k l x =
+        let e : r - 1 ≡ d + (r - d) - 1 = omega arith in
+        rw (ap (ownList q s at base) e ∙ same (r - d) (omega arith)) x
+      where
+        bare : (u : ℕ) → d ≤ u → u < r → ownBit s at u ≡ 1 → ⊥
+        bare u y z f =
+            let n : (u - 1) / 8 ≡ i / 8 = omega arith in
+            bit-none (getD s (at + (u - 1) / 8) 0) ((u - 1) % 8) (ap (λ (v : ℕ). getD s (at + v) 0) n ∙ sym e₁ ∙ e₂) f
 
-      same : (m : ℕ) → d + m ≤ r → ownList q s base (d + m - 1) ≡ ownList q s base (d - 1)
-      same zero y = let e : d + 0 - 1 ≡ d - 1 = omega arith in rw e refl
-      same (suc m) y =
-          let e : d + suc m - 1 ≡ suc (d + m - 1) = omega arith in
-          let f : suc (d + m - 1) ≡ d + m = omega arith in
-          rw (e, f, eq-else (getD s (d + m) 0) 1 (ifLt (q .after) (base + (d + m)) ((base + (d + m)) ∷ []) []) [] (bare (d + m) (omega arith) (omega arith)))
-          (append-nil (ownList q s base (d + m - 1)) ∙ same m (omega arith))
+        same : (m : ℕ) → d + m ≤ r → ownList q s at base (d + m - 1) ≡ ownList q s at base (d - 1)
+        same zero y = let e : d + 0 - 1 ≡ d - 1 = omega arith in rw e refl
+        same (suc m) y =
+            let e : d + suc m - 1 ≡ suc (d + m - 1) = omega arith in
+            let f : suc (d + m - 1) ≡ d + m = omega arith in
+            rw (e, f, eq-else (ownBit s at (d + m)) 1 (ifLt (q .after) (base + (d + m)) ((base + (d + m)) ∷ []) []) [] (bare (d + m) (omega arith) (omega arith)))
+            (append-nil (ownList q s at base (d + m - 1)) ∙ same m (omega arith))
 
-  pub own-end : (s : List ℕ) (base d own g : ℕ) (p₁ : List ℕ) → 1 ≤ d → d ≤ own + 1 → own < d → Gives (q .room) p w (ownList q s base (d - 1)) p₁ g
-      → Gives (q .room) p w (ownList q s base own) p₁ g
-  own-end s base d own g p₁ a b h x = let e : own ≡ d - 1 = omega arith in rw e x
+    pub own-end : (d own g : ℕ) (p₁ : List ℕ) → 1 ≤ d → d ≤ own + 1 → own < d → Gives (q .room) p w (ownList q s at base (d - 1)) p₁ g
+        → Gives (q .room) p w (ownList q s at base own) p₁ g
+    own-end d own g p₁ a b h x = let e : own ≡ d - 1 = omega arith in rw e x

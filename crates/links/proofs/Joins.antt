@@ -16,8 +16,8 @@ use Rattle.links.proofs.Picked.{wanted-append, wanted-nil, wanted-none,
 use Rattle.links.proofs.Filled.{gives-nil, gives-append}
 
 -- The least cue that a marked join meets.
-module _ (s : List ℕ) (from : ℕ) (met : List ℕ) (last : ℕ) where
-  pub next-begin : Next s from 0 met last 0
+module _ (s : List ℕ) (met : List ℕ) (last : ℕ) where
+  pub next-begin : Next s 0 met last 0
   next-begin =
       record {
         none = λ e u m. absurd (omega (arith, m .within));
@@ -26,12 +26,12 @@ module _ (s : List ℕ) (from : ℕ) (met : List ℕ) (last : ℕ) where
         least = λ n. absurd (n refl);
       }
 
-  module _ (j x : ℕ) (o : Next s from j met last x) where
-    wider : (u : ℕ) → Met s from j met u → Met s from (j + 1) met u
+  module _ (j x : ℕ) (o : Next s j met last x) where
+    wider : (u : ℕ) → Met s j met u → Met s (j + 1) met u
     wider u m = record { j = m .j; within = omega (arith, m .within); flag = m .flag; meets = m .meets }
 
     -- The new join is not marked, or too low: all is as it was.
-    keeps : (getD s (from + j) 0 ≡ 1 → last < getD met j 0 → (x ≡ 0 → ⊥) × (x ≤ getD met j 0)) → Next s from (j + 1) met last x
+    keeps : (getD s j 0 ≡ 1 → last < getD met j 0 → (x ≡ 0 → ⊥) × (x ≤ getD met j 0)) → Next s (j + 1) met last x
     keeps h =
         record {
           none = λ e u m. go u m (λ m. o .none e u m) (λ f l. absurd (h f l .0 e)) (decLt last u);
@@ -40,7 +40,7 @@ module _ (s : List ℕ) (from : ℕ) (met : List ℕ) (last : ℕ) where
           least = λ n u m l. least n u m l (ℕ-discrete (m .j) j);
         }
       where
-        go : (u : ℕ) → Met s from (j + 1) met u → (Met s from j met u → u ≤ last) → (getD s (from + j) 0 ≡ 1 → last < getD met j 0 → u ≤ last) → Dec (last < u) → u ≤ last
+        go : (u : ℕ) → Met s (j + 1) met u → (Met s j met u → u ≤ last) → (getD s j 0 ≡ 1 → last < getD met j 0 → u ≤ last) → Dec (last < u) → u ≤ last
         go u m old new (no l) = omega arith
         go u m old new (yes l) = at (ℕ-discrete (m .j) j)
           where
@@ -48,14 +48,14 @@ module _ (s : List ℕ) (from : ℕ) (met : List ℕ) (last : ℕ) where
             at (no n) = old (record { j = m .j; within = omega (arith, m .within); flag = m .flag; meets = m .meets })
             at (yes q) = new (rw q at (m .flag)) (let e : getD met j 0 ≡ u = rw q at (m .meets) in omega arith)
 
-        least : (x ≡ 0 → ⊥) → (u : ℕ) → (m : Met s from (j + 1) met u) → last < u → Dec (m .j ≡ j) → x ≤ u
+        least : (x ≡ 0 → ⊥) → (u : ℕ) → (m : Met s (j + 1) met u) → last < u → Dec (m .j ≡ j) → x ≤ u
         least n u m l (no k) = o .least n u (record { j = m .j; within = omega (arith, m .within); flag = m .flag; meets = m .meets }) l
         least n u m l (yes q) =
             let e : getD met j 0 ≡ u = rw q at (m .meets) in
             omega (arith, h (rw q at (m .flag)) (omega arith))
 
     -- The new join is the least one.
-    takes : getD s (from + j) 0 ≡ 1 → last < getD met j 0 → ((x ≡ 0 → ⊥) → getD met j 0 ≤ x) → Next s from (j + 1) met last (getD met j 0)
+    takes : getD s j 0 ≡ 1 → last < getD met j 0 → ((x ≡ 0 → ⊥) → getD met j 0 ≤ x) → Next s (j + 1) met last (getD met j 0)
     takes f l h =
         record {
           none = λ e. absurd (omega arith);
@@ -64,18 +64,18 @@ module _ (s : List ℕ) (from : ℕ) (met : List ℕ) (last : ℕ) where
           least = λ n u m k. least u m k (ℕ-discrete (m .j) j) (ℕ-discrete x 0);
         }
       where
-        least : (u : ℕ) (m : Met s from (j + 1) met u) → last < u → Dec (m .j ≡ j) → Dec (x ≡ 0) → getD met j 0 ≤ u
+        least : (u : ℕ) (m : Met s (j + 1) met u) → last < u → Dec (m .j ≡ j) → Dec (x ≡ 0) → getD met j 0 ≤ u
         least u m k (yes q) d = let e : getD met j 0 ≡ u = rw q at (m .meets) in omega arith
         least u m k (no n) (yes e) =
             absurd (omega (arith, o .none e u (record { j = m .j; within = omega (arith, m .within); flag = m .flag; meets = m .meets })))
         least u m k (no n) (no e) =
             omega (arith, o .least e u (record { j = m .j; within = omega (arith, m .within); flag = m .flag; meets = m .meets }) k, h e)
 
-    pub next-on : (flag y z : ℕ) → flag ≡ getD s (from + j) 0 → y ≡ getD met j 0 → z ≡ lesser flag y last x → Next s from (j + 1) met last z
+    pub next-on : (flag y z : ℕ) → flag ≡ getD s j 0 → y ≡ getD met j 0 → z ≡ lesser flag y last x → Next s (j + 1) met last z
     unfolding lesser
     next-on flag y z a b c = go (ℕ-discrete flag 1) (decLt last y) (ℕ-discrete x 0) (decLt y x)
       where
-        go : Dec (flag ≡ 1) → Dec (last < y) → Dec (x ≡ 0) → Dec (y < x) → Next s from (j + 1) met last z
+        go : Dec (flag ≡ 1) → Dec (last < y) → Dec (x ≡ 0) → Dec (y < x) → Next s (j + 1) met last z
         go (no f) d e g = rw (c ∙ eq-else flag 1 _ _ f) (keeps (λ p l. absurd (f (a ∙ p))))
         go (yes f) (no l) e g = rw (c ∙ eq-then flag 1 _ _ f ∙ lt-else last y _ _ (omega arith)) (keeps (λ p k. absurd (l (rw b k))))
         go (yes f) (yes l) (yes e) g =
@@ -85,16 +85,16 @@ module _ (s : List ℕ) (from : ℕ) (met : List ℕ) (last : ℕ) where
         go (yes f) (yes l) (no e) (no g) =
             rw (c ∙ eq-then flag 1 _ _ f ∙ lt-then last y _ _ l ∙ eq-else x 0 _ _ e ∙ lt-else y x _ _ (omega arith)) (keeps (λ p k. (e, omega arith)))
 
-  pub next-end : (j joins x : ℕ) → Next s from j met last x → j ≤ joins → joins ≤ j → Next s from joins met last x
+  pub next-end : (j joins x : ℕ) → Next s j met last x → j ≤ joins → joins ≤ j → Next s joins met last x
   next-end j joins x o h l = let e : joins ≡ j = omega arith in rw e o
 
 -- The list that they make.
-module _ (q : Ask) (E : List Link) (v base : ℕ) (s : List ℕ) (from joins : ℕ) (met : List ℕ) (just : MeetsJust q E v base s from joins met) where
-  list-none : (last x : ℕ) → Next s from joins met last x → x ≡ 0 → wanted q E v last (base - last) ≡ []
+module _ (q : Ask) (E : List Link) (v base : ℕ) (s : List ℕ) (joins : ℕ) (met : List ℕ) (just : MeetsJust q E v base s joins met) where
+  list-none : (last x : ℕ) → Next s joins met last x → x ≡ 0 → wanted q E v last (base - last) ≡ []
   list-none last x o e =
       wanted-none q v E last (base - last) (λ u a b p. absurd (omega (arith, o .none e u (just .back u (omega arith) p))))
 
-  list-next : (last x : ℕ) → Next s from joins met last x → (x ≡ 0 → ⊥) → q .after ≤ last
+  list-next : (last x : ℕ) → Next s joins met last x → (x ≡ 0 → ⊥) → q .after ≤ last
       → wanted q E v last (base - last) ≡ x ∷ wanted q E v x (base - x)
   list-next last x o n h =
       let up : last < x = o .above n in
@@ -111,8 +111,8 @@ module _ (q : Ask) (E : List Link) (v base : ℕ) (s : List ℕ) (from joins : �
       ∙ wanted-append q v E last (x - 1 - last) (1 + (base - x))
       ∙ rw (empty, mid) (wanted-append q v E (x - 1) 1 (base - x) ∙ rw (one, next) refl)
 
-module _ (q : Ask) (s : List ℕ) (from joins : ℕ) (met page : List ℕ) (w : ℕ) where
-  pub joins-begin : w ≤ q .room + 1 → JoinsGoing q s from joins met (q .after) page w page w
+module _ (q : Ask) (s : List ℕ) (joins : ℕ) (met page : List ℕ) (w : ℕ) where
+  pub joins-begin : w ≤ q .room + 1 → JoinsGoing q s joins met (q .after) page w page w
   joins-begin h =
       record {
         long = refl;
@@ -132,8 +132,8 @@ module _ (q : Ask) (s : List ℕ) (from joins : ℕ) (met page : List ℕ) (w : 
           let e : base - q .after ≡ 0 = omega arith in
           rw e (wanted-low q v E 0 base (omega arith) ∙ sym (wanted-nil q v E (q .after)))
 
-  pub joins-on : (last x g h : ℕ) (p₁ p₂ : List ℕ) → JoinsGoing q s from joins met last page w p₁ g → Next s from joins met last x → (x ≡ 0 → ⊥)
-      → Gives (q .room) p₁ g (x ∷ []) p₂ h → JoinsGoing q s from joins met x page w p₂ h
+  pub joins-on : (last x g h : ℕ) (p₁ p₂ : List ℕ) → JoinsGoing q s joins met last page w p₁ g → Next s joins met last x → (x ≡ 0 → ⊥)
+      → Gives (q .room) p₁ g (x ∷ []) p₂ h → JoinsGoing q s joins met x page w p₂ h
   joins-on last x g h p₁ p₂ go o n gives =
       record {
         long = gives .long ∙ go .long;
@@ -144,13 +144,13 @@ module _ (q : Ask) (s : List ℕ) (from joins : ℕ) (met page : List ℕ) (w : 
             record {
               done = r .done ++ x ∷ [];
               gives = gives-append (q .room) page w (r .done) (x ∷ []) p₁ p₂ g h (r .gives) gives;
-              left = r .left ∙ ap (λ zs. r .done ++ zs) (list-next q E v base s from joins met just last x o n (go .high))
+              left = r .left ∙ ap (λ zs. r .done ++ zs) (list-next q E v base s joins met just last x o n (go .high))
                   ∙ sym (append-assoc (r .done) (x ∷ []) (wanted q E v x (base - x)));
             };
       }
 
-  pub joins-end : (last x g : ℕ) (after : List ℕ) → JoinsGoing q s from joins met last page w after g → Next s from joins met last x → x ≡ 0
-      → JoinsDone q s from joins met page w after g
+  pub joins-end : (last x g : ℕ) (after : List ℕ) → JoinsGoing q s joins met last page w after g → Next s joins met last x → x ≡ 0
+      → JoinsDone q s joins met page w after g
   joins-end last x g after go o e =
       record {
         long = go .long;
@@ -158,11 +158,11 @@ module _ (q : Ask) (s : List ℕ) (from joins : ℕ) (met page : List ℕ) (w : 
         all = λ E v base just.
             let r : Some q E v base last page w after g = go .some E v base just in
             let z : wanted q E v 0 base ≡ r .done =
-            r .left ∙ ap (λ zs. r .done ++ zs) (list-none q E v base s from joins met just last x o e) ∙ append-nil (r .done) in
+            r .left ∙ ap (λ zs. r .done ++ zs) (list-none q E v base s joins met just last x o e) ∙ append-nil (r .done) in
             rw z (r .gives);
       }
 
 -- Each turn is higher.
-pub next-falls : (s : List ℕ) (from joins : ℕ) (met : List ℕ) (last x : ℕ) → Next s from joins met last x → (x ≡ 0 → ⊥) → x < 4294967296
+pub next-falls : (s : List ℕ) (joins : ℕ) (met : List ℕ) (last x : ℕ) → Next s joins met last x → (x ≡ 0 → ⊥) → x < 4294967296
     → 4294967296 - x < 4294967296 - last
-next-falls s from joins met last x o n h = omega (arith, o .above n)
+next-falls s joins met last x o n h = omega (arith, o .above n)

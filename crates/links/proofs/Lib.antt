@@ -2,6 +2,7 @@ pub mod Picked
 pub mod Filled
 pub mod Near
 pub mod Ground
+pub mod Bits
 pub mod Marks
 pub mod Tables
 pub mod Walks

@@ -1,6 +1,6 @@
 -- What a block's own rows and the table say of a copy of it: which of its cues are linked, that nothing inside is, and what the parts of
 -- the copy add to the list of a cue.
-use Prim.Native.Nat.{ℕ, zero, suc, _+_, _-_, _*_, _≤_, _<_}
+use Prim.Native.Nat.{ℕ, zero, suc, _+_, _-_, _*_, _/_, _%_, _≤_, _<_}
 use native.Mathlib.Omega.{arith}
 use native.Mathlib.Decide.{decLt}
 use mathlib.Core.Path.{_≡_, refl, sym, _∙_, ap}
@@ -8,16 +8,17 @@ use mathlib.Core.Logic.{_↔_, _⊎_, inl, inr}
 use mathlib.Core.Bool.{true}
 use mathlib.Core.List.{List, [], _∷_, _++_, map, List·Memᴰ, List·Memᴰ·append-cases, Memᴰ·append-left}
 use lib.ListN.{length, getD, length-map}
-use Rattle.model.specs.Blocks.{Link, Use, Block, blockAt, joinsOf, sumOver, total}
+use Rattle.model.specs.Blocks.{Link, Use, Block, blockAt, joinsOf, ownOf, sumOver, total}
 use Rattle.model.specs.Unfolding.{cueAt, renamed, links}
 use Rattle.theory.specs.WellFormed.{Cue, GoodLink, GoodUse}
 use Rattle.theory.proofs.Members.{getD-mem, mem-at, map-mem, mem-map, getD-map-in}
 use Rattle.theory.proofs.Ranges.{Within, inner, join, Copy, copies-use, copies-of, Inside, uses-copy, links-within, Spot, Fit, number, own-links, part-links, all-links, extent, meets, size, Own, number-own, own-own, meets-own, part-use, arity, part-range, cueAt-own, cueAt-join}
-use Rattle.theory.proofs.BlockAt.{spot, total-at, links-at, lower-at, joinsOf-at}
+use Rattle.theory.proofs.BlockAt.{spot, total-at, links-at, joinsOf-at, ownOf-at}
 use Rattle.theory.proofs.Locality.{Sound, Part, Numbered, part-spot, part-own, not-inside, link-part, part-link, number-apart, part-sound, part-total, numbered-cases}
 use Rattle.links.specs.declared.Ask.{Ask}
 use Rattle.links.specs.Picks.{here, there, fits, Picked, wanted}
-use Rattle.links.specs.Near.{Flag, Near, by-link, by-use, Exact, ExactBelow, SameTo}
+use Rattle.links.specs.Near.{Flag, Near, by-link, by-use, Known, Exact, Ready}
+use Rattle.links.specs.Ground.{bitAt, ownBit}
 use Rattle.links.proofs.Picked.{ends-here, ends-there, both-ends, here-renamed, there-renamed, wanted-none, wanted-same, wanted-low}
 
 -- The same link in another list.
@@ -28,15 +29,12 @@ label-renamed : (f : ℕ → ℕ) (l : Link) → renamed f l .label ≡ l .label
 unfolding renamed
 label-renamed f l = refl
 
-module _ (q : Ask) (bs : List Block) (m : List ℕ) (k base : ℕ) (met : List ℕ) (g : Sound (spot bs k base met)) (below : ExactBelow q bs m k) where
+module _ (q : Ask) (bs : List Block) (m : List ℕ) (k base : ℕ) (met : List ℕ) (g : Sound (spot bs k base met)) where
   abbrev z : Spot
   z = spot bs k base met
 
   abbrev E : List Link
   E = all-links z
-
-  pub part-lower : (p : Copy) → Part z p → p .of .block < k
-  part-lower p i = lower-at bs (g .good) k (p .of) (copies-use (total bs) (base + blockAt bs k .own) (blockAt bs k .uses) p i)
 
   -- A cue of the block that is an end of a link of a part is met by a join of the part.
   meets-at : (p : Copy) → Part z p → (c : ℕ) → Cue (blockAt bs k) c → Within (p .base) (size z p) (meets z p) (number z c)
@@ -55,9 +53,15 @@ module _ (q : Ask) (bs : List Block) (m : List ℕ) (k base : ℕ) (met : List �
   pub joins-at : (p : Copy) → Part z p → (i : ℕ) → i < length (p .of .at) → i < joinsOf bs (p .of .block)
   joins-at p i n h = omega (arith, part-use (g .fit) p i .arity)
 
+  use-in : (p : Copy) → Part z p → List·Memᴰ (p .of) (blockAt bs k .uses)
+  use-in p i = copies-use (total bs) (base + blockAt bs k .own) (blockAt bs k .uses) p i
+
+  exact-at : (c : ℕ) → Ready q bs m k c → (p : Copy) → Part z p → (i : ℕ) → i < length (p .of .at) → getD (p .of .at) i 0 ≡ c → Exact q bs m (p .of .block) i
+  exact-at c ready p o i h e = ready .table .exact (p .of .block) i (joins-at p o i h) (ready .done .at (p .of) (use-in p o) .at i h e)
+
   -- Linked cues of the block.
-  pub near-picked : (c d : ℕ) → Near q m (blockAt bs k) c d → Picked q E (number z c) (number z d)
-  near-picked c d (by-link l i a x y) =
+  pub near-picked : (c d : ℕ) → Ready q bs m k c → Near q m (blockAt bs k) c d → Picked q E (number z c) (number z d)
+  near-picked c d ready (by-link l i a x y) =
       record {
         link = renamed (number z) l;
         member = Memᴰ·append-left (part-links z) (mem-map (renamed (number z)) i);
@@ -65,13 +69,13 @@ module _ (q : Ask) (bs : List Block) (m : List ℕ) (k base : ℕ) (met : List �
         from = here-renamed q (number z) l ∙ ap (number z) x;
         to = there-renamed q (number z) l ∙ ap (number z) y;
       }
-  near-picked c d (by-use u w i j x y a b f) =
+  near-picked c d ready (by-use u w i j x y a b f) =
       let (p, o, e) = copies-of (total bs) (base + blockAt bs k .own) (blockAt bs k .uses) u w in
       let s : Flag m (p .of .block) i j = rw e f in
       let x′ : i < length (p .of .at) = rw e x in
       let y′ : j < length (p .of .at) = rw e y in
       let t : Picked q (part-own z p) (getD (meets z p) i 0) (getD (meets z p) j 0) =
-      below .at (p .of .block) i (part-lower p o) (joins-at p o i x′) .across (p .base) (meets z p) (part-sound g p o) j (joins-at p o j y′) .0 s in
+      exact-at c ready p o i x′ (rw e a) .across (p .base) (meets z p) (part-sound g p o) j (joins-at p o j y′) .0 s in
       let r : Picked q E (getD (meets z p) i 0) (getD (meets z p) j 0) = picked-in t (link-part g p o (t .link) (t .member)) in
       rw (met-at p i c x′ (rw e a), met-at p j d y′ (rw e b)) at r
 
@@ -88,9 +92,9 @@ module _ (q : Ask) (bs : List Block) (m : List ℕ) (k base : ℕ) (met : List �
       meets-at p i c h
       (rw e at (both-ends q l (Within (p .base) (size z p) (meets z p)) (links-within bs (g .good) (p .of .block) (p .base) (meets z p) (arity (g .fit) p i) l j) .1))
 
-  pub picked-near : (c d : ℕ) → Cue (blockAt bs k) c → Cue (blockAt bs k) d → Picked q E (number z c) (number z d) → Near q m (blockAt bs k) c d
+  pub picked-near : (c d : ℕ) → Ready q bs m k c → Cue (blockAt bs k) c → Cue (blockAt bs k) d → Picked q E (number z c) (number z d) → Near q m (blockAt bs k) c d
   unfolding renamed
-  picked-near c d x y t = go (List·Memᴰ·append-cases (own-links z) (t .member))
+  picked-near c d ready x y t = go (List·Memᴰ·append-cases (own-links z) (t .member))
     where
       ends : (l : Link) → GoodLink (blockAt bs k) l → Cue (blockAt bs k) (here q l) × Cue (blockAt bs k) (there q l)
       ends l o = both-ends q l (Cue (blockAt bs k)) (o .from, o .to)
@@ -109,7 +113,7 @@ module _ (q : Ask) (bs : List Block) (m : List ℕ) (k base : ℕ) (met : List �
           let r : Picked q (part-own z p) (getD (meets z p) a 0) (getD (meets z p) b 0) =
           rw (met-at p a c ah ae, met-at p b d bh be) (picked-in t j) in
           by-use (p .of) (copies-use (total bs) (base + blockAt bs k .own) (blockAt bs k .uses) p o) a b ah bh ae be
-          (below .at (p .of .block) a (part-lower p o) (joins-at p o a ah) .across (p .base) (meets z p) (part-sound g p o) b (joins-at p o b bh) .1 r)
+          (exact-at c ready p o a ah ae .across (p .base) (meets z p) (part-sound g p o) b (joins-at p o b bh) .1 r)
 
   -- A cue of the block that is linked to a number of a part is met by a join of the part, and linked to it there.
   pub picked-part : (p : Copy) → Part z p → (u : ℕ) → Inside (total bs) p u → (v : ℕ) → Picked q E v u → Picked q (part-own z p) v u
@@ -135,25 +139,25 @@ module _ (q : Ask) (bs : List Block) (m : List ℕ) (k base : ℕ) (met : List �
       wanted-none q (number z c) E (p .base) (total bs (p .of .block))
       (λ u x y t. let (a, l, e) = picked-met p i c u h (picked-part p i u (x, y) (number z c) t) in n a l e)
 
-  pub wanted-clear : (p : Copy) → Part z p → (c n : ℕ) → n < length (p .of .at) → getD (p .of .at) n 0 ≡ c
+  pub wanted-clear : (p : Copy) → Part z p → (c n : ℕ) → Ready q bs m k c → n < length (p .of .at) → getD (p .of .at) n 0 ≡ c
       → (Flag m (p .of .block) n 8 → ⊥) → wanted q E (number z c) (p .base) (total bs (p .of .block)) ≡ []
-  wanted-clear p i c n h e f =
+  wanted-clear p i c n ready h e f =
       wanted-none q (number z c) E (p .base) (total bs (p .of .block))
-      (λ u x y t. below .at (p .of .block) n (part-lower p i) (joins-at p i n h) .inside (p .base) (meets z p) (part-sound g p i) f u x y
+      (λ u x y t. exact-at c ready p i n h e .inside (p .base) (meets z p) (part-sound g p i) f u x y
       (rw (met-at p n c h e) (picked-part p i u (x, y) (number z c) t)))
 
   -- Nothing inside is linked to a cue of the block: none of its own cues, and nothing in a part that meets it.
-  pub nothing-inside : (c : ℕ) → Cue (blockAt bs k) c → ((d : ℕ) → 1 ≤ d → d ≤ blockAt bs k .own → Near q m (blockAt bs k) c d → ⊥)
+  pub nothing-inside : (c : ℕ) → Ready q bs m k c → Cue (blockAt bs k) c → ((d : ℕ) → 1 ≤ d → d ≤ blockAt bs k .own → Near q m (blockAt bs k) c d → ⊥)
       → ((w : Use) → List·Memᴰ w (blockAt bs k .uses) → (n : ℕ) → n < length (w .at) → getD (w .at) n 0 ≡ c → Flag m (w .block) n 8 → ⊥)
       → (u : ℕ) → Numbered z u → Picked q E (number z c) u → ⊥
-  nothing-inside c h own uses u r t = go (numbered-cases g u r)
+  nothing-inside c ready h own uses u r t = go (numbered-cases g u r)
     where
       go : ((d : ℕ) × (1 ≤ d) × (d ≤ blockAt bs k .own) × (number z d ≡ u)) ⊎ ((p : Copy) × Part z p × Numbered (part-spot z p) u) → ⊥
-      go (inl (d, a, b, e)) = own d a b (picked-near c d h (a, omega arith) (rw e t))
+      go (inl (d, a, b, e)) = own d a b (picked-near c d ready h (a, omega arith) (rw e t))
       go (inr (p, i, o)) =
           let s : Picked q (part-own z p) (number z c) u = picked-part p i u (omega (arith, o, part-total g p i)) (number z c) t in
           let (n, l, e) = picked-met p i c u h s in
-          below .at (p .of .block) n (part-lower p i) (joins-at p i n l) .inside (p .base) (meets z p) (part-sound g p i)
+          exact-at c ready p i n l e .inside (p .base) (meets z p) (part-sound g p i)
           (λ f. uses (p .of) (copies-use (total bs) (base + blockAt bs k .own) (blockAt bs k .uses) p i) n l e f)
           u (o .0) (omega (arith, o, part-total g p i)) (rw (met-at p n c l e) s)
 
@@ -166,29 +170,55 @@ module _ (q : Ask) (bs : List Block) (m : List ℕ) (k base : ℕ) (met : List �
   pub join-cue : (i : ℕ) → i < joinsOf bs k → Cue (blockAt bs k) (blockAt bs k .own + 1 + i)
   join-cue i h = omega (arith, joinsOf-at bs k)
 
+-- A record whose bits are the linked own cues of cue c.
+pub known-near : (q : Ask) (bs : List Block) (m w : List ℕ) (at k c : ℕ) → Ready q bs m k c → Cue (blockAt bs k) c
+    → ((d : ℕ) → 1 ≤ d → d ≤ blockAt bs k .own → (ownBit w (at + 9) d ≡ 1) ↔ Near q m (blockAt bs k) c d) → Known q bs w at k c
+known-near q bs m w at k c ready cue bits =
+    record {
+      own = λ base met g d x y.
+          let h : d ≤ blockAt bs k .own = omega (arith, ownOf-at bs k) in
+          let num : number (spot bs k base met) d ≡ base + d = cueAt-own (blockAt bs k .own) base met d h in
+          rw (links-at bs (g .good) k base met, ← num)
+          (λ f. near-picked q bs m k base met g c d ready (bits d x h .0 f), λ t. bits d x h .1 (picked-near q bs m k base met g c d ready cue (x, omega arith) t));
+    }
+
 -- What makes a table right for join i of block k.
 pub record Right (q : Ask) (bs : List Block) (m w : List ℕ) (k i : ℕ) : Type 0 where
+  pub bits : (d : ℕ) → 1 ≤ d → d ≤ blockAt bs k .own → (ownBit w (328 * k + 41 * i + 9) d ≡ 1) ↔ Near q m (blockAt bs k) (blockAt bs k .own + 1 + i) d
   pub across : (j : ℕ) → j < joinsOf bs k → Flag w k i j ↔ Near q m (blockAt bs k) (blockAt bs k .own + 1 + i) (blockAt bs k .own + 1 + j)
   pub own : (Flag w k i 8 → ⊥) → (d : ℕ) → 1 ≤ d → d ≤ blockAt bs k .own → Near q m (blockAt bs k) (blockAt bs k .own + 1 + i) d → ⊥
   pub uses : (Flag w k i 8 → ⊥) → (u : Use) → List·Memᴰ u (blockAt bs k .uses) → (n : ℕ) → n < length (u .at)
       → getD (u .at) n 0 ≡ blockAt bs k .own + 1 + i → Flag m (u .block) n 8 → ⊥
 
-pub exact-join : (q : Ask) (bs : List Block) (m w : List ℕ) (k i : ℕ) → ExactBelow q bs m k → i < joinsOf bs k → Right q bs m w k i → Exact q bs w k i
-exact-join q bs m w k i below h r =
+pub exact-join : (q : Ask) (bs : List Block) (m w : List ℕ) (k i : ℕ) → Ready q bs m k (blockAt bs k .own + 1 + i) → i < joinsOf bs k → Right q bs m w k i → Exact q bs w k i
+exact-join q bs m w k i ready h r =
     record {
-      across = λ base met g j l. rw (links-at bs (g .good) k base met, ← join-number q bs m k base met g below i, ← join-number q bs m k base met g below j)
-          (λ f. near-picked q bs m k base met g below (c i) (c j) (r .across j l .0 f), λ t. r .across j l .1 (picked-near q bs m k base met g below (c i) (c j) (join-cue q bs m k base met g below i h) (join-cue q bs m k base met g below j l) t));
-      inside = λ base met g n u x y t. nothing-inside q bs m k base met g below (c i) (join-cue q bs m k base met g below i h)
-          (r .own n) (r .uses n) u (omega (arith, total-at bs (g .good) k base met)) (rw (join-number q bs m k base met g below i) (rw (links-at bs (g .good) k base met) at t));
+      across = λ base met g j l. rw (links-at bs (g .good) k base met, ← join-number q bs m k base met g i, ← join-number q bs m k base met g j)
+          (λ f. near-picked q bs m k base met g (c i) (c j) ready (r .across j l .0 f), λ t. r .across j l .1 (picked-near q bs m k base met g (c i) (c j) ready (join-cue q bs m k base met g i h) (join-cue q bs m k base met g j l) t));
+      inside = λ base met g n u x y t. nothing-inside q bs m k base met g (c i) ready (join-cue q bs m k base met g i h)
+          (r .own n) (r .uses n) u (omega (arith, total-at bs (g .good) k base met)) (rw (join-number q bs m k base met g i) (rw (links-at bs (g .good) k base met) at t));
+      known = rw (ownOf-at bs k) (known-near q bs m w (328 * k + 41 * i) k (c i) ready (omega (arith, joinsOf-at bs k)) (r .bits));
     }
   where
     c : ℕ → ℕ
     c i = blockAt bs k .own + 1 + i
 
 -- A table that agrees with it up to there is right too.
-pub exact-same : (q : Ask) (bs : List Block) (m w : List ℕ) (k i n : ℕ) → i < 8 → joinsOf bs k ≤ 8 → 72 * k + 9 * i + 9 ≤ n → SameTo n m w → Exact q bs m k i → Exact q bs w k i
-exact-same q bs m w k i n a b h s x =
+same-bit : (m w : List ℕ) (at d : ℕ) → getD w (at + (d - 1) / 8) 0 ≡ getD m (at + (d - 1) / 8) 0 → ownBit w at d ≡ ownBit m at d
+unfolding ownBit
+same-bit m w at d e = ap (λ (b : ℕ). bitAt b ((d - 1) % 8)) e
+
+pub exact-same : (q : Ask) (bs : List Block) (m w : List ℕ) (k i : ℕ) → joinsOf bs k ≤ 8
+    → ((n : ℕ) → n < 41 → getD w (328 * k + 41 * i + n) 0 ≡ getD m (328 * k + 41 * i + n) 0) → Exact q bs m k i → Exact q bs w k i
+exact-same q bs m w k i b s x =
     record {
-      across = λ base met g j l. rw (s .at (72 * k + 9 * i + j) (omega arith)) (x .across base met g j l);
-      inside = λ base met g f u. x .inside base met g (rw (s .at (72 * k + 9 * i + 8) (omega arith)) at f) u;
+      across = λ base met g j l. rw (s j (omega arith)) (x .across base met g j l);
+      inside = λ base met g f u. x .inside base met g (rw (s 8 (omega arith)) at f) u;
+      known = record { own = λ base met g d y z. rw (same-bit m w (328 * k + 41 * i + 9) d (byte g d z)) (x .known .own base met g d y z) };
     }
+  where
+    byte : {base : ℕ} {met : List ℕ} → Sound (spot bs k base met) → (d : ℕ) → d ≤ ownOf bs k
+        → getD w (328 * k + 41 * i + 9 + (d - 1) / 8) 0 ≡ getD m (328 * k + 41 * i + 9 + (d - 1) / 8) 0
+    byte g d z =
+        let e : 328 * k + 41 * i + 9 + (d - 1) / 8 ≡ 328 * k + 41 * i + (9 + (d - 1) / 8) = omega arith in
+        rw e (s (9 + (d - 1) / 8) (omega (arith, g .fit .good .own, ownOf-at bs k)))

@@ -3,7 +3,7 @@ use Prim.Native.Nat.{ℕ, zero, suc, _+_, _*_, _-_, _≤_, _<_}
 use native.Mathlib.Omega.{arith}
 use native.Mathlib.Decide.{ℕ-discrete, decLt}
 use mathlib.Core.Path.{_≡_, refl, sym, _∙_, ap}
-use mathlib.Core.List.{List, [], _∷_, _++_, append-nil, List·Memᴰ}
+use mathlib.Core.List.{List, [], _∷_, _++_, append-nil, List·Memᴰ, List·Memᴰ·head, List·Memᴰ·tail}
 use lib.ListN.{length, getD, take, drop}
 use lib.Seq.{take-suc, split-at, take-all}
 use Rattle.model.specs.Rows.{cell}
@@ -18,10 +18,10 @@ use Rattle.theory.proofs.Locality.{Sound, Part, part-own, part-sound, copies-he
 use Rattle.rules.specs.Index.{useAt}
 use Rattle.links.specs.declared.Ask.{Ask}
 use Rattle.links.specs.Picks.{Picked, wanted}
-use Rattle.links.specs.Near.{Flag, Near, Marks, ExactBelow, TableTo}
+use Rattle.links.specs.Near.{Flag, Near, Known, Done, Ready}
 use Rattle.links.specs.Pages.{Gives}
-use Rattle.links.specs.Walks.{stepList, ownList, copyList, May, MayDoor, Walked, Entered, Door, Going}
-use Rattle.links.specs.Ground.{Ground, UseRow, PlaceIs}
+use Rattle.links.specs.Walks.{stepList, ownList, copyList, May, MayDoor, Walked, UsesWalked, Entered, Door, Going}
+use Rattle.links.specs.Ground.{Ground, UseRow, UseIn, ownBit, PlaceIs}
 use Rattle.links.proofs.Picked.{wanted-append, wanted-nil, wanted-yes, wanted-not, wanted-under, wanted-low}
 use Rattle.links.proofs.Filled.{gives-nil, gives-full, gives-append}
 use Rattle.links.proofs.Ground.{use-block, use-column, uses-rows, usesFrom-length, usesFrom-at}
@@ -32,58 +32,50 @@ cue-is : (bs : List Block) (k c : ℕ) → 1 ≤ c → c ≤ ownOf bs k + joinsO
 cue-is bs k c x y = omega (arith, ownOf-at bs k, joinsOf-at bs k)
 
 -- The own cues of a copy.
-module _ (q : Ask) (bs : List Block) (m : List ℕ) (k base : ℕ) (met : List ℕ) (g : Sound (spot bs k base met)) (below : ExactBelow q bs m k)
-    (c : ℕ) (cue : Cue (blockAt bs k) c) (s : List ℕ) (marks : Marks q m (blockAt bs k) c s) where
-  abbrev z : Spot
-  z = spot bs k base met
+module _ (q : Ask) (bs : List Block) (m : List ℕ) (at k base : ℕ) (met : List ℕ) (g : Sound (spot bs k base met)) (c : ℕ) (known : Known q bs m at k c) where
+  abbrev E : List Link
+  E = links bs k base met
 
   abbrev v : ℕ
-  v = number z c
+  v = number (spot bs k base met) c
 
-  one : (d : ℕ) → suc d ≤ blockAt bs k .own → wanted q (all-links z) v base (suc d) ≡ wanted q (all-links z) v base d ++ stepList q (getD s (suc d) 0) (base + suc d)
+  one : (d : ℕ) → suc d ≤ ownOf bs k → wanted q E v base (suc d) ≡ wanted q E v base d ++ stepList q (ownBit m (at + 9) (suc d)) (base + suc d)
   unfolding stepList
-  one d h = go (ℕ-discrete (getD s (suc d) 0) 1) (decLt (q .after) (base + suc d))
+  one d h = go (ℕ-discrete (ownBit m (at + 9) (suc d)) 1) (decLt (q .after) (base + suc d))
     where
-      num : number z (suc d) ≡ base + suc d
-      num = cueAt-own (blockAt bs k .own) base met (suc d) h
+      skip : stepList q (ownBit m (at + 9) (suc d)) (base + suc d) ≡ [] → wanted q E v base (suc d) ≡ wanted q E v base d
+          → wanted q E v base (suc d) ≡ wanted q E v base d ++ stepList q (ownBit m (at + 9) (suc d)) (base + suc d)
+      skip e w = w ∙ sym (ap (λ zs. wanted q E v base d ++ zs) e ∙ append-nil (wanted q E v base d))
 
-      small : suc d < 264
-      small = omega (arith, g .fit .good .own)
-
-      skip : stepList q (getD s (suc d) 0) (base + suc d) ≡ [] → wanted q (all-links z) v base (suc d) ≡ wanted q (all-links z) v base d
-          → wanted q (all-links z) v base (suc d) ≡ wanted q (all-links z) v base d ++ stepList q (getD s (suc d) 0) (base + suc d)
-      skip e w = w ∙ sym (ap (λ zs. wanted q (all-links z) v base d ++ zs) e ∙ append-nil (wanted q (all-links z) v base d))
-
-      go : Dec (getD s (suc d) 0 ≡ 1) → Dec (q .after < base + suc d)
-          → wanted q (all-links z) v base (suc d) ≡ wanted q (all-links z) v base d ++ stepList q (getD s (suc d) 0) (base + suc d)
+      go : Dec (ownBit m (at + 9) (suc d) ≡ 1) → Dec (q .after < base + suc d)
+          → wanted q E v base (suc d) ≡ wanted q E v base d ++ stepList q (ownBit m (at + 9) (suc d)) (base + suc d)
       go (yes f) (yes l) =
-          wanted-yes q v (all-links z) base d l (rw num at (near-picked q bs m k base met g below c (suc d) (marks .at (suc d) small .0 f)))
-          ∙ ap (λ zs. wanted q (all-links z) v base d ++ zs) (sym (eq-then (getD s (suc d) 0) 1 _ _ f ∙ lt-then (q .after) (base + suc d) _ _ l))
+          wanted-yes q v E base d l (known .own base met g (suc d) (omega arith) h .0 f)
+          ∙ ap (λ zs. wanted q E v base d ++ zs) (sym (eq-then (ownBit m (at + 9) (suc d)) 1 _ _ f ∙ lt-then (q .after) (base + suc d) _ _ l))
       go (yes f) (no l) =
-          skip (eq-then (getD s (suc d) 0) 1 _ _ f ∙ lt-else (q .after) (base + suc d) _ _ (omega arith))
-          (wanted-under q v (all-links z) base d (omega arith))
+          skip (eq-then (ownBit m (at + 9) (suc d)) 1 _ _ f ∙ lt-else (q .after) (base + suc d) _ _ (omega arith))
+          (wanted-under q v E base d (omega arith))
       go (no f) e =
-          skip (eq-else (getD s (suc d) 0) 1 _ _ f)
-          (wanted-not q v (all-links z) base d
-          (λ p. f (marks .at (suc d) small .1 (picked-near q bs m k base met g below c (suc d) cue (omega arith, omega arith) (rw num p)))))
+          skip (eq-else (ownBit m (at + 9) (suc d)) 1 _ _ f)
+          (wanted-not q v E base d (λ p. f (known .own base met g (suc d) (omega arith) h .1 p)))
 
-  own-wanted : (d : ℕ) → d ≤ blockAt bs k .own → ownList q s base d ≡ wanted q (all-links z) v base d
+  own-wanted : (d : ℕ) → d ≤ ownOf bs k → ownList q m (at + 9) base d ≡ wanted q E v base d
   unfolding ownList
-  own-wanted zero h = sym (wanted-nil q v (all-links z) base)
-  own-wanted (suc d) h = ap (λ zs. zs ++ stepList q (getD s (suc d) 0) (base + suc d)) (own-wanted d (omega arith)) ∙ sym (one d h)
+  own-wanted zero h = sym (wanted-nil q v E base)
+  own-wanted (suc d) h = ap (λ zs. zs ++ stepList q (ownBit m (at + 9) (suc d)) (base + suc d)) (own-wanted d (omega arith)) ∙ sym (one d h)
 
-pub own-walked : (q : Ask) (bs : List Block) (m : List ℕ) (k base c : ℕ) (p : List ℕ) (w : ℕ) (s p′ : List ℕ) (own wide g : ℕ)
-    → TableTo q bs m k → May q bs k base c p w → own ≡ ownOf bs k → wide ≡ own → Marks q m (blockAt bs k) c s
-    → Gives (q .room) p w (ownList q s base wide) p′ g → Walked q bs k base c base p w (ownOf bs k) p′ g
-own-walked q bs m k base c p w s p′ own wide g tab may x y marks gives =
+pub own-walked : (q : Ask) (bs : List Block) (m : List ℕ) (at k base c : ℕ) (p : List ℕ) (w : ℕ) (p′ : List ℕ) (own wide g : ℕ)
+    → Known q bs m at k c → own ≡ ownOf bs k → wide ≡ own
+    → Gives (q .room) p w (ownList q m (at + 9) base wide) p′ g → Walked q bs k base c base p w (ownOf bs k) p′ g
+own-walked q bs m at k base c p w p′ own wide g known x y gives =
     record {
       long = gives .long;
       bound = gives .bound;
       gives = λ met sound.
-          let e : wide ≡ blockAt bs k .own = y ∙ x ∙ ownOf-at bs k in
-          let r : ownList q s base (blockAt bs k .own) ≡ wanted q (all-links (spot bs k base met)) (number (spot bs k base met) c) base (blockAt bs k .own) =
-          own-wanted q bs m k base met sound (tab .below) c (cue-is bs k c (may .low) (may .high)) s marks (blockAt bs k .own) (omega arith) in
-          rw (links-at bs (sound .good) k base met, ownOf-at bs k, ← r) (rw e at gives);
+          let e : wide ≡ ownOf bs k = y ∙ x in
+          let r : ownList q m (at + 9) base (ownOf bs k) ≡ wanted q (links bs k base met) (number (spot bs k base met) c) base (ownOf bs k) =
+          own-wanted q bs m at k base met sound c known (ownOf bs k) (omega arith) in
+          rw (← r) (rw e at gives);
     }
 
 pub own-fits : (q : Ask) (xs t : List ℕ) (k base c : ℕ) (p : List ℕ) (w own wide : ℕ) → Ground xs t → May q (blocksOf xs) k base c p w
@@ -92,15 +84,15 @@ own-fits q xs t k base c p w own wide g may x y =
     omega (arith, may .small, total-at (blocksOf xs) (g .show .good) k 0 [], ownOf-at (blocksOf xs) k)
 
 -- Nothing to give in the copy of a use.
-door-shut : (q : Ask) (xs : List ℕ) (k r place c w : ℕ) → ((page : List ℕ) → Entered q xs k r place c page w page w) → Door q xs k r place c w 0
+door-shut : (q : Ask) (xs : List ℕ) (k r place c w : ℕ) → ((page : List ℕ) → Entered q xs k r place c page w page w) → Door q xs k r place c w 8
 door-shut q xs k r place c w h =
-    record { shut = λ e. h; at = 0; within = λ n. absurd (n refl); cue = λ n. absurd (n refl); meets = λ n. absurd (n refl) }
+    record { shut = λ e. h; within = λ n. absurd (n refl); meets = λ n. absurd (n refl) }
 
 door-nil : (q : Ask) (xs : List ℕ) (k r place c w : ℕ) → w ≤ q .room + 1
     → ((base : ℕ) (met : List ℕ) → Sound (spot (blocksOf xs) k base met)
     → Part (spot (blocksOf xs) k base met) (record { of = useAt xs (blocksOf xs) r; base = place })
     → wanted q (all-links (spot (blocksOf xs) k base met)) (number (spot (blocksOf xs) k base met) c) place (total (blocksOf xs) (cell xs r 2)) ≡ [])
-    → Door q xs k r place c w 0
+    → Door q xs k r place c w 8
 door-nil q xs k r place c w b h =
     door-shut q xs k r place c w
     (λ page. record {
@@ -110,75 +102,90 @@ door-nil q xs k r place c w b h =
     })
 
 module _ (q : Ask) (xs t m : List ℕ) (g : Ground xs t) (k r place c w : ℕ) (may : MayDoor q xs k r place c w) where
-  pub door-full : q .room < w → Door q xs k r place c w 0
+  pub door-full : q .room < w → Door q xs k r place c w 8
   door-full h =
       door-shut q xs k r place c w
       (λ page. record { long = refl; bound = may .bound; gives = λ base met sound part. gives-full (q .room) page w _ h (may .bound) })
 
-  pub door-low : (size : ℕ) → size ≡ total (blocksOf xs) (cell xs r 2) → place + size ≤ q .after → Door q xs k r place c w 0
+  pub door-low : (size : ℕ) → size ≡ total (blocksOf xs) (cell xs r 2) → place + size ≤ q .after → Door q xs k r place c w 8
   door-low size e h = door-nil q xs k r place c w (may .bound) (λ base met sound part. wanted-low q _ _ place _ (omega arith))
 
   module _ (x j joins i : ℕ) (o : UseRow xs k r) (y₁ : x ≡ cell xs r 2) (y₂ : j ≡ x) (n : joins ≡ joinsOf (blocksOf xs) j) (few : joins ≤ 8)
-      (p : PlaceIs xs r joins c i) (tab : TableTo q (blocksOf xs) m k) where
+      (p : PlaceIs xs r joins c i) (tab : Ready q (blocksOf xs) m k c) where
     arity : length (useAt xs (blocksOf xs) r .at) ≡ joins
     arity = o .arity ∙ ap (joinsOf (blocksOf xs)) (sym (y₂ ∙ y₁)) ∙ sym n
 
     use-at : (a : ℕ) → a < joins → getD (useAt xs (blocksOf xs) r .at) a 0 ≡ cell xs r (3 + a)
     use-at a h = use-column xs (blocksOf xs) r a (omega (arith, o .arity, arity)) (omega arith)
 
-    pub door-apart : joins ≤ i → Door q xs k r place c w 0
+    pub door-apart : joins ≤ i → Door q xs k r place c w 8
     unfolding useAt
     door-apart h =
         door-nil q xs k r place c w (may .bound)
-        (λ base met sound part. wanted-apart q (blocksOf xs) m k base met sound (tab .below) (record { of = useAt xs (blocksOf xs) r; base = place }) part c
+        (λ base met sound part. wanted-apart q (blocksOf xs) m k base met sound (record { of = useAt xs (blocksOf xs) r; base = place }) part c
         (cue-is (blocksOf xs) k c (may .low) (may .high))
         (λ a l e. p .before a (omega (arith, arity)) (sym (use-at a (omega (arith, arity))) ∙ e)))
 
-    pub door-clear : i < joins → (getD m (72 * j + 9 * i + 8) 0 ≡ 1 → ⊥) → Door q xs k r place c w 0
+    pub door-clear : i < joins → (getD m (328 * j + 41 * i + 8) 0 ≡ 1 → ⊥) → Door q xs k r place c w 8
     unfolding useAt
     door-clear h f =
         door-nil q xs k r place c w (may .bound)
-        (λ base met sound part. wanted-clear q (blocksOf xs) m k base met sound (tab .below) (record { of = useAt xs (blocksOf xs) r; base = place }) part c i
+        (λ base met sound part. wanted-clear q (blocksOf xs) m k base met sound (record { of = useAt xs (blocksOf xs) r; base = place }) part c i tab
         (omega (arith, arity)) (use-at i h ∙ p .found h) (rw (y₂, y₁) at f))
 
-    pub door-open : (own : ℕ) → own ≡ ownOf (blocksOf xs) j → i < joins → Door q xs k r place c w (own + 1 + i)
-    door-open own e h =
+    pub door-open : i < joins → Door q xs k r place c w i
+    door-open h =
         let s : j ≡ cell xs r 2 = y₂ ∙ y₁ in
         record {
           shut = λ z. absurd (omega arith);
-          at = i;
           within = λ z. (let b : joins ≡ joinsOf (blocksOf xs) (cell xs r 2) = rw s at n in omega arith);
-          cue = λ z. (let b : own ≡ ownOf (blocksOf xs) (cell xs r 2) = rw s at e in omega arith);
           meets = λ z. p .found h;
         }
 
 -- The copy of a use is not walked, or walked.
-pub enter-shut : (q : Ask) (xs : List ℕ) (k r place c w d : ℕ) (page : List ℕ) → Door q xs k r place c w d → d ≡ 0 → Entered q xs k r place c page w page w
-enter-shut q xs k r place c w d page door e = door .shut e page
+pub enter-shut : (q : Ask) (xs : List ℕ) (k r place c w i : ℕ) (page : List ℕ) → Door q xs k r place c w i → i ≡ 8 → Entered q xs k r place c page w page w
+enter-shut q xs k r place c w i page door e = door .shut e page
 
-module _ (q : Ask) (xs t m : List ℕ) (g : Ground xs t) (k r place c w d x j : ℕ) (page : List ℕ) (o : UseRow xs k r) (door : Door q xs k r place c w d)
-    (open-door : d ≡ 0 → ⊥) (y₁ : x ≡ cell xs r 2) (y₂ : j ≡ x) where
-  pub may-walk : MayDoor q xs k r place c w → q .room ≤ length page → May q (blocksOf xs) j place d page w
-  may-walk may l =
+pub door-small : (q : Ask) (xs t : List ℕ) (k r place c w i : ℕ) → Ground xs t → Door q xs k r place c w i → (i ≡ 8 → ⊥) → i < 8
+door-small q xs t k r place c w i g door n = omega (arith, door .within n, joins-small (cell xs r 2) (g .show .good))
+
+module _ (q : Ask) (xs t m : List ℕ) (g : Ground xs t) (k r place c w i x j own d : ℕ) (page : List ℕ) (o : UseRow xs k r) (door : Door q xs k r place c w i)
+    (open-door : i ≡ 8 → ⊥) (y₁ : x ≡ cell xs r 2) (y₂ : j ≡ x) (y₃ : own ≡ ownOf (blocksOf xs) j) (y₄ : d ≡ own + 1 + i) where
+  pub may-walk : (f : ℕ) → MayDoor q xs k r place c w → q .room ≤ length page → f ≤ q .room + 1 → May q (blocksOf xs) j place d page f
+  may-walk f may l b =
       let e : j ≡ cell xs r 2 = y₂ ∙ y₁ in
+      let n : own ≡ ownOf (blocksOf xs) (cell xs r 2) = rw e at y₃ in
       rw e
       (record {
         known = omega (arith, o .lower, o .known);
-        low = omega (arith, door .cue open-door);
-        high = omega (arith, door .cue open-door, door .within open-door);
+        low = omega arith;
+        high = omega (arith, door .within open-door);
         small = may .small;
         room = l;
         fits = may .fits;
-        bound = may .bound;
+        bound = b;
       })
 
-  pub table-less : TableTo q (blocksOf xs) m k → TableTo q (blocksOf xs) m j
-  table-less tab = record { long = tab .long; below = record { at = λ a i h l. tab .below .at a i (omega (arith, o .lower)) l } }
-
-  pub enter-walk : (after : List ℕ) (f : ℕ) → TableTo q (blocksOf xs) m k
-      → Walked q (blocksOf xs) j place d place page w (total (blocksOf xs) j) after f → Entered q xs k r place c page w after f
+  made : Ready q (blocksOf xs) m k c → UseIn xs k r → Done m j i
   unfolding useAt
-  enter-walk after f tab walked =
+  made tab here =
+      let e : j ≡ cell xs r 2 = y₂ ∙ y₁ in
+      rw e
+      (tab .done .at (useAt xs (blocksOf xs) r) (here .member) .at i (omega (arith, o .arity, door .within open-door))
+      (use-column xs (blocksOf xs) r i (door .within open-door) (door-small q xs t k r place c w i g door open-door) ∙ door .meets open-door))
+
+  at-join : i < joinsOf (blocksOf xs) j
+  at-join = let e : j ≡ cell xs r 2 = y₂ ∙ y₁ in rw e (door .within open-door)
+
+  pub door-known : Ready q (blocksOf xs) m k c → UseIn xs k r → Known q (blocksOf xs) m (328 * j + 41 * i) j d
+  door-known tab here = rw (y₄, y₃) (tab .table .exact j i at-join (made tab here) .known)
+
+  pub table-less : Ready q (blocksOf xs) m k c → UseIn xs k r → Ready q (blocksOf xs) m j d
+  table-less tab here = record { table = tab .table; done = rw (y₄, y₃) (tab .table .closed j i at-join (made tab here)) }
+
+  pub enter-walk : (after : List ℕ) (f : ℕ) → Walked q (blocksOf xs) j place d place page w (total (blocksOf xs) j) after f → Entered q xs k r place c page w after f
+  unfolding useAt
+  enter-walk after f walked =
       record {
         long = walked .long;
         bound = walked .bound;
@@ -187,12 +194,11 @@ module _ (q : Ask) (xs t m : List ℕ) (g : Ground xs t) (k r place c w d x j : 
             let p : Copy = record { of = useAt xs bs r; base = place } in
             let z : Spot = spot bs k base met in
             let inside : Sound (spot bs (cell xs r 2) place (meets z p)) = part-sound sound p part in
-            let i : ℕ = door .at in
             let h : i < length (useAt xs bs r .at) = omega (arith, o .arity, door .within open-door) in
             let n : number (spot bs (cell xs r 2) place (meets z p)) d ≡ number z c =
-            rw (cue-at) (join-number q bs m (cell xs r 2) place (meets z p) inside lower-table i
-            ∙ met-at q bs m k base met sound (tab .below) p i c h (use-column xs bs r i (door .within open-door) (omega (arith, door .within open-door, few)) ∙ door .meets open-door)) in
-            rw (links-at bs (sound .good) k base met, wanted-part q bs m k base met sound (tab .below) p part (number z c), ← n)
+            rw (cue-at) (join-number q bs m (cell xs r 2) place (meets z p) inside i
+            ∙ met-at q bs m k base met sound p i c h (use-column xs bs r i (door .within open-door) (omega (arith, door .within open-door, few)) ∙ door .meets open-door)) in
+            rw (links-at bs (sound .good) k base met, wanted-part q bs m k base met sound p part (number z c), ← n)
             ((rw e at walked) .gives (meets z p) inside);
       }
     where
@@ -202,11 +208,8 @@ module _ (q : Ask) (xs t m : List ℕ) (g : Ground xs t) (k r place c w d x j : 
       few : joinsOf bs (cell xs r 2) ≤ 8
       few = joins-small (cell xs r 2) (g .show .good)
 
-      cue-at : d ≡ blockAt bs (cell xs r 2) .own + 1 + door .at
-      cue-at = omega (arith, door .cue open-door, ownOf-at bs (cell xs r 2))
-
-      lower-table : ExactBelow q bs m (cell xs r 2)
-      lower-table = record { at = λ a i h l. tab .below .at a i (omega (arith, o .lower)) l }
+      cue-at : d ≡ blockAt bs (cell xs r 2) .own + 1 + i
+      cue-at = let e : j ≡ cell xs r 2 = y₂ ∙ y₁ in let f : own ≡ ownOf bs (cell xs r 2) = rw e at y₃ in omega (arith, ownOf-at bs (cell xs r 2))
 
 -- The uses up to one more.
 sum-append : (f : ℕ → ℕ) (us ws : List Use) → sumOver f (us ++ ws) ≡ sumOver f us + sumOver f ws
@@ -217,6 +220,11 @@ sum-append f (u ∷ us) ws = omega (arith, sum-append f us ws)
 sum-one : (f : ℕ → ℕ) (u : Use) → sumOver f (u ∷ []) ≡ f (u .block)
 unfolding sumOver
 sum-one f u = omega arith
+
+use-mem : (us : List Use) (i : ℕ) (d : Use) → i < length us → List·Memᴰ (getD us i d) us
+use-mem [] i d h = absurd (omega arith)
+use-mem (u ∷ us) zero d h = List·Memᴰ·head refl
+use-mem (u ∷ us) (suc i) d h = List·Memᴰ·tail (use-mem us i d (omega arith))
 
 abbrev pub noUse : Use
 noUse = record { block = 0; at = [] }
@@ -236,6 +244,9 @@ module _ (xs t : List ℕ) (g : Ground xs t) (k base a e : ℕ) (known : k < len
   use-here r x y =
       let z : a + (r - a) ≡ r = omega arith in
       rw (uses-rows g k known, ← y₁, ← y₂) (usesFrom-at xs bs a (e - a) (r - a) noUse (omega arith) ∙ ap (useAt xs bs) z)
+
+  pub use-in : (r : ℕ) → a ≤ r → r < e → UseIn xs k r
+  use-in r x y = record { member = rw (← use-here r x y) (use-mem us (r - a) noUse (omega (arith, many))) }
 
   size-all : total bs k ≡ ownOf bs k + sumOver (total bs) us
   size-all = omega (arith, total-at bs (g .show .good) k 0 [], ownOf-at bs k)
@@ -325,3 +336,22 @@ module _ (q : Ask) (xs t : List ℕ) (g : Ground xs t) (k base c a e : ℕ) (pag
             rw (d, wanted-append q (number (spot (blocksOf xs) k base met) c) (links (blocksOf xs) k base met) base (ownOf (blocksOf xs) k) (b - (base + ownOf (blocksOf xs) k)))
             (gives-append (q .room) first v _ _ page after w f (own .gives met sound) (go .walked .gives met sound));
       }
+
+-- After all uses the copy is walked.
+pub uses-walked : (q : Ask) (xs t : List ℕ) (g : Ground xs t) (k base c a e : ℕ) (page : List ℕ) (w : ℕ) (known : k < length (blocksOf xs))
+    → a ≡ getD t (4 * k + 1) 0 → e ≡ getD t (4 * k + 2) 0 → (r b f : ℕ) (after : List ℕ) → a ≤ e → r ≤ e → e ≤ r
+    → Going q xs k base c a page w r b after f → UsesWalked q (blocksOf xs) k base c page w after f
+uses-walked q xs t g k base c a e page w known y₁ y₂ r b f after x y z go =
+    record {
+      long = go .walked .long;
+      bound = go .walked .bound;
+      whole = λ first v own. going-end q xs t g k base c a e page w known y₁ y₂ r b f v after first x y z own go;
+    }
+
+-- A copy of a block without uses has no cues but its own.
+pub leaf-walked : (q : Ask) (xs t : List ℕ) (g : Ground xs t) (k base c a e : ℕ) (page : List ℕ) (w : ℕ) (after : List ℕ) (f : ℕ) → k < length (blocksOf xs)
+    → a ≡ getD t (4 * k + 1) 0 → e ≡ getD t (4 * k + 2) 0 → a ≡ e → Walked q (blocksOf xs) k base c base page w (ownOf (blocksOf xs) k) after f
+    → Walked q (blocksOf xs) k base c base page w (total (blocksOf xs) k) after f
+leaf-walked q xs t g k base c a e page w after f known y₁ y₂ same walked =
+    going-end q xs t g k base c a e after f known y₁ y₂ a (base + ownOf (blocksOf xs) k) f w after page (omega arith) (omega arith) (omega arith) walked
+    (going-begin q xs t g k base c a e after f known y₁ y₂ (ownOf (blocksOf xs) k) refl (walked .bound))

@@ -15,14 +15,15 @@ use Rattle.rules.specs.Index.{useAt}
 use Rattle.links.specs.declared.Ask.{Ask}
 use Rattle.links.specs.Picks.{wanted}
 use Rattle.links.specs.Pages.{Gives}
+use Rattle.links.specs.Ground.{ownBit}
 
 -- A cue that is marked and high enough, and the own cues of a copy that are.
 unfoldable pub stepList : Ask → ℕ → ℕ → List ℕ
 stepList q flag u = ifEq flag 1 (ifLt (q .after) u (u ∷ []) []) []
 
-unfoldable pub ownList : Ask → List ℕ → ℕ → ℕ → List ℕ
-ownList q s base zero = []
-ownList q s base (suc d) = ownList q s base d ++ stepList q (getD s (suc d) 0) (base + suc d)
+unfoldable pub ownList : Ask → List ℕ → ℕ → ℕ → ℕ → List ℕ
+ownList q s at base zero = []
+ownList q s at base (suc d) = ownList q s at base d ++ stepList q (ownBit s at (suc d)) (base + suc d)
 
 -- The cues asked for that cue c of the copy of block k is linked to, among the size numbers behind place.
 abbrev pub copyList : Ask → List Block → ℕ → ℕ → List ℕ → ℕ → ℕ → ℕ → List ℕ
@@ -51,6 +52,12 @@ pub record Walked (q : Ask) (bs : List Block) (k base c place : ℕ) (page : Lis
   pub bound : g ≤ q .room + 1
   pub gives : (met : List ℕ) → Sound (spot bs k base met) → Gives (q .room) page w (copyList q bs k base met c place size) after g
 
+-- After the walk of its uses: where its own cues were walked before, it is walked as a whole.
+pub record UsesWalked (q : Ask) (bs : List Block) (k base c : ℕ) (page : List ℕ) (w : ℕ) (after : List ℕ) (g : ℕ) : Type 0 where
+  pub long : length after ≡ length page
+  pub bound : g ≤ q .room + 1
+  pub whole : (first : List ℕ) (v : ℕ) → Walked q bs k base c base first v (ownOf bs k) page w → Walked q bs k base c base first v (total bs k) after g
+
 -- After the copy of the use of row r, which begins after place, in a copy of block k.
 pub record Entered (q : Ask) (xs : List ℕ) (k r place c : ℕ) (page : List ℕ) (w : ℕ) (after : List ℕ) (g : ℕ) : Type 0 where
   pub long : length after ≡ length page
@@ -59,13 +66,11 @@ pub record Entered (q : Ask) (xs : List ℕ) (k r place c : ℕ) (page : List �
       → Part (spot (blocksOf xs) k base met) (record { of = useAt xs (blocksOf xs) r; base = place })
       → Gives (q .room) page w (copyList q (blocksOf xs) k base met c place (total (blocksOf xs) (cell xs r 2))) after g
 
--- The cue d of the used block from which the walk goes on in the copy of the use of row r: 0 where there is nothing to give.
-pub record Door (q : Ask) (xs : List ℕ) (k r place c w d : ℕ) : Type 0 where
-  pub shut : d ≡ 0 → (page : List ℕ) → Entered q xs k r place c page w page w
-  pub at : ℕ
-  pub within : (d ≡ 0 → ⊥) → at < joinsOf (blocksOf xs) (cell xs r 2)
-  pub cue : (d ≡ 0 → ⊥) → d ≡ ownOf (blocksOf xs) (cell xs r 2) + 1 + at
-  pub meets : (d ≡ 0 → ⊥) → cell xs r (3 + at) ≡ c
+-- The join i of the used block from which the walk goes on in the copy of the use of row r: 8 where there is nothing to give.
+pub record Door (q : Ask) (xs : List ℕ) (k r place c w i : ℕ) : Type 0 where
+  pub shut : i ≡ 8 → (page : List ℕ) → Entered q xs k r place c page w page w
+  pub within : (i ≡ 8 → ⊥) → i < joinsOf (blocksOf xs) (cell xs r 2)
+  pub meets : (i ≡ 8 → ⊥) → cell xs r (3 + i) ≡ c
 
 -- Where the walk of the uses of a copy has come to: those before row r are done, and the copy of row r begins after b.
 pub record Going (q : Ask) (xs : List ℕ) (k base c a : ℕ) (page : List ℕ) (w r b : ℕ) (after : List ℕ) (g : ℕ) : Type 0 where

@@ -3,7 +3,7 @@ ghost use mathlib.Core.Path.{_≡_};
 ghost use mathlib.Core.Logic.{_≢_};
 ghost use mathlib.Core.List.{List, [], _∷_};
 ghost use Prim.Native.Nat.{ℕ, _+_, _*_, _-_, _≤_, _<_, _/_, min};
-ghost use lib.ListN.{length, getD, take, set};
+ghost use lib.ListN.{length, getD, take, set, replicate};
 ghost use Rattle.model.specs.Rows.{cell};
 ghost use Rattle.model.specs.Unfolding.{cueAt};
 ghost use Rattle.model.specs.Blocks.{blockAt, joinsOf, ownOf, sumOver, total, blocksOf};
@@ -11,13 +11,46 @@ ghost use Rattle.model.specs.Verdicts.{verdict};
 ghost use Rattle.model.specs.declared.Verdict.the-variants.{Accepted};
 ghost use Rattle.rules.specs.Index.{Indexed, linksFrom, linkAt, useAt};
 ghost use Rattle.links.specs.Picks.{nearEnd, fits, IsLink, Picked};
-ghost use Rattle.links.specs.Near.{ByUse, ByUses, IsColumn, ByRow, Marks, Unless, NoMark, Quiet, QuietAll, Inner, Copied, JoinDone, TableTo};
+ghost use Rattle.links.specs.Near.{IsColumn, ByRow, Known, Copied, Settled, Table, Ready, RecordMade, UseStep, UsesStep, MarksStep};
 ghost use Rattle.links.specs.Pages.{Gives};
-ghost use Rattle.links.specs.Walks.{stepList, ownList, May, MayDoor, Walked, Entered, Door};
+ghost use Rattle.links.specs.Walks.{stepList, ownList, May, MayDoor, Walked, UsesWalked, Entered, Door};
 ghost use Rattle.links.specs.Joins.{lesser, Next, JoinsDone};
 ghost use Rattle.links.specs.Stands.{Standing, MayStep, Stepped, ColumnsFit, MeetIs, Trail};
 ghost use Rattle.links.specs.Answer.{cueOf, linkedCues, IsListed, MayAnswer, Answered};
-ghost use Rattle.links.specs.Ground.{Ground, UseRow, Coarse, IsCue, Added, PlaceIs};
+ghost use Rattle.links.specs.Ground.{Ground, UseRow, UseIn, HasRecord, HasBlock, bitAt, setBit, IsCue, Added, PlaceIs};
+
+// The values of a row.
+const ROW: usize = 11;
+
+// The first value of a row that names a cue.
+const COLUMNS: usize = 3;
+
+// The numbers of a block in the index, and of all blocks.
+const ENTRY: usize = 4;
+
+const INDEX: usize = 512;
+
+// The most joins of a block.
+const JOINS: usize = 8;
+
+// A record of marks: a flag for each join, then one for what is inside, then 32 bytes with a bit for each own cue.
+const INSIDE: usize = 8;
+
+const BITS: usize = 9;
+
+const RECORD: usize = 41;
+
+// The records of a block's joins in a table; a table of all 128 blocks, and a short one of the blocks below LOW.
+const BLOCK: usize = 328;
+
+const TABLE: usize = 41984;
+
+const LOW: usize = 32;
+
+const LOW_TABLE: usize = 10496;
+
+// The most cues of a show.
+const CUES: usize = 2147483647;
 
 // What is asked for: the cues that links with labels lo to hi lead to from the cue, or inward from which they lead to it, that are greater
 // than after; and how many of them may be written.
@@ -39,7 +72,7 @@ pub struct Listed {
 pub struct Stand {
     pub block: usize,
     pub base: u32,
-    pub met: [u32; 8],
+    pub met: [u32; JOINS],
 }
 
 // A number as an index.
@@ -54,7 +87,7 @@ fn value(xs: &[u32], r: usize, c: usize) -> u32
     requires { ⌜ (r < 4294967296) × (c < 11) ⌝ }
     ensures { λ v. ⌜ v ≡ cell (now (xs .entry)) r c ⌝ }
 {
-    let i = r * 11 + c;
+    let i = r * ROW + c;
     if i < xs.len() {
         return xs[i];
     }
@@ -62,22 +95,22 @@ fn value(xs: &[u32], r: usize, c: usize) -> u32
 }
 
 // Number c of block k in the index.
-fn entry(t: &[u32; 512], k: usize, c: usize) -> usize
+fn entry(t: &[u32; INDEX], k: usize, c: usize) -> usize
     requires { ⌜ (k < 128) × (c < 4) ⌝ }
     ensures { λ v. ⌜ (v ≡ getD (now (t .entry)) (4 * k + c) 0) × (v < 4294967296) ⌝ }
 {
-    wide(t[4 * k + c])
+    wide(t[ENTRY * k + c])
 }
 
 // How many joins, and how many own cues, block k has.
-fn joins_of(xs: &[u32], t: &[u32; 512], k: usize) -> usize
+fn joins_of(xs: &[u32], t: &[u32; INDEX], k: usize) -> usize
     requires { ⌜ Ground (now xs) (now t) × (k < length (blocksOf (now xs))) ⌝ }
     ensures { λ v. ⌜ (v ≡ joinsOf (blocksOf (now (xs .entry))) k) × (v ≤ 8) ⌝ }
 {
     wide(value(xs, entry(t, k, 0), 2))
 }
 
-fn own_of(xs: &[u32], t: &[u32; 512], k: usize) -> u32
+fn own_of(xs: &[u32], t: &[u32; INDEX], k: usize) -> u32
     requires { ⌜ Ground (now xs) (now t) × (k < length (blocksOf (now xs))) ⌝ }
     ensures { λ v. ⌜ (v ≡ ownOf (blocksOf (now (xs .entry))) k) × (v ≤ 255) ⌝ }
 {
@@ -104,40 +137,63 @@ fn near_end(q: Ask, from: u32, to: u32) -> u32
     if q.inward { to } else { from }
 }
 
-// Marks cue d of a block. Flags 0 to 263 are for cues; behind them stands one for each group of eight that has a mark.
-fn mark(s: &mut [u8; 297], d: u32)
-    requires { ⌜ length (now s) ≡ 297 ⌝ }
-    ensures { λ _. ⌜ Added (IsCue d) (now (s .entry)) (now (s .exit)) ⌝ }
+// Bit n of a byte, and the byte with that bit set.
+fn bit(b: u8, n: usize) -> u8
+    requires { ⌜ n < 8 ⌝ }
+    ensures { λ r. ⌜ r ≡ bitAt b n ⌝ }
 {
-    let i = wide(d);
-    if i < 264 {
-        s[i] = 1;
-        s[264 + i / 8] = 1;
+    (b >> n) % 2
+}
+
+fn with_bit(b: u8, n: usize) -> u8
+    requires { ⌜ n < 8 ⌝ }
+    ensures { λ r. ⌜ r ≡ setBit b n ⌝ }
+{
+    b | (1 << n)
+}
+
+// Marks cue d of a block with own own cues in a record. A marked own cue also sets the flag for what is inside.
+fn mark(s: &mut [u8; RECORD], own: u32, d: u32)
+    requires { ⌜ (length (now s) ≡ 41) × (own ≤ 255) ⌝ }
+    ensures { λ _. ⌜ Added own (IsCue d) (now (s .entry)) (now (s .exit)) ⌝ }
+{
+    if own < d {
+        let j = wide(d - own - 1);
+        if j < JOINS {
+            s[j] = 1;
+        }
+        return;
+    }
+    if 0 < d {
+        let i = wide(d - 1);
+        let b = s[BITS + i / 8];
+        s[BITS + i / 8] = with_bit(b, i % 8);
+        s[INSIDE] = 1;
     }
 }
 
 // Marks the other end of the link of row r if the question picks it and it has one end at cue c; and so for rows a to e.
-fn mark_link(xs: &[u32], q: Ask, r: usize, c: u32, s: &mut [u8; 297])
-    requires { ⌜ (r < 4294967296) × (length (now s) ≡ 297) ⌝ }
-    ensures { λ _. ⌜ Added (IsLink q (linkAt (now (xs .entry)) r) c) (now (s .entry)) (now (s .exit)) ⌝ }
+fn mark_link(xs: &[u32], q: Ask, r: usize, own: u32, c: u32, s: &mut [u8; RECORD])
+    requires { ⌜ (r < 4294967296) × (length (now s) ≡ 41) × (own ≤ 255) ⌝ }
+    ensures { λ _. ⌜ Added own (IsLink q (linkAt (now (xs .entry)) r) c) (now (s .entry)) (now (s .exit)) ⌝ }
 {
     let label = value(xs, r, 2);
     if fits_label(q, label) {
         let from = value(xs, r, 3);
         let to = value(xs, r, 4);
         if near_end(q, from, to) == c {
-            mark(s, near_end(q, to, from));
+            mark(s, own, near_end(q, to, from));
         }
     }
 }
 
-fn mark_links(xs: &[u32], q: Ask, a: usize, e: usize, c: u32, s: &mut [u8; 297])
-    requires { ⌜ (e < 4294967296) × (a ≤ e) × (length (now s) ≡ 297) ⌝ }
-    ensures { λ _. ⌜ Added (Picked q (linksFrom (now (xs .entry)) a (e - a)) c) (now (s .entry)) (now (s .exit)) ⌝ }
+fn mark_links(xs: &[u32], q: Ask, a: usize, e: usize, own: u32, c: u32, s: &mut [u8; RECORD])
+    requires { ⌜ (e < 4294967296) × (a ≤ e) × (length (now s) ≡ 41) × (own ≤ 255) ⌝ }
+    ensures { λ _. ⌜ Added own (Picked q (linksFrom (now (xs .entry)) a (e - a)) c) (now (s .entry)) (now (s .exit)) ⌝ }
 {
     let mut r = a;
     while r < e {
-        mark_link(xs, q, r, c, s);
+        mark_link(xs, q, r, own, c, s);
         r += 1;
     }
 }
@@ -149,7 +205,7 @@ fn place(xs: &[u32], r: usize, joins: usize, c: u32) -> usize
 {
     let mut i = 0;
     while i < joins {
-        let x = value(xs, r, 3 + i);
+        let x = value(xs, r, COLUMNS + i);
         if x == c {
             return i;
         }
@@ -159,191 +215,140 @@ fn place(xs: &[u32], r: usize, joins: usize, c: u32) -> usize
 }
 
 // Marks the cue in a column of a use whose flag is set.
-fn mark_column(xs: &[u32], r: usize, j: usize, flag: u8, s: &mut [u8; 297])
-    requires { ⌜ (r < 4294967296) × (j < 8) × (length (now s) ≡ 297) ⌝ }
-    ensures { λ _. ⌜ Added (IsColumn (now (xs .entry)) r j flag) (now (s .entry)) (now (s .exit)) ⌝ }
+fn mark_column(xs: &[u32], r: usize, j: usize, flag: u8, own: u32, s: &mut [u8; RECORD])
+    requires { ⌜ (r < 4294967296) × (j < 8) × (length (now s) ≡ 41) × (own ≤ 255) ⌝ }
+    ensures { λ _. ⌜ Added own (IsColumn (now (xs .entry)) r j flag) (now (s .entry)) (now (s .exit)) ⌝ }
 {
     if flag == 1 {
-        let d = value(xs, r, 3 + j);
-        mark(s, d);
+        let d = value(xs, r, COLUMNS + j);
+        mark(s, own, d);
     }
 }
 
 // Marks the cues that a use meets at joins linked to one of its joins, whose flags stand in the table from at on.
-fn mark_row(xs: &[u32], m: &[u8; 9216], r: usize, at: usize, joins: usize, s: &mut [u8; 297])
-    requires { ⌜ (r < 4294967296) × (joins ≤ 8) × (at + 8 ≤ 9216) × (length (now s) ≡ 297) ⌝ }
-    ensures { λ _. ⌜ Added (ByRow (now (xs .entry)) (now (m .entry)) r at joins) (now (s .entry)) (now (s .exit)) ⌝ }
+fn mark_row(xs: &[u32], m: &[u8], r: usize, at: usize, joins: usize, own: u32, s: &mut [u8; RECORD])
+    requires { ⌜ (r < 4294967296) × (joins ≤ 8) × (at + 8 ≤ length (now m)) × (at < 65536) × (length (now s) ≡ 41) × (own ≤ 255) ⌝ }
+    ensures { λ _. ⌜ Added own (ByRow (now (xs .entry)) (now (m .entry)) r at joins) (now (s .entry)) (now (s .exit)) ⌝ }
 {
     let mut j = 0;
     while j < joins {
         let flag = m[at + j];
-        mark_column(xs, r, j, flag, s);
+        mark_column(xs, r, j, flag, own, s);
         j += 1;
     }
 }
 
-// Marks the cues that are linked to cue c inside the copy of the use of row r; and so for all uses of block k.
-fn mark_use(
-    xs: &[u32],
-    t: &[u32; 512],
-    m: &[u8; 9216],
-    k: usize,
-    r: usize,
-    c: u32,
-    s: &mut [u8; 297],
-)
-    requires { ⌜ Ground (now xs) (now t) × UseRow (now xs) k r × (length (now s) ≡ 297) ⌝ }
-    ensures { λ _. ⌜ Added (ByUse (now (m .entry)) (useAt (now (xs .entry)) (blocksOf (now (xs .entry))) r) c) (now (s .entry)) (now (s .exit)) ⌝ }
-{
-    let j = wide(value(xs, r, 2));
-    let joins = joins_of(xs, t, j);
-    let i = place(xs, r, joins, c);
-    if i < joins {
-        mark_row(xs, m, r, 72 * j + 9 * i, joins, s);
-    }
-}
-
-fn mark_uses(xs: &[u32], t: &[u32; 512], m: &[u8; 9216], k: usize, c: u32, s: &mut [u8; 297])
-    requires { ⌜ Ground (now xs) (now t) × (k < length (blocksOf (now xs))) × (length (now s) ≡ 297) ⌝ }
-    ensures { λ _. ⌜ Added (ByUses (now (m .entry)) (blockAt (blocksOf (now (xs .entry))) k .uses) c) (now (s .entry)) (now (s .exit)) ⌝ }
-{
-    let a = entry(t, k, 1);
-    let e = entry(t, k, 2);
-    let mut r = a;
-    while r < e {
-        mark_use(xs, t, m, k, r, c, s);
-        r += 1;
-    }
-}
-
-// Marks the cues of block k that are linked to its cue c.
-fn marks_of(xs: &[u32], t: &[u32; 512], q: Ask, m: &[u8; 9216], k: usize, c: u32) -> [u8; 297]
-    requires { ⌜ Ground (now xs) (now t) × (k < length (blocksOf (now xs))) ⌝ }
-    ensures { λ s. ⌜ Marks q (now (m .entry)) (blockAt (blocksOf (now (xs .entry))) k) c s ⌝ }
-{
-    let mut s: [u8; 297] = [0; 297];
-    let f = entry(t, k, 0);
-    let a = entry(t, k, 1);
-    mark_links(xs, q, f + 1, a, c, &mut s);
-    mark_uses(xs, t, m, k, c, &mut s);
-    s
-}
-
-// Some own cue is marked.
-fn any_own(s: &[u8; 297], own: usize) -> bool
-    requires { ⌜ own ≤ 255 ⌝ }
-    ensures { λ r. ⌜ Unless r (NoMark (now (s .entry)) own) ⌝ }
-{
-    let mut d = 1;
-    while d <= own {
-        if s[d] == 1 {
-            return true;
-        }
-        d += 1;
-    }
-    false
-}
-
-// The use of a row meets cue c, and has a cue inside that is linked to it.
-fn reaches(xs: &[u32], t: &[u32; 512], m: &[u8; 9216], k: usize, r: usize, c: u32) -> bool
-    requires { ⌜ Ground (now xs) (now t) × UseRow (now xs) k r ⌝ }
-    ensures { λ b. ⌜ Unless b (Quiet (now (m .entry)) c (useAt (now (xs .entry)) (blocksOf (now (xs .entry))) r)) ⌝ }
-{
-    let j = wide(value(xs, r, 2));
-    let joins = joins_of(xs, t, j);
-    let i = place(xs, r, joins, c);
-    if i < joins {
-        let flag = m[72 * j + 9 * i + 8];
-        if flag == 1 {
-            return true;
-        }
-    }
-    false
-}
-
-// So does some use of block k.
-fn any_use(xs: &[u32], t: &[u32; 512], m: &[u8; 9216], k: usize, c: u32) -> bool
-    requires { ⌜ Ground (now xs) (now t) × (k < length (blocksOf (now xs))) ⌝ }
-    ensures { λ b. ⌜ Unless b (QuietAll (now (m .entry)) c (blockAt (blocksOf (now (xs .entry))) k .uses)) ⌝ }
-{
-    let a = entry(t, k, 1);
-    let e = entry(t, k, 2);
-    let mut r = a;
-    while r < e {
-        if reaches(xs, t, m, k, r, c) {
-            return true;
-        }
-        r += 1;
-    }
-    false
-}
-
-// 1 if cue c of block k is linked to a cue numbered inside.
-fn inner(xs: &[u32], t: &[u32; 512], m: &[u8; 9216], k: usize, c: u32, s: &[u8; 297]) -> u8
-    requires { ⌜ Ground (now xs) (now t) × (k < length (blocksOf (now xs))) ⌝ }
-    ensures { λ x. ⌜ Inner (now (m .entry)) (blockAt (blocksOf (now (xs .entry))) k) c (now (s .entry)) x ⌝ }
-{
-    let own = wide(own_of(xs, t, k));
-    if any_own(s, own) {
-        return 1;
-    }
-    if any_use(xs, t, m, k, c) {
-        return 1;
-    }
-    0
-}
-
-// Copies the marks of joins into the table.
-fn copy_joins(s: &[u8; 297], from: usize, joins: usize, m: &mut [u8; 9216], at: usize)
-    requires { ⌜ (joins ≤ 8) × (from + 8 ≤ 264) × (at + 8 ≤ 9216) × (length (now m) ≡ 9216) ⌝ }
-    ensures { λ _. ⌜ Copied (now (s .entry)) from joins at (now (m .entry)) (now (m .exit)) ⌝ }
+// Copies a record of marks into the table.
+fn copy_record(s: &[u8; RECORD], m: &mut [u8], at: usize)
+    requires { ⌜ HasRecord (now m) at × (length (now s) ≡ 41) ⌝ }
+    ensures { λ _. ⌜ Copied (now (s .entry)) 41 at (now (m .entry)) (now (m .exit)) ⌝ }
 {
     let mut j = 0;
-    while j < joins {
-        let x = s[from + j];
+    while j < RECORD {
+        let x = s[j];
         m[at + j] = x;
         j += 1;
     }
 }
 
-// Fills the table for join i of block k.
-fn fill_join(xs: &[u32], t: &[u32; 512], q: Ask, m: &mut [u8; 9216], k: usize, i: usize)
-    requires { ⌜ Ground (now xs) (now t) × (k < length (blocksOf (now xs))) × (i < joinsOf (blocksOf (now xs)) k) × TableTo q (blocksOf (now xs)) (now m) k ⌝ }
-    ensures { λ _. ⌜ JoinDone q (blocksOf (now (xs .entry))) k i (now (m .entry)) (now (m .exit)) ⌝ }
+// The flag for what is inside, of a record that is made: 1 if something was marked there, and 2 if nothing was. 0 says that there is no
+// record yet.
+fn settled(flag: u8) -> u8
+    ensures { λ r. ⌜ Settled flag r ⌝ }
 {
-    let joins = joins_of(xs, t, k);
+    if flag == 1 {
+        return 1;
+    }
+    2
+}
+
+// Marks the cues that are linked to cue c inside the copy of the use of row r; and so for all uses of block k.
+fn mark_use(
+    xs: &[u32],
+    t: &[u32; INDEX],
+    q: Ask,
+    m: &mut [u8],
+    k: usize,
+    r: usize,
+    own: u32,
+    c: u32,
+    s: &mut [u8; RECORD],
+)
+    requires { ⌜ Ground (now xs) (now t) × UseRow (now xs) k r × HasBlock (now m) k × (length (now s) ≡ 41) × (own ≤ 255) × Table q (blocksOf (now xs)) (now m) ⌝ }
+    ensures { λ _. ⌜ UseStep q (blocksOf (now (xs .entry))) own c (useAt (now (xs .entry)) (blocksOf (now (xs .entry))) r) (now (m .entry)) (now (s .entry)) (now (m .exit)) (now (s .exit)) ⌝ }
+{
+    let j = wide(value(xs, r, 2));
+    let joins = joins_of(xs, t, j);
+    let i = place(xs, r, joins, c);
+    if i < joins {
+        let at = BLOCK * j + RECORD * i;
+        ready(xs, t, q, m, j, i);
+        mark_row(xs, m, r, at, joins, own, s);
+        let flag = m[at + INSIDE];
+        if flag == 1 {
+            s[INSIDE] = 1;
+        }
+    }
+}
+
+fn mark_uses(
+    xs: &[u32],
+    t: &[u32; INDEX],
+    q: Ask,
+    m: &mut [u8],
+    k: usize,
+    own: u32,
+    c: u32,
+    s: &mut [u8; RECORD],
+)
+    requires { ⌜ Ground (now xs) (now t) × (k < length (blocksOf (now xs))) × HasBlock (now m) k × (length (now s) ≡ 41) × (own ≤ 255) × Table q (blocksOf (now xs)) (now m) ⌝ }
+    ensures { λ _. ⌜ UsesStep q (blocksOf (now (xs .entry))) own c (blockAt (blocksOf (now (xs .entry))) k .uses) (now (m .entry)) (now (s .entry)) (now (m .exit)) (now (s .exit)) ⌝ }
+{
+    let a = entry(t, k, 1);
+    let e = entry(t, k, 2);
+    let mut r = a;
+    while r < e {
+        mark_use(xs, t, q, m, k, r, own, c, s);
+        r += 1;
+    }
+}
+
+// Marks the cues of block k that are linked to its cue c in a record without marks.
+fn marks_of(
+    xs: &[u32],
+    t: &[u32; INDEX],
+    q: Ask,
+    m: &mut [u8],
+    k: usize,
+    c: u32,
+    s: &mut [u8; RECORD],
+)
+    requires { ⌜ Ground (now xs) (now t) × (k < length (blocksOf (now xs))) × HasBlock (now m) k × Table q (blocksOf (now xs)) (now m) × (now s ≡ replicate 41 0) ⌝ }
+    ensures { λ _. ⌜ MarksStep q (blocksOf (now (xs .entry))) k c (now (m .entry)) (now (m .exit)) (now (s .exit)) ⌝ }
+{
+    let f = entry(t, k, 0);
+    let a = entry(t, k, 1);
+    let own = own_of(xs, t, k);
+    mark_links(xs, q, f + 1, a, own, c, s);
+    mark_uses(xs, t, q, m, k, own, c, s);
+}
+
+// Makes the record of join i of block k, if it is not there yet.
+fn ready(xs: &[u32], t: &[u32; INDEX], q: Ask, m: &mut [u8], k: usize, i: usize)
+    requires { ⌜ Ground (now xs) (now t) × (k < length (blocksOf (now xs))) × HasBlock (now m) k × (i < joinsOf (blocksOf (now xs)) k) × (i < 8) × Table q (blocksOf (now xs)) (now m) ⌝ }
+    ensures { λ _. ⌜ RecordMade q (blocksOf (now (xs .entry))) k i (now (m .entry)) (now (m .exit)) ⌝ }
+{
+    let at = BLOCK * k + RECORD * i;
+    let known = m[at + INSIDE];
+    if 0 < known {
+        return;
+    }
     let own = own_of(xs, t, k);
     let c = own + 1 + (i as u32);
-    let s = marks_of(xs, t, q, m, k, c);
-    let x = inner(xs, t, m, k, c, &s);
-    let from = wide(own) + 1;
-    copy_joins(&s, from, joins, m, 72 * k + 9 * i);
-    m[72 * k + 9 * i + 8] = x;
-}
-
-// Fills the table for block k.
-fn fill_block(xs: &[u32], t: &[u32; 512], q: Ask, m: &mut [u8; 9216], k: usize)
-    requires { ⌜ Ground (now xs) (now t) × (k < length (blocksOf (now xs))) × TableTo q (blocksOf (now xs)) (now m) k ⌝ }
-    ensures { λ _. ⌜ TableTo q (blocksOf (now (xs .entry))) (now (m .exit)) (k + 1) ⌝ }
-{
-    let joins = joins_of(xs, t, k);
-    let mut i = 0;
-    while i < joins {
-        fill_join(xs, t, q, m, k, i);
-        i += 1;
-    }
-}
-
-// Fills the table for the blocks below k.
-fn fill(xs: &[u32], t: &[u32; 512], q: Ask, m: &mut [u8; 9216], k: usize)
-    requires { ⌜ Ground (now xs) (now t) × (k < length (blocksOf (now xs))) × (length (now m) ≡ 9216) ⌝ }
-    ensures { λ _. ⌜ TableTo q (blocksOf (now (xs .entry))) (now (m .exit)) k ⌝ }
-{
-    let mut j = 0;
-    while j < k {
-        fill_block(xs, t, q, m, j);
-        j += 1;
-    }
+    let mut s: [u8; RECORD] = [0; RECORD];
+    marks_of(xs, t, q, m, k, c, &mut s);
+    copy_record(&s, m, at);
+    m[at + INSIDE] = settled(s[INSIDE]);
 }
 
 // One cue more for the page.
@@ -372,119 +377,120 @@ fn give_if(q: Ask, page: &mut [u32], w: usize, flag: u8, u: u32) -> usize
     w
 }
 
-// The first cue behind the group of eight that cue d is in, among own own cues.
-fn next_group(d: usize, own: usize) -> usize
-    requires { ⌜ (d ≤ own) × (own ≤ 255) ⌝ }
-    ensures { λ r. ⌜ (d < r) × (r ≤ own + 1) × (r ≤ 8 * (d / 8) + 8) ⌝ }
+// The first cue behind the byte that has the bit of cue d, among own own cues.
+fn next_byte(d: usize, own: usize) -> usize
+    requires { ⌜ (1 ≤ d) × (d ≤ own) × (own ≤ 255) ⌝ }
+    ensures { λ r. ⌜ (d < r) × (r ≤ own + 1) × (r ≤ 8 * ((d - 1) / 8) + 9) ⌝ }
 {
-    let e = 8 * (d / 8) + 8;
+    let e = 8 * ((d - 1) / 8) + 9;
     if own < e {
         return own + 1;
     }
     e
 }
 
-// The same for the own cues of a copy, by groups.
-fn give_own(q: Ask, s: &[u8; 297], own: usize, base: u32, page: &mut [u32], w: usize) -> usize
-    requires { ⌜ Coarse (now s) × (own ≤ 255) × (base + own ≤ 2147483647) × (q .room ≤ length (now page)) × (q .room ≤ 2147483647) × (w ≤ q .room + 1) ⌝ }
-    ensures { λ g. ⌜ Gives (q .room) (now (page .entry)) w (ownList q (now (s .entry)) base own) (now (page .exit)) g ⌝ }
+// The same for the own cues of a copy whose bits are set in the record at a place.
+fn give_own(q: Ask, s: &[u8], at: usize, own: usize, base: u32, page: &mut [u32], w: usize) -> usize
+    requires { ⌜ HasRecord (now s) at × (own ≤ 255) × (base + own ≤ 2147483647) × (q .room ≤ length (now page)) × (q .room ≤ 2147483647) × (w ≤ q .room + 1) ⌝ }
+    ensures { λ g. ⌜ Gives (q .room) (now (page .entry)) w (ownList q (now (s .entry)) (at + 9) base own) (now (page .exit)) g ⌝ }
 {
     let mut d = 1;
     let mut g = w;
     while d <= own {
-        if s[264 + d / 8] == 1 {
-            let flag = s[d];
-            g = give_if(q, page, g, flag, base + (d as u32));
-            d += 1;
+        let i = d - 1;
+        let b = s[at + BITS + i / 8];
+        if b == 0 {
+            d = next_byte(d, own);
             continue;
         }
-        d = next_group(d, own);
+        let flag = bit(b, i % 8);
+        g = give_if(q, page, g, flag, base + (d as u32));
+        d += 1;
     }
     g
 }
 
 // The total of the block that the use of row r names.
-fn size_of(xs: &[u32], t: &[u32; 512], k: usize, r: usize) -> u32
+fn size_of(xs: &[u32], t: &[u32; INDEX], k: usize, r: usize) -> u32
     requires { ⌜ Ground (now xs) (now t) × UseRow (now xs) k r ⌝ }
     ensures { λ n. ⌜ n ≡ total (blocksOf (now (xs .entry))) (cell (now (xs .entry)) r 2) ⌝ }
 {
     let j = wide(value(xs, r, 2));
-    t[4 * j + 3]
+    t[ENTRY * j + 3]
 }
 
-// Gives the page the own cues of the copy of block k after base that its cue c is linked to.
+// Gives the page the own cues of the copy of block k after base that its cue c, whose record stands at a place, is linked to.
 fn give_block(
     xs: &[u32],
-    t: &[u32; 512],
+    t: &[u32; INDEX],
     q: Ask,
-    m: &[u8; 9216],
+    m: &[u8],
     k: usize,
+    at: usize,
     base: u32,
     c: u32,
     page: &mut [u32],
     w: usize,
 ) -> usize
-    requires { ⌜ Ground (now xs) (now t) × TableTo q (blocksOf (now xs)) (now m) k × May q (blocksOf (now xs)) k base c (now page) w ⌝ }
+    requires { ⌜ Ground (now xs) (now t) × Known q (blocksOf (now xs)) (now m) at k c × HasRecord (now m) at × May q (blocksOf (now xs)) k base c (now page) w ⌝ }
     ensures { λ g. ⌜ Walked q (blocksOf (now (xs .entry))) k base c base (now (page .entry)) w (ownOf (blocksOf (now (xs .entry))) k) (now (page .exit)) g ⌝ }
 {
     let own = own_of(xs, t, k);
-    let s = marks_of(xs, t, q, m, k, c);
-    give_own(q, &s, wide(own), base, page, w)
+    give_own(q, m, at, wide(own), base, page, w)
 }
 
-// The cue of the used block from which the walk goes on in the copy of the use of row r, which begins after base, or 0.
+// The join of the used block from which the walk goes on in the copy of the use of row r, which begins after base, or 8.
 fn door(
     xs: &[u32],
-    t: &[u32; 512],
+    t: &[u32; INDEX],
     q: Ask,
-    m: &[u8; 9216],
+    m: &[u8],
     k: usize,
     r: usize,
     base: u32,
     c: u32,
     w: usize,
-) -> u32
-    requires { ⌜ Ground (now xs) (now t) × UseRow (now xs) k r × TableTo q (blocksOf (now xs)) (now m) k × MayDoor q (now xs) k r base c w ⌝ }
-    ensures { λ d. ⌜ Door q (now (xs .entry)) k r base c w d ⌝ }
+) -> usize
+    requires { ⌜ Ground (now xs) (now t) × UseRow (now xs) k r × HasBlock (now m) k × Ready q (blocksOf (now xs)) (now m) k c × MayDoor q (now xs) k r base c w ⌝ }
+    ensures { λ i. ⌜ Door q (now (xs .entry)) k r base c w i ⌝ }
 {
     let room = q.room;
     if room < w {
-        return 0;
+        return JOINS;
     }
     let size = size_of(xs, t, k, r);
     if base + size <= q.after {
-        return 0;
+        return JOINS;
     }
     let j = wide(value(xs, r, 2));
     let joins = joins_of(xs, t, j);
     let i = place(xs, r, joins, c);
     if joins <= i {
-        return 0;
+        return JOINS;
     }
-    let flag = m[72 * j + 9 * i + 8];
+    let flag = m[BLOCK * j + RECORD * i + INSIDE];
     if flag == 1 {
-        return own_of(xs, t, j) + 1 + (i as u32);
+        return i;
     }
-    0
+    JOINS
 }
 
-// Gives the page the cues inside the copy of block k after base that its cue c is linked to: the own ones, then those in the copies of its
-// uses.
+// Gives the page the cues that cue c of the copy of block k after base is linked to in the copies of its uses.
 fn walk(
     xs: &[u32],
-    t: &[u32; 512],
+    t: &[u32; INDEX],
     q: Ask,
-    m: &[u8; 9216],
+    m: &[u8],
     k: usize,
     base: u32,
     c: u32,
     page: &mut [u32],
     w: usize,
 ) -> usize
-    requires { ⌜ Ground (now xs) (now t) × TableTo q (blocksOf (now xs)) (now m) k × May q (blocksOf (now xs)) k base c (now page) w ⌝ }
-    ensures { λ g. ⌜ Walked q (blocksOf (now (xs .entry))) k base c base (now (page .entry)) w (total (blocksOf (now (xs .entry))) k) (now (page .exit)) g ⌝ }
+    requires { ⌜ Ground (now xs) (now t) × Ready q (blocksOf (now xs)) (now m) k c × HasBlock (now m) k × May q (blocksOf (now xs)) k base c (now page) w ⌝ }
+    ensures { λ g. ⌜ UsesWalked q (blocksOf (now (xs .entry))) k base c (now (page .entry)) w (now (page .exit)) g ⌝ }
 {
-    let mut g = give_block(xs, t, q, m, k, base, c, page, w);
+    let mut g = w;
     let a = entry(t, k, 1);
     let e = entry(t, k, 2);
     let mut r = a;
@@ -497,12 +503,12 @@ fn walk(
     g
 }
 
-// The same for the copy of the use of row r of block k, which begins after base.
+// Gives the page the cues inside the copy of the use of row r of block k, which begins after base: the own ones, then those of its uses.
 fn enter(
     xs: &[u32],
-    t: &[u32; 512],
+    t: &[u32; INDEX],
     q: Ask,
-    m: &[u8; 9216],
+    m: &[u8],
     k: usize,
     r: usize,
     base: u32,
@@ -510,15 +516,23 @@ fn enter(
     page: &mut [u32],
     w: usize,
 ) -> usize
-    requires { ⌜ Ground (now xs) (now t) × UseRow (now xs) k r × TableTo q (blocksOf (now xs)) (now m) k × MayDoor q (now xs) k r base c w × (q .room ≤ length (now page)) ⌝ }
+    requires { ⌜ Ground (now xs) (now t) × UseRow (now xs) k r × UseIn (now xs) k r × HasBlock (now m) k × Ready q (blocksOf (now xs)) (now m) k c × MayDoor q (now xs) k r base c w × (q .room ≤ length (now page)) ⌝ }
     ensures { λ g. ⌜ Entered q (now (xs .entry)) k r base c (now (page .entry)) w (now (page .exit)) g ⌝ }
 {
-    let d = door(xs, t, q, m, k, r, base, c, w);
-    if d == 0 {
+    let i = door(xs, t, q, m, k, r, base, c, w);
+    if i == JOINS {
         return w;
     }
     let j = wide(value(xs, r, 2));
-    walk(xs, t, q, m, j, base, d, page, w)
+    let at = BLOCK * j + RECORD * i;
+    let d = own_of(xs, t, j) + 1 + (i as u32);
+    let g = give_block(xs, t, q, m, j, at, base, d, page, w);
+    let a = entry(t, j, 1);
+    let e = entry(t, j, 2);
+    if a == e {
+        return g;
+    }
+    walk(xs, t, q, m, j, base, d, page, g)
 }
 
 // The lesser of x and y, where y counts only if it is marked and above last, and x is 0 for none.
@@ -539,14 +553,14 @@ fn lesser_of(flag: u8, y: u32, last: u32, x: u32) -> u32
 }
 
 // The least cue above last that a marked join meets, and 0 if there is none.
-fn next_join(s: &[u8; 297], from: usize, joins: usize, met: [u32; 8], last: u32) -> u32
-    requires { ⌜ (joins ≤ 8) × (from + 8 ≤ 264) ⌝ }
-    ensures { λ x. ⌜ Next (now (s .entry)) from joins met last x ⌝ }
+fn next_join(s: &[u8; RECORD], joins: usize, met: [u32; JOINS], last: u32) -> u32
+    requires { ⌜ joins ≤ 8 ⌝ }
+    ensures { λ x. ⌜ Next (now (s .entry)) joins met last x ⌝ }
 {
     let mut x = 0;
     let mut j = 0;
     while j < joins {
-        let flag = s[from + j];
+        let flag = s[j];
         let y = met[j];
         x = lesser_of(flag, y, last, x);
         j += 1;
@@ -555,22 +569,15 @@ fn next_join(s: &[u8; 297], from: usize, joins: usize, met: [u32; 8], last: u32)
 }
 
 // Gives the page the cues that the marked joins meet, in rising order.
-fn give_joins(
-    q: Ask,
-    s: &[u8; 297],
-    from: usize,
-    joins: usize,
-    met: [u32; 8],
-    page: &mut [u32],
-) -> usize
-    requires { ⌜ (joins ≤ 8) × (from + 8 ≤ 264) × (q .room ≤ length (now page)) × (q .room ≤ 2147483647) ⌝ }
-    ensures { λ g. ⌜ JoinsDone q (now (s .entry)) from joins met (now (page .entry)) 0 (now (page .exit)) g ⌝ }
+fn give_joins(q: Ask, s: &[u8; RECORD], joins: usize, met: [u32; JOINS], page: &mut [u32]) -> usize
+    requires { ⌜ (joins ≤ 8) × (q .room ≤ length (now page)) × (q .room ≤ 2147483647) ⌝ }
+    ensures { λ g. ⌜ JoinsDone q (now (s .entry)) joins met (now (page .entry)) 0 (now (page .exit)) g ⌝ }
 {
     let mut g = 0;
     let mut last = q.after;
     loop {
         let room = q.room;
-        let x = next_join(s, from, joins, met, last);
+        let x = next_join(s, joins, met, last);
         if x == 0 {
             return g;
         }
@@ -580,7 +587,7 @@ fn give_joins(
 }
 
 // The number of cue c of a copy.
-fn cue_number(own: u32, base: u32, met: [u32; 8], c: u32) -> u32
+fn cue_number(own: u32, base: u32, met: [u32; JOINS], c: u32) -> u32
     requires { ⌜ (c ≤ own + 8) × (base + own ≤ 2147483647) ⌝ }
     ensures { λ v. ⌜ v ≡ cueAt own base met c ⌝ }
 {
@@ -592,14 +599,14 @@ fn cue_number(own: u32, base: u32, met: [u32; 8], c: u32) -> u32
 }
 
 // The cues that the joins of the use of row r meet, in a copy.
-fn meet(xs: &[u32], r: usize, joins: usize, own: u32, base: u32, met: [u32; 8]) -> [u32; 8]
+fn meet(xs: &[u32], r: usize, joins: usize, own: u32, base: u32, met: [u32; JOINS]) -> [u32; JOINS]
     requires { ⌜ (r < 1024) × (joins ≤ 8) × (base + own ≤ 2147483647) × ColumnsFit (now xs) r joins own ⌝ }
     ensures { λ out. ⌜ MeetIs (now (xs .entry)) r joins own base met out ⌝ }
 {
-    let mut out: [u32; 8] = [0; 8];
+    let mut out: [u32; JOINS] = [0; JOINS];
     let mut j = 0;
     while j < joins {
-        let x = value(xs, r, 3 + j);
+        let x = value(xs, r, COLUMNS + j);
         let y = cue_number(own, base, met, x);
         out[j] = y;
         j += 1;
@@ -608,7 +615,7 @@ fn meet(xs: &[u32], r: usize, joins: usize, own: u32, base: u32, met: [u32; 8]) 
 }
 
 // Where the copy of the use of row r begins, in the copy of block k after base.
-fn begins(xs: &[u32], t: &[u32; 512], k: usize, r: usize, base: u32) -> u32
+fn begins(xs: &[u32], t: &[u32; INDEX], k: usize, r: usize, base: u32) -> u32
     requires { ⌜ Ground (now xs) (now t) × (k < length (blocksOf (now xs))) × (base + total (blocksOf (now xs)) k ≤ 2147483647) × (getD (now t) (4 * k + 1) 0 ≤ r) × (r < getD (now t) (4 * k + 2) 0) ⌝ }
     ensures { λ b. ⌜ b ≡ base + ownOf (blocksOf (now (xs .entry))) k + sumOver (total (blocksOf (now (xs .entry)))) (take (r - getD (now (t .entry)) (4 * k + 1) 0) (blockAt (blocksOf (now (xs .entry))) k .uses)) ⌝ }
 {
@@ -623,7 +630,7 @@ fn begins(xs: &[u32], t: &[u32; 512], k: usize, r: usize, base: u32) -> u32
 }
 
 // One step of a path: into the p-th use of a copy.
-fn step(xs: &[u32], t: &[u32; 512], z: Stand, p: u32) -> Stand
+fn step(xs: &[u32], t: &[u32; INDEX], z: Stand, p: u32) -> Stand
     requires { ⌜ Ground (now xs) (now t) × MayStep (blocksOf (now xs)) (z .block) (z .base) p ⌝ }
     ensures { λ y. ⌜ Stepped (blocksOf (now (xs .entry))) p (z .block) (z .base) (z .met) (y .block) (y .base) (y .met) ⌝ }
 {
@@ -644,11 +651,11 @@ fn step(xs: &[u32], t: &[u32; 512], z: Stand, p: u32) -> Stand
 }
 
 // The copy at the end of a path of the show.
-fn descend(xs: &[u32], t: &[u32; 512], blocks: u32, path: &[u32], depth: usize) -> Stand
+fn descend(xs: &[u32], t: &[u32; INDEX], blocks: u32, path: &[u32], depth: usize) -> Stand
     requires { ⌜ Ground (now xs) (now t) × (blocks ≡ length (blocksOf (now xs))) × Trail (blocksOf (now xs)) (now path) depth ⌝ }
     ensures { λ z. ⌜ Standing (blocksOf (now (xs .entry))) (take depth (now (path .entry))) (z .block) (z .base) (z .met) ⌝ }
 {
-    let none: [u32; 8] = [0; 8];
+    let none: [u32; JOINS] = [0; JOINS];
     let mut z = Stand {
         block: wide(blocks - 1),
         base: 0,
@@ -663,29 +670,64 @@ fn descend(xs: &[u32], t: &[u32; 512], blocks: u32, path: &[u32], depth: usize) 
     z
 }
 
-// Gives the page the cues asked for that own cue c of a copy is linked to.
-fn answer_from(xs: &[u32], t: &[u32; 512], q: Ask, z: Stand, c: u32, page: &mut [u32]) -> usize
-    requires { ⌜ Ground (now xs) (now t) × MayAnswer q (blocksOf (now xs)) (z .block) (z .base) c (now page) ⌝ }
+// Gives the page the cues asked for that own cue c of a copy is linked to, by means of a table.
+fn answer_by(
+    xs: &[u32],
+    t: &[u32; INDEX],
+    q: Ask,
+    z: Stand,
+    c: u32,
+    page: &mut [u32],
+    m: &mut [u8],
+) -> usize
+    requires { ⌜ Ground (now xs) (now t) × MayAnswer q (blocksOf (now xs)) (z .block) (z .base) c (now page) × HasBlock (now m) (z .block) × Table q (blocksOf (now xs)) (now m) ⌝ }
     ensures { λ g. ⌜ Answered q (blocksOf (now (xs .entry))) (z .block) (z .base) (z .met) c (now (page .entry)) (now (page .exit)) g ⌝ }
 {
     let k = z.block;
     let base = z.base;
     let met = z.met;
-    let mut m: [u8; 9216] = [0; 9216];
-    fill(xs, t, q, &mut m, k);
     let joins = joins_of(xs, t, k);
-    let from = wide(own_of(xs, t, k)) + 1;
-    let s = marks_of(xs, t, q, &m, k, c);
-    let g = give_joins(q, &s, from, joins, met, page);
-    walk(xs, t, q, &m, k, base, c, page, g)
+    let mut s: [u8; RECORD] = [0; RECORD];
+    marks_of(xs, t, q, m, k, c, &mut s);
+    let g = give_joins(q, &s, joins, met, page);
+    let h = give_block(xs, t, q, &s, k, 0, base, c, page, g);
+    walk(xs, t, q, m, k, base, c, page, h)
+}
+
+// The same in a low block, for which a short table is enough, and in any.
+fn answer_low(xs: &[u32], t: &[u32; INDEX], q: Ask, z: Stand, c: u32, page: &mut [u32]) -> usize
+    requires { ⌜ Ground (now xs) (now t) × MayAnswer q (blocksOf (now xs)) (z .block) (z .base) c (now page) × (z .block < 32) ⌝ }
+    ensures { λ g. ⌜ Answered q (blocksOf (now (xs .entry))) (z .block) (z .base) (z .met) c (now (page .entry)) (now (page .exit)) g ⌝ }
+{
+    let mut m: [u8; LOW_TABLE] = [0; LOW_TABLE];
+    answer_by(xs, t, q, z, c, page, &mut m)
+}
+
+fn answer_any(xs: &[u32], t: &[u32; INDEX], q: Ask, z: Stand, c: u32, page: &mut [u32]) -> usize
+    requires { ⌜ Ground (now xs) (now t) × MayAnswer q (blocksOf (now xs)) (z .block) (z .base) c (now page) ⌝ }
+    ensures { λ g. ⌜ Answered q (blocksOf (now (xs .entry))) (z .block) (z .base) (z .met) c (now (page .entry)) (now (page .exit)) g ⌝ }
+{
+    let mut m: [u8; TABLE] = [0; TABLE];
+    answer_by(xs, t, q, z, c, page, &mut m)
+}
+
+fn answer_from(xs: &[u32], t: &[u32; INDEX], q: Ask, z: Stand, c: u32, page: &mut [u32]) -> usize
+    requires { ⌜ Ground (now xs) (now t) × MayAnswer q (blocksOf (now xs)) (z .block) (z .base) c (now page) ⌝ }
+    ensures { λ g. ⌜ Answered q (blocksOf (now (xs .entry))) (z .block) (z .base) (z .met) c (now (page .entry)) (now (page .exit)) g ⌝ }
+{
+    let k = z.block;
+    if k < LOW {
+        return answer_low(xs, t, q, z, c, page);
+    }
+    answer_any(xs, t, q, z, c, page)
 }
 
 // As many cues as are ever written: there are not more in a show.
 fn room_of(size: usize) -> usize
     ensures { λ r. ⌜ r ≡ min size 2147483647 ⌝ }
 {
-    if 2147483647 < size {
-        return 2147483647;
+    if CUES < size {
+        return CUES;
     }
     size
 }
@@ -694,7 +736,7 @@ fn room_of(size: usize) -> usize
 // has room for. The cue is given by its path and its own cue; t is the index of the rows.
 pub fn list(
     xs: &[u32],
-    t: &[u32; 512],
+    t: &[u32; INDEX],
     blocks: u32,
     inward: bool,
     path: &[u32],

@@ -1,12 +1,13 @@
 -- `links::enter` and `links::walk` meet their contracts: the walk of a copy and that of a use call each other; the block number falls.
 use borrow.Author.Needs.{needs}
-use native.Mathlib.Omega.{arith}
 use Prim.Native.Nat.{ℕ, _+_, _*_, _-_, _≤_, _<_}
 use mathlib.Core.Path.{_≡_, refl, _∙_}
+use mathlib.Core.List.{[]}
 use lib.ListN.{length}
 use Rattle.links.specs.Walks.{Going}
 use Rattle.links.proofs.Ground.{row-known, rows-order}
-use Rattle.links.proofs.Walks.{enter-shut, may-walk, table-less, enter-walk, may-enter, next-small, going-begin, going-on, going-end}
+use Rattle.links.proofs.Walks.{enter-shut, door-small, door-known, may-walk, table-less, enter-walk, leaf-walked, use-in, may-enter, next-small, going-begin, going-on, uses-walked}
+use native.Mathlib.Omega.{arith}
 use borrow.Fn.Kinds.{In}
 use borrow.Fn.PlainCycle.{Measures, is, falls, and}
 use Rattle.links.proofs.enter.Reads as enter
@@ -50,6 +51,12 @@ enter-door-requires : (t : ℕ) → enter-lts.Need-door-requires (
   value-reads.Learnt,
   wide-reads.Asked,
   wide-reads.Learnt,
+  own-of-reads.Asked,
+  own-of-reads.Learnt,
+  give-block-reads.Asked,
+  give-block-reads.Learnt,
+  entry-reads.Asked,
+  entry-reads.Learnt,
   walk-below t,
   walk.Post,
 ) (enter-at t) enter.Post
@@ -62,6 +69,12 @@ enter-returns : (t : ℕ) → enter-lts.Need-returns (
   value-reads.Learnt,
   wide-reads.Asked,
   wide-reads.Learnt,
+  own-of-reads.Asked,
+  own-of-reads.Learnt,
+  give-block-reads.Asked,
+  give-block-reads.Learnt,
+  entry-reads.Asked,
+  entry-reads.Learnt,
   walk-below t,
   walk.Post,
 ) (enter-at t) enter.Post
@@ -74,6 +87,12 @@ enter-value-requires : (t : ℕ) → enter-lts.Need-value-requires (
   value-reads.Learnt,
   wide-reads.Asked,
   wide-reads.Learnt,
+  own-of-reads.Asked,
+  own-of-reads.Learnt,
+  give-block-reads.Asked,
+  give-block-reads.Learnt,
+  entry-reads.Asked,
+  entry-reads.Learnt,
   walk-below t,
   walk.Post,
 ) (enter-at t) enter.Post
@@ -86,22 +105,244 @@ enter-wide-requires : (t : ℕ) → enter-lts.Need-wide-requires (
   value-reads.Learnt,
   wide-reads.Asked,
   wide-reads.Learnt,
+  own-of-reads.Asked,
+  own-of-reads.Learnt,
+  give-block-reads.Asked,
+  give-block-reads.Learnt,
+  entry-reads.Asked,
+  entry-reads.Learnt,
   walk-below t,
   walk.Post,
 ) (enter-at t) enter.Post
 enter-wide-requires t c κs = search needs
 
-enter-walk-requires : (t : ℕ) → enter-lts.Need-walk-requires (
+enter-mul-at : (t : ℕ) → enter-lts.Need-mul-at (
   door-reads.Asked,
   door-reads.Learnt,
   value-reads.Asked,
   value-reads.Learnt,
   wide-reads.Asked,
   wide-reads.Learnt,
+  own-of-reads.Asked,
+  own-of-reads.Learnt,
+  give-block-reads.Asked,
+  give-block-reads.Learnt,
+  entry-reads.Asked,
+  entry-reads.Learnt,
   walk-below t,
   walk.Post,
 ) (enter-at t) enter.Post
-enter-walk-requires t c κs = search (may-walk, table-less, needs) fits 20000
+enter-mul-at t c = search needs
+
+enter-mul-at-2 : (t : ℕ) → enter-lts.Need-mul-at-2 (
+  door-reads.Asked,
+  door-reads.Learnt,
+  value-reads.Asked,
+  value-reads.Learnt,
+  wide-reads.Asked,
+  wide-reads.Learnt,
+  own-of-reads.Asked,
+  own-of-reads.Learnt,
+  give-block-reads.Asked,
+  give-block-reads.Learnt,
+  entry-reads.Asked,
+  entry-reads.Learnt,
+  walk-below t,
+  walk.Post,
+) (enter-at t) enter.Post
+enter-mul-at-2 t c =
+    let pre = c .before .before .before .before .before .before .before .pre .1 in
+    let door = c .before .before .before .door .ensures in
+    let enters = c .before .before .if1 .left in
+    let y₁ = c .before .value .ensures in
+    let y₂ = c .wide .ensures .0 in
+    let few = door-small _ _ _ _ _ _ _ _ _ (pre .0) door enters in
+    omega (arith, few)
+
+enter-add-at : (t : ℕ) → enter-lts.Need-add-at (
+  door-reads.Asked,
+  door-reads.Learnt,
+  value-reads.Asked,
+  value-reads.Learnt,
+  wide-reads.Asked,
+  wide-reads.Learnt,
+  own-of-reads.Asked,
+  own-of-reads.Learnt,
+  give-block-reads.Asked,
+  give-block-reads.Learnt,
+  entry-reads.Asked,
+  entry-reads.Learnt,
+  walk-below t,
+  walk.Post,
+) (enter-at t) enter.Post
+enter-add-at t c =
+    let pre = c .before .before .before .before .before .before .before .pre .1 in
+    let door = c .before .before .before .door .ensures in
+    let enters = c .before .before .if1 .left in
+    let y₁ = c .before .value .ensures in
+    let y₂ = c .wide .ensures .0 in
+    let few = door-small _ _ _ _ _ _ _ _ _ (pre .0) door enters in
+    omega (arith, few, y₁, y₂, pre .1 .lower, pre .1 .known, pre .0 .show .blocks)
+
+enter-own-of-requires : (t : ℕ) → enter-lts.Need-own-of-requires (
+  door-reads.Asked,
+  door-reads.Learnt,
+  value-reads.Asked,
+  value-reads.Learnt,
+  wide-reads.Asked,
+  wide-reads.Learnt,
+  own-of-reads.Asked,
+  own-of-reads.Learnt,
+  give-block-reads.Asked,
+  give-block-reads.Learnt,
+  entry-reads.Asked,
+  entry-reads.Learnt,
+  walk-below t,
+  walk.Post,
+) (enter-at t) enter.Post
+enter-own-of-requires t c κs = search needs
+
+enter-add-d : (t : ℕ) → enter-lts.Need-add-d (
+  door-reads.Asked,
+  door-reads.Learnt,
+  value-reads.Asked,
+  value-reads.Learnt,
+  wide-reads.Asked,
+  wide-reads.Learnt,
+  own-of-reads.Asked,
+  own-of-reads.Learnt,
+  give-block-reads.Asked,
+  give-block-reads.Learnt,
+  entry-reads.Asked,
+  entry-reads.Learnt,
+  walk-below t,
+  walk.Post,
+) (enter-at t) enter.Post
+enter-add-d t c = search needs
+
+enter-cast-d : (t : ℕ) → enter-lts.Need-cast-d (
+  door-reads.Asked,
+  door-reads.Learnt,
+  value-reads.Asked,
+  value-reads.Learnt,
+  wide-reads.Asked,
+  wide-reads.Learnt,
+  own-of-reads.Asked,
+  own-of-reads.Learnt,
+  give-block-reads.Asked,
+  give-block-reads.Learnt,
+  entry-reads.Asked,
+  entry-reads.Learnt,
+  walk-below t,
+  walk.Post,
+) (enter-at t) enter.Post
+enter-cast-d t c =
+    let pre = c .before .before .before .before .before .before .before .before .pre .1 in
+    let door = c .before .before .before .before .door .ensures in
+    let enters = c .before .before .before .if1 .left in
+    let y₁ = c .before .before .value .ensures in
+    let y₂ = c .before .wide .ensures .0 in
+    let few = door-small _ _ _ _ _ _ _ _ _ (pre .0) door enters in
+    omega (arith, few)
+
+enter-add-d-2 : (t : ℕ) → enter-lts.Need-add-d-2 (
+  door-reads.Asked,
+  door-reads.Learnt,
+  value-reads.Asked,
+  value-reads.Learnt,
+  wide-reads.Asked,
+  wide-reads.Learnt,
+  own-of-reads.Asked,
+  own-of-reads.Learnt,
+  give-block-reads.Asked,
+  give-block-reads.Learnt,
+  entry-reads.Asked,
+  entry-reads.Learnt,
+  walk-below t,
+  walk.Post,
+) (enter-at t) enter.Post
+enter-add-d-2 t c =
+    let pre = c .before .before .before .before .before .before .before .before .pre .1 in
+    let door = c .before .before .before .before .door .ensures in
+    let enters = c .before .before .before .if1 .left in
+    let y₁ = c .before .before .value .ensures in
+    let y₂ = c .before .wide .ensures .0 in
+    let few = door-small _ _ _ _ _ _ _ _ _ (pre .0) door enters in
+    omega (arith, few, c .own-of .ensures)
+
+enter-give-block-requires : (t : ℕ) → enter-lts.Need-give-block-requires (
+  door-reads.Asked,
+  door-reads.Learnt,
+  value-reads.Asked,
+  value-reads.Learnt,
+  wide-reads.Asked,
+  wide-reads.Learnt,
+  own-of-reads.Asked,
+  own-of-reads.Learnt,
+  give-block-reads.Asked,
+  give-block-reads.Learnt,
+  entry-reads.Asked,
+  entry-reads.Learnt,
+  walk-below t,
+  walk.Post,
+) (enter-at t) enter.Post
+enter-give-block-requires t c κs =
+    let pre = c .before .before .before .before .before .before .before .before .before .pre .1 in
+    let door = c .before .before .before .before .before .door .ensures in
+    let enters = c .before .before .before .before .if1 .left in
+    let y₁ = c .before .before .before .value .ensures in
+    let y₂ = c .before .before .wide .ensures .0 in
+    let few = door-small _ _ _ _ _ _ _ _ _ (pre .0) door enters in
+    let y₃ = c .before .own-of .ensures .0 in (
+      pre .0,
+      door-known _ _ _ _ (pre .0) _ _ _ _ _ _ _ _ _ _ [] (pre .1) door enters y₁ y₂ y₃ refl (pre .4) (pre .2),
+      omega (arith, few, y₁, y₂, pre .1 .lower, pre .3),
+      may-walk _ _ _ [] (pre .0) _ _ _ _ _ _ _ _ _ _ _ (pre .1) door enters y₁ y₂ y₃ refl _ (pre .5) (pre .6) (pre .5 .bound),
+    )
+
+enter-entry-requires : (t : ℕ) → enter-lts.Need-entry-requires (
+  door-reads.Asked,
+  door-reads.Learnt,
+  value-reads.Asked,
+  value-reads.Learnt,
+  wide-reads.Asked,
+  wide-reads.Learnt,
+  own-of-reads.Asked,
+  own-of-reads.Learnt,
+  give-block-reads.Asked,
+  give-block-reads.Learnt,
+  entry-reads.Asked,
+  entry-reads.Learnt,
+  walk-below t,
+  walk.Post,
+) (enter-at t) enter.Post
+enter-entry-requires t c κs =
+    let pre = c .before .before .before .before .before .before .before .before .before .before .before .before .pre .1 in
+    let y₁ = c .before .before .before .before .before .before .value .ensures in
+    let y₂ = c .before .before .before .before .before .wide .ensures .0 in
+    (omega (arith, y₁, y₂, pre .1 .lower, pre .1 .known, pre .0 .show .blocks), omega arith)
+
+enter-entry-requires-2 : (t : ℕ) → enter-lts.Need-entry-requires-2 (
+  door-reads.Asked,
+  door-reads.Learnt,
+  value-reads.Asked,
+  value-reads.Learnt,
+  wide-reads.Asked,
+  wide-reads.Learnt,
+  own-of-reads.Asked,
+  own-of-reads.Learnt,
+  give-block-reads.Asked,
+  give-block-reads.Learnt,
+  entry-reads.Asked,
+  entry-reads.Learnt,
+  walk-below t,
+  walk.Post,
+) (enter-at t) enter.Post
+enter-entry-requires-2 t c κs =
+    let pre = c .before .before .before .before .before .before .before .before .before .before .before .before .before .pre .1 in
+    let y₁ = c .before .before .before .before .before .before .before .value .ensures in
+    let y₂ = c .before .before .before .before .before .before .wide .ensures .0 in
+    (omega (arith, y₁, y₂, pre .1 .lower, pre .1 .known, pre .0 .show .blocks), omega arith)
 
 enter-same-length : (t : ℕ) → enter-lts.Need-same-length (
   door-reads.Asked,
@@ -110,6 +351,12 @@ enter-same-length : (t : ℕ) → enter-lts.Need-same-length (
   value-reads.Learnt,
   wide-reads.Asked,
   wide-reads.Learnt,
+  own-of-reads.Asked,
+  own-of-reads.Learnt,
+  give-block-reads.Asked,
+  give-block-reads.Learnt,
+  entry-reads.Asked,
+  entry-reads.Learnt,
   walk-below t,
   walk.Post,
 ) (enter-at t) enter.Post
@@ -122,38 +369,113 @@ enter-returns-2 : (t : ℕ) → enter-lts.Need-returns-2 (
   value-reads.Learnt,
   wide-reads.Asked,
   wide-reads.Learnt,
-  walk-below t,
-  walk.Post,
-) (enter-at t) enter.Post
-enter-returns-2 t c =
-    let pre = c .before .before .before .before .before .before .before .before .before .before .pre .1 in
-    enter-walk _ _ _ _ (pre .0) _ _ _ _ _ _ _ _ _ (pre .1) (c .before .before .before .before .before .before .before .door .ensures) (c .before .before .before .before .before .before .if1 .left) (c .before .before .before .before .before .value .ensures) (c .before .before .before .before .wide .ensures .0) _ _ (pre .2)
-    (c .before .before .walk .ensures)
-
-abbrev walk-Inv-loop : walk-lts.InvT-loop
-walk-Inv-loop xs t q m k base c page₀ w g₀ a e r₀ b₀ page g r b =
-    (a ≤ r) × (r ≤ e) × (length page ≡ length page₀) × Going q xs k base c a page₀ g₀ r b page g
-
-abbrev walk-μ-loop : walk-lts.MeasureT-loop
-walk-μ-loop xs t q m k base c page₀ w g₀ a e r₀ b₀ page g r b = e - r
-
-walk-give-block-requires : (t : ℕ) → walk-lts.Need-give-block-requires (
+  own-of-reads.Asked,
+  own-of-reads.Learnt,
   give-block-reads.Asked,
   give-block-reads.Learnt,
   entry-reads.Asked,
   entry-reads.Learnt,
+  walk-below t,
+  walk.Post,
+) (enter-at t) enter.Post
+enter-returns-2 t c =
+    let pre = c .before .before .before .before .before .before .before .before .before .before .before .before .before .before .before .pre .1 in
+    let door = c .before .before .before .before .before .before .before .before .before .before .before .door .ensures in
+    let enters = c .before .before .before .before .before .before .before .before .before .before .if1 .left in
+    let y₁ = c .before .before .before .before .before .before .before .before .before .value .ensures in
+    let y₂ = c .before .before .before .before .before .before .before .before .wide .ensures .0 in
+    let few = door-small _ _ _ _ _ _ _ _ _ (pre .0) door enters in
+    let y₃ = c .before .before .before .before .before .before .before .own-of .ensures .0 in
+    enter-walk _ _ _ [] (pre .0) _ _ _ _ _ _ _ _ _ _ _ (pre .1) door enters y₁ y₂ y₃ refl _ _
+    (leaf-walked _ _ _ (pre .0) _ _ _ _ _ _ _ _ _ (omega (arith, y₁, y₂, pre .1 .lower, pre .1 .known)) (c .before .before .entry .ensures .0) (c .before .entry2 .ensures .0)
+    (c .if2 .taken) (c .before .before .before .before .before .give-block .ensures))
+
+enter-walk-requires : (t : ℕ) → enter-lts.Need-walk-requires (
+  door-reads.Asked,
+  door-reads.Learnt,
+  value-reads.Asked,
+  value-reads.Learnt,
+  wide-reads.Asked,
+  wide-reads.Learnt,
   own-of-reads.Asked,
   own-of-reads.Learnt,
-  enter-below t,
-  enter.Post,
-  size-of-reads.Asked,
-  size-of-reads.Learnt,
-) (walk-at t) walk.Post walk-Inv-loop walk-μ-loop
-walk-give-block-requires t c κs = search needs
-
-walk-entry-requires : (t : ℕ) → walk-lts.Need-entry-requires (
   give-block-reads.Asked,
   give-block-reads.Learnt,
+  entry-reads.Asked,
+  entry-reads.Learnt,
+  walk-below t,
+  walk.Post,
+) (enter-at t) enter.Post
+enter-walk-requires t c κs =
+    let pre = c .before .before .before .before .before .before .before .before .before .before .before .before .before .before .before .before .pre .1 in
+    let door = c .before .before .before .before .before .before .before .before .before .before .before .before .door .ensures in
+    let enters = c .before .before .before .before .before .before .before .before .before .before .before .if1 .left in
+    let y₁ = c .before .before .before .before .before .before .before .before .before .before .value .ensures in
+    let y₂ = c .before .before .before .before .before .before .before .before .before .wide .ensures .0 in
+    let few = door-small _ _ _ _ _ _ _ _ _ (pre .0) door enters in
+    let y₃ = c .before .before .before .before .before .before .before .before .own-of .ensures .0 in
+    let given = c .before .before .before .before .before .before .give-block .ensures in (
+      omega (arith, c .before .before .before .before .before .before .before .before .before .before .before .before .before .before .before .before .pre .0, y₁, y₂, pre .1 .lower),
+      (
+        pre .0,
+        table-less _ _ _ _ (pre .0) _ _ _ _ _ _ _ _ _ _ [] (pre .1) door enters y₁ y₂ y₃ refl (pre .4) (pre .2),
+        omega (arith, y₁, y₂, pre .1 .lower, pre .3),
+        may-walk _ _ _ [] (pre .0) _ _ _ _ _ _ _ _ _ _ _ (pre .1) door enters y₁ y₂ y₃ refl _ (pre .5) (omega (arith, given .long, pre .6)) (given .bound),
+      ),
+    )
+
+enter-same-length-2 : (t : ℕ) → enter-lts.Need-same-length-2 (
+  door-reads.Asked,
+  door-reads.Learnt,
+  value-reads.Asked,
+  value-reads.Learnt,
+  wide-reads.Asked,
+  wide-reads.Learnt,
+  own-of-reads.Asked,
+  own-of-reads.Learnt,
+  give-block-reads.Asked,
+  give-block-reads.Learnt,
+  entry-reads.Asked,
+  entry-reads.Learnt,
+  walk-below t,
+  walk.Post,
+) (enter-at t) enter.Post
+enter-same-length-2 t c = search needs
+
+enter-returns-3 : (t : ℕ) → enter-lts.Need-returns-3 (
+  door-reads.Asked,
+  door-reads.Learnt,
+  value-reads.Asked,
+  value-reads.Learnt,
+  wide-reads.Asked,
+  wide-reads.Learnt,
+  own-of-reads.Asked,
+  own-of-reads.Learnt,
+  give-block-reads.Asked,
+  give-block-reads.Learnt,
+  entry-reads.Asked,
+  entry-reads.Learnt,
+  walk-below t,
+  walk.Post,
+) (enter-at t) enter.Post
+enter-returns-3 t c =
+    let pre = c .before .before .before .before .before .before .before .before .before .before .before .before .before .before .before .before .before .before .before .pre .1 in
+    let door = c .before .before .before .before .before .before .before .before .before .before .before .before .before .before .before .door .ensures in
+    let enters = c .before .before .before .before .before .before .before .before .before .before .before .before .before .before .if1 .left in
+    let y₁ = c .before .before .before .before .before .before .before .before .before .before .before .before .before .value .ensures in
+    let y₂ = c .before .before .before .before .before .before .before .before .before .before .before .before .wide .ensures .0 in
+    let few = door-small _ _ _ _ _ _ _ _ _ (pre .0) door enters in
+    let y₃ = c .before .before .before .before .before .before .before .before .before .before .before .own-of .ensures .0 in
+    enter-walk _ _ _ [] (pre .0) _ _ _ _ _ _ _ _ _ _ _ (pre .1) door enters y₁ y₂ y₃ refl _ _ (c .before .before .walk .ensures .whole _ _ (c .before .before .before .before .before .before .before .before .before .give-block .ensures))
+
+abbrev walk-Inv-loop : walk-lts.InvT-loop
+walk-Inv-loop xs t q m k base c page₀ w g₀ a e r₀ b₀ page g r b =
+    (a ≤ r) × (r ≤ e) × (length page ≡ length page₀) × Going q xs k base c a page₀ w r b page g
+
+abbrev walk-μ-loop : walk-lts.MeasureT-loop
+walk-μ-loop xs t q m k base c page₀ w g₀ a e r₀ b₀ page g r b = e - r
+
+walk-entry-requires : (t : ℕ) → walk-lts.Need-entry-requires (
   entry-reads.Asked,
   entry-reads.Learnt,
   own-of-reads.Asked,
@@ -166,8 +488,6 @@ walk-entry-requires : (t : ℕ) → walk-lts.Need-entry-requires (
 walk-entry-requires t c κs = search needs
 
 walk-entry-requires-2 : (t : ℕ) → walk-lts.Need-entry-requires-2 (
-  give-block-reads.Asked,
-  give-block-reads.Learnt,
   entry-reads.Asked,
   entry-reads.Learnt,
   own-of-reads.Asked,
@@ -180,8 +500,6 @@ walk-entry-requires-2 : (t : ℕ) → walk-lts.Need-entry-requires-2 (
 walk-entry-requires-2 t c κs = search needs
 
 walk-own-of-requires : (t : ℕ) → walk-lts.Need-own-of-requires (
-  give-block-reads.Asked,
-  give-block-reads.Learnt,
   entry-reads.Asked,
   entry-reads.Learnt,
   own-of-reads.Asked,
@@ -194,8 +512,6 @@ walk-own-of-requires : (t : ℕ) → walk-lts.Need-own-of-requires (
 walk-own-of-requires t c κs = search needs
 
 walk-add-b : (t : ℕ) → walk-lts.Need-add-b (
-  give-block-reads.Asked,
-  give-block-reads.Learnt,
   entry-reads.Asked,
   entry-reads.Learnt,
   own-of-reads.Asked,
@@ -208,8 +524,6 @@ walk-add-b : (t : ℕ) → walk-lts.Need-add-b (
 walk-add-b t c = search needs
 
 walk-loop-holds : (t : ℕ) → walk-lts.Need-loop-holds (
-  give-block-reads.Asked,
-  give-block-reads.Learnt,
   entry-reads.Asked,
   entry-reads.Learnt,
   own-of-reads.Asked,
@@ -220,19 +534,13 @@ walk-loop-holds : (t : ℕ) → walk-lts.Need-loop-holds (
   size-of-reads.Learnt,
 ) (walk-at t) walk.Post walk-Inv-loop walk-μ-loop
 walk-loop-holds t c =
-    let pre = c .before .before .before .before .before .before .before .before .before .pre .1 in
-    let known = pre .2 .known in
+    let pre = c .before .before .before .before .before .before .pre .1 in
+    let known = pre .3 .known in
     let y₁ = c .before .before .entry .ensures .0 in
-    let y₂ = c .before .entry2 .ensures .0 in (
-      omega arith,
-      rows-order _ _ _ _ _ (pre .0) known y₁ y₂,
-      refl,
-      going-begin _ _ _ (pre .0) _ _ _ _ _ _ _ known y₁ y₂ _ (c .own-of .ensures .0) (c .before .before .before .before .before .give-block .ensures .bound),
-    )
+    let y₂ = c .before .entry2 .ensures .0 in
+    (omega arith, rows-order _ _ _ _ _ (pre .0) known y₁ y₂, refl, going-begin _ _ _ (pre .0) _ _ _ _ _ _ _ known y₁ y₂ _ (c .own-of .ensures .0) (pre .3 .bound))
 
 walk-enter-requires : (t : ℕ) → walk-lts.Need-enter-requires (
-  give-block-reads.Asked,
-  give-block-reads.Learnt,
   entry-reads.Asked,
   entry-reads.Learnt,
   own-of-reads.Asked,
@@ -243,25 +551,25 @@ walk-enter-requires : (t : ℕ) → walk-lts.Need-enter-requires (
   size-of-reads.Learnt,
 ) (walk-at t) walk.Post walk-Inv-loop walk-μ-loop
 walk-enter-requires t c κs =
-    let pre = c .before .before .before .before .before .before .before .before .before .before .before .before .pre .1 in
-    let known = pre .2 .known in
-    let inv = c .before .before .loop .inv in
+    let pre = c .before .before .before .before .before .before .before .before .before .pre .1 in
+    let known = pre .3 .known in
     let y₁ = c .before .before .before .before .before .entry .ensures .0 in
     let y₂ = c .before .before .before .before .entry2 .ensures .0 in
+    let inv = c .before .before .loop .inv in
     let h = c .before .loop-test .taken in (
-      omega (arith, c .before .before .before .before .before .before .before .before .before .before .before .before .pre .0),
+      omega (arith, c .before .before .before .before .before .before .before .before .before .pre .0),
       (
         pre .0,
         row-known _ _ _ _ _ _ (pre .0) known y₁ y₂ (inv .0) h,
+        use-in _ _ (pre .0) _ 0 _ _ known y₁ y₂ _ (inv .0) h,
+        pre .2,
         pre .1,
-        may-enter _ _ _ (pre .0) _ _ _ _ _ _ _ known y₁ y₂ _ _ _ _ _ _ (pre .2) (inv .0) h (inv .3),
-        omega (arith, inv .2, c .before .before .before .before .before .before .before .before .give-block .ensures .long, pre .2 .room),
+        may-enter _ _ _ (pre .0) _ _ _ _ _ _ _ known y₁ y₂ _ _ _ _ _ _ (pre .3) (inv .0) h (inv .3),
+        omega (arith, inv .2, pre .3 .room),
       ),
     )
 
 walk-size-of-requires : (t : ℕ) → walk-lts.Need-size-of-requires (
-  give-block-reads.Asked,
-  give-block-reads.Learnt,
   entry-reads.Asked,
   entry-reads.Learnt,
   own-of-reads.Asked,
@@ -272,12 +580,13 @@ walk-size-of-requires : (t : ℕ) → walk-lts.Need-size-of-requires (
   size-of-reads.Learnt,
 ) (walk-at t) walk.Post walk-Inv-loop walk-μ-loop
 walk-size-of-requires t c κs =
-    let pre = c .before .before .before .before .before .before .before .before .before .before .before .before .before .before .before .pre .1 in
-    (pre .0, row-known _ _ _ _ _ _ (pre .0) (pre .2 .known) (c .before .before .before .before .before .before .before .before .entry .ensures .0) (c .before .before .before .before .before .before .before .entry2 .ensures .0) (c .before .before .before .before .before .loop .inv .0) (c .before .before .before .before .loop-test .taken))
+    let pre = c .before .before .before .before .before .before .before .before .before .before .before .before .pre .1 in
+    let known = pre .3 .known in
+    let y₁ = c .before .before .before .before .before .before .before .before .entry .ensures .0 in
+    let y₂ = c .before .before .before .before .before .before .before .entry2 .ensures .0 in
+    (pre .0, row-known _ _ _ _ _ _ (pre .0) known y₁ y₂ (c .before .before .before .before .before .loop .inv .0) (c .before .before .before .before .loop-test .taken))
 
 walk-add-b-2 : (t : ℕ) → walk-lts.Need-add-b-2 (
-  give-block-reads.Asked,
-  give-block-reads.Learnt,
   entry-reads.Asked,
   entry-reads.Learnt,
   own-of-reads.Asked,
@@ -288,17 +597,14 @@ walk-add-b-2 : (t : ℕ) → walk-lts.Need-add-b-2 (
   size-of-reads.Learnt,
 ) (walk-at t) walk.Post walk-Inv-loop walk-μ-loop
 walk-add-b-2 t c =
-    let pre = c .before .before .before .before .before .before .before .before .before .before .before .before .before .before .before .before .pre .1 in
+    let pre = c .before .before .before .before .before .before .before .before .before .before .before .before .before .pre .1 in
+    let known = pre .3 .known in
+    let y₁ = c .before .before .before .before .before .before .before .before .before .entry .ensures .0 in
+    let y₂ = c .before .before .before .before .before .before .before .before .entry2 .ensures .0 in
     let inv = c .before .before .before .before .before .before .loop .inv in
-    omega (
-      arith,
-      next-small _ _ _ (pre .0) _ _ _ _ _ _ _ (pre .2 .known) (c .before .before .before .before .before .before .before .before .before .entry .ensures .0) (c .before .before .before .before .before .before .before .before .entry2 .ensures .0) _ _ _ _ _ _ _ (pre .2) (inv .0)
-          (c .before .before .before .before .before .loop-test .taken) (inv .3) (c .size-of .ensures),
-    )
+    omega (arith, next-small _ _ _ (pre .0) _ _ _ _ _ _ _ known y₁ y₂ _ _ _ _ _ _ _ (pre .3) (inv .0) (c .before .before .before .before .before .loop-test .taken) (inv .3) (c .size-of .ensures))
 
 walk-add-r : (t : ℕ) → walk-lts.Need-add-r (
-  give-block-reads.Asked,
-  give-block-reads.Learnt,
   entry-reads.Asked,
   entry-reads.Learnt,
   own-of-reads.Asked,
@@ -311,8 +617,6 @@ walk-add-r : (t : ℕ) → walk-lts.Need-add-r (
 walk-add-r t c = search needs
 
 walk-loop-less : (t : ℕ) → walk-lts.Need-loop-less (
-  give-block-reads.Asked,
-  give-block-reads.Learnt,
   entry-reads.Asked,
   entry-reads.Learnt,
   own-of-reads.Asked,
@@ -325,8 +629,6 @@ walk-loop-less : (t : ℕ) → walk-lts.Need-loop-less (
 walk-loop-less t c = search needs
 
 walk-loop-again : (t : ℕ) → walk-lts.Need-loop-again (
-  give-block-reads.Asked,
-  give-block-reads.Learnt,
   entry-reads.Asked,
   entry-reads.Learnt,
   own-of-reads.Asked,
@@ -337,19 +639,20 @@ walk-loop-again : (t : ℕ) → walk-lts.Need-loop-again (
   size-of-reads.Learnt,
 ) (walk-at t) walk.Post walk-Inv-loop walk-μ-loop
 walk-loop-again t c =
-    let pre = c .before .before .before .before .before .before .before .before .before .before .before .before .before .before .before .before .pre .1 in
+    let pre = c .before .before .before .before .before .before .before .before .before .before .before .before .before .pre .1 in
+    let known = pre .3 .known in
+    let y₁ = c .before .before .before .before .before .before .before .before .before .entry .ensures .0 in
+    let y₂ = c .before .before .before .before .before .before .before .before .entry2 .ensures .0 in
     let inv = c .before .before .before .before .before .before .loop .inv in
-    let h = c .before .before .before .before .before .loop-test .taken in (
-      omega arith,
-      omega arith,
-      c .before .before .before .enter .ensures .long ∙ inv .2,
-      going-on _ _ _ (pre .0) _ _ _ _ _ _ _ (pre .2 .known) (c .before .before .before .before .before .before .before .before .before .entry .ensures .0) (c .before .before .before .before .before .before .before .before .entry2 .ensures .0) _ _ _ _ _ _ _ (inv .0) h (inv .3) (c .before .before .before .enter .ensures)
-          (c .size-of .ensures),
+    let h = c .before .before .before .before .before .loop-test .taken in
+    let entered = c .before .before .before .enter .ensures in (
+      omega (arith, inv .0),
+      omega (arith, h),
+      entered .long ∙ inv .2,
+      going-on _ _ _ (pre .0) _ _ _ _ _ _ _ known y₁ y₂ _ _ _ _ _ _ _ (inv .0) h (inv .3) entered (c .size-of .ensures),
     )
 
 walk-same-length : (t : ℕ) → walk-lts.Need-same-length (
-  give-block-reads.Asked,
-  give-block-reads.Learnt,
   entry-reads.Asked,
   entry-reads.Learnt,
   own-of-reads.Asked,
@@ -362,8 +665,6 @@ walk-same-length : (t : ℕ) → walk-lts.Need-same-length (
 walk-same-length t c = search needs
 
 walk-returns : (t : ℕ) → walk-lts.Need-returns (
-  give-block-reads.Asked,
-  give-block-reads.Learnt,
   entry-reads.Asked,
   entry-reads.Learnt,
   own-of-reads.Asked,
@@ -374,10 +675,12 @@ walk-returns : (t : ℕ) → walk-lts.Need-returns (
   size-of-reads.Learnt,
 ) (walk-at t) walk.Post walk-Inv-loop walk-μ-loop
 walk-returns t c =
-    let pre = c .before .before .before .before .before .before .before .before .before .before .before .pre .1 in
+    let pre = c .before .before .before .before .before .before .before .before .pre .1 in
+    let known = pre .3 .known in
+    let y₁ = c .before .before .before .before .entry .ensures .0 in
+    let y₂ = c .before .before .before .entry2 .ensures .0 in
     let inv = c .before .loop .inv in
-    going-end _ _ _ (pre .0) _ _ _ _ _ _ _ (pre .2 .known) (c .before .before .before .before .entry .ensures .0) (c .before .before .before .entry2 .ensures .0) _ _ _ _ _ _ (omega arith) (inv .1)
-    (c .loop-test .left) (c .before .before .before .before .before .before .before .give-block .ensures) (inv .3)
+    uses-walked _ _ _ (pre .0) _ _ _ _ _ _ _ known y₁ y₂ _ _ _ _ (omega (arith, inv .0, inv .1)) (inv .1) (c .loop-test .left) (inv .3)
 
 pub +enter+walk-spec : {M : Type 1} → statement M
 +enter+walk-spec = close μ-enter μ-walk (λ t. enter-lts.spec (
@@ -387,6 +690,12 @@ pub +enter+walk-spec : {M : Type 1} → statement M
   value-reads.Learnt,
   wide-reads.Asked,
   wide-reads.Learnt,
+  own-of-reads.Asked,
+  own-of-reads.Learnt,
+  give-block-reads.Asked,
+  give-block-reads.Learnt,
+  entry-reads.Asked,
+  entry-reads.Learnt,
   walk-below t,
   walk.Post,
 )
@@ -396,12 +705,22 @@ pub +enter+walk-spec : {M : Type 1} → statement M
     (enter-returns t)
     (enter-value-requires t)
     (enter-wide-requires t)
-    (enter-walk-requires t)
+    (enter-mul-at t)
+    (enter-mul-at-2 t)
+    (enter-add-at t)
+    (enter-own-of-requires t)
+    (enter-add-d t)
+    (enter-cast-d t)
+    (enter-add-d-2 t)
+    (enter-give-block-requires t)
+    (enter-entry-requires t)
+    (enter-entry-requires-2 t)
     (enter-same-length t)
-    (enter-returns-2 t))
+    (enter-returns-2 t)
+    (enter-walk-requires t)
+    (enter-same-length-2 t)
+    (enter-returns-3 t))
     λ t. walk-lts.spec (
-      give-block-reads.Asked,
-      give-block-reads.Learnt,
       entry-reads.Asked,
       entry-reads.Learnt,
       own-of-reads.Asked,
@@ -415,7 +734,6 @@ pub +enter+walk-spec : {M : Type 1} → statement M
     walk.Post
     walk-Inv-loop
     walk-μ-loop
-    (walk-give-block-requires t)
     (walk-entry-requires t)
     (walk-entry-requires-2 t)
     (walk-own-of-requires t)

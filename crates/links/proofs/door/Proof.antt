@@ -1,7 +1,6 @@
--- `links::door` meets its contract: each way out has nothing to give, but the last.
+-- `links::door` meets its contract: a copy is entered unless the page is full, its cues are too low or none of them is linked.
 use borrow.Author.Needs.{needs}
-use Rattle.links.proofs.Walks.{door-full, door-low, door-apart, door-clear, door-open}
-use Rattle.links.proofs.Ground.{block-known}
+use Rattle.links.proofs.Walks.{door-full, door-low, door-apart, door-open, door-clear}
 use Rattle.links.proofs.door.Statement.{statement}
 use Rattle.links.proofs.door.Tie as tie
 
@@ -44,20 +43,8 @@ add-flag c = search needs
 add-flag-2 : tie.Need-add-flag-2
 add-flag-2 c = search needs
 
-element-copy-out-flag : tie.Need-element-copy-out-flag
-element-copy-out-flag c = search needs
-
-own-of-requires : tie.Need-own-of-requires
-own-of-requires c κs = (c .before .before .before .before .before .before .before .before .before .before .before .before .pre .0, block-known _ _ _ _ _ (c .before .before .before .before .before .before .before .before .before .before .before .before .pre .1) (c .before .before .before .before .before .before .value .ensures) (c .before .before .before .before .before .wide .ensures .0))
-
-add-result : tie.Need-add-result
-add-result c = search needs
-
-cast-result : tie.Need-cast-result
-cast-result c = search needs
-
-add-result-2 : tie.Need-add-result-2
-add-result-2 c = search needs
+shared-slice-read-flag : tie.Need-shared-slice-read-flag
+shared-slice-read-flag c = search needs
 
 returns-4 : tie.Need-returns-4
 returns-4 c = search (door-open, needs) fits 20000
@@ -82,10 +69,6 @@ door-spec =
     mul-flag-2
     add-flag
     add-flag-2
-    element-copy-out-flag
-    own-of-requires
-    add-result
-    cast-result
-    add-result-2
+    shared-slice-read-flag
     returns-4
     returns-5)

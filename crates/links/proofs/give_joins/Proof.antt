@@ -9,10 +9,10 @@ use Rattle.links.proofs.give_joins.Statement.{statement}
 use Rattle.links.proofs.give_joins.Tie as tie
 
 abbrev Inv-loop : tie.InvT-loop
-Inv-loop q s from joins met page₀ g₀ last₀ page g last = (length page ≡ length page₀) × JoinsGoing q s from joins met last page₀ 0 page g
+Inv-loop q s joins met page₀ g₀ last₀ page g last = (length page ≡ length page₀) × JoinsGoing q s joins met last page₀ 0 page g
 
 abbrev μ-loop : tie.MeasureT-loop
-μ-loop q s from joins met page₀ g₀ last₀ page g last = 4294967296 - last
+μ-loop q s joins met page₀ g₀ last₀ page g last = 4294967296 - last
 
 loop-holds : tie.Need-loop-holds Inv-loop μ-loop
 loop-holds c = search (joins-begin, needs)

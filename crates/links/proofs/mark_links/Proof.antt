@@ -11,10 +11,10 @@ use Rattle.links.proofs.mark_links.Statement.{statement}
 use Rattle.links.proofs.mark_links.Tie as tie
 
 abbrev Inv-loop : tie.InvT-loop
-Inv-loop xs q a e c s₀ r₀ s r = (a ≤ r) × (r ≤ e) × (length s ≡ 297) × Added (Picked q (linksFrom xs a (r - a)) c) s₀ s
+Inv-loop xs q a e own c s₀ r₀ s r = (a ≤ r) × (r ≤ e) × (length s ≡ 41) × Added own (Picked q (linksFrom xs a (r - a)) c) s₀ s
 
 abbrev μ-loop : tie.MeasureT-loop
-μ-loop xs q a e c s₀ r₀ s r = e - r
+μ-loop xs q a e own c s₀ r₀ s r = e - r
 
 loop-holds : tie.Need-loop-holds Inv-loop μ-loop
 loop-holds c = search (links-begin, needs)

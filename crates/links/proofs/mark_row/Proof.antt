@@ -10,10 +10,10 @@ use Rattle.links.proofs.mark_row.Statement.{statement}
 use Rattle.links.proofs.mark_row.Tie as tie
 
 abbrev Inv-loop : tie.InvT-loop
-Inv-loop xs m r at joins s₀ j₀ s j = (j ≤ joins) × (length s ≡ 297) × Added (ByRow xs m r at j) s₀ s
+Inv-loop xs m r at joins own s₀ j₀ s j = (j ≤ joins) × (length s ≡ 41) × Added own (ByRow xs m r at j) s₀ s
 
 abbrev μ-loop : tie.MeasureT-loop
-μ-loop xs m r at joins s₀ j₀ s j = joins - j
+μ-loop xs m r at joins own s₀ j₀ s j = joins - j
 
 loop-holds : tie.Need-loop-holds Inv-loop μ-loop
 loop-holds c = search (row-begin, needs)
@@ -21,8 +21,8 @@ loop-holds c = search (row-begin, needs)
 add-flag : tie.Need-add-flag Inv-loop μ-loop
 add-flag c = search needs
 
-element-copy-out-flag : tie.Need-element-copy-out-flag Inv-loop μ-loop
-element-copy-out-flag c = search needs
+shared-slice-read-flag : tie.Need-shared-slice-read-flag Inv-loop μ-loop
+shared-slice-read-flag c = search needs
 
 mark-column-requires : tie.Need-mark-column-requires Inv-loop μ-loop
 mark-column-requires c κs = search needs
@@ -47,7 +47,7 @@ mark-row-spec =
     μ-loop
     loop-holds
     add-flag
-    element-copy-out-flag
+    shared-slice-read-flag
     mark-column-requires
     add-j
     loop-less

@@ -7,16 +7,13 @@ use Rattle.links.proofs.next_join.Statement.{statement}
 use Rattle.links.proofs.next_join.Tie as tie
 
 abbrev Inv-loop : tie.InvT-loop
-Inv-loop s from joins last met x₀ j₀ x j = (j ≤ joins) × Next s from j met last x
+Inv-loop s joins last met x₀ j₀ x j = (j ≤ joins) × Next s j met last x
 
 abbrev μ-loop : tie.MeasureT-loop
-μ-loop s from joins last met x₀ j₀ x j = joins - j
+μ-loop s joins last met x₀ j₀ x j = joins - j
 
 loop-holds : tie.Need-loop-holds Inv-loop μ-loop
 loop-holds c = search (next-begin, needs)
-
-add-flag : tie.Need-add-flag Inv-loop μ-loop
-add-flag c = search needs
 
 element-copy-out-flag : tie.Need-element-copy-out-flag Inv-loop μ-loop
 element-copy-out-flag c = search needs
@@ -49,7 +46,6 @@ next-join-spec =
     Inv-loop
     μ-loop
     loop-holds
-    add-flag
     element-copy-out-flag
     mul-y
     array-read-y
