@@ -4,7 +4,7 @@ use native.Mathlib.Omega.{arith}
 use native.Mathlib.Decide.{ℕ-discrete, decLt}
 use mathlib.Core.Path.{_≡_, refl, sym, _∙_, ap}
 use mathlib.Core.List.{List, [], _∷_}
-use lib.ListN.{length}
+use lib.ListN.{length, replicate}
 use Rattle.model.specs.Choice.{ifEq, ifLt}
 use Rattle.model.specs.Limits.{maxRows, maxTotal}
 use Rattle.model.specs.Rows.{rowsFrom, rowCount, rowsOf}
@@ -89,8 +89,8 @@ both-placed p q = go (ℕ-discrete p 0)
     go (no n) = rw (eq-else p 0 Accepted (refused 9 p) n, eq-else p 0 (ifEq q 0 Accepted (refused 10 q)) (refused 9 p) n) (refuses-first 9 p _)
 
 -- The verdict is what the pass and the table say.
-module _ (xs : List ℕ) (s : Scan) (S : Scanned xs (rowsIn xs) s) where
-  none-law : rowsIn xs ≡ 0 → judged xs (s .index .table) (rowsIn xs) (s .fault) (s .row) (s .index .blocks) ≡ verdict xs
+module _ (xs t : List ℕ) (s : Scan) (S : Scanned xs (rowsIn xs) t s) where
+  none-law : rowsIn xs ≡ 0 → judged xs t (rowsIn xs) (s .fault) (s .row) (s .blocks) ≡ verdict xs
   unfolding judged verdict
   none-law e = rw (rows-fit xs .0 e) (eq-then _ _ _ _ e ∙ sym (refuses-first 4 0 _))
 
@@ -111,18 +111,18 @@ module _ (xs : List ℕ) (s : Scan) (S : Scanned xs (rowsIn xs) s) where
         let e : checkRows start 1 (rowsOf xs) ≡ refused (s .fault) (s .row) = rw rows-are at (S .found n) in
         rw (length-fits, e) (passes-first _ ∙ refuses-first _ _ _)
 
-    found-law : (s .fault ≡ 0 → ⊥) → judged xs (s .index .table) (rowsIn xs) (s .fault) (s .row) (s .index .blocks) ≡ verdict xs
+    found-law : (s .fault ≡ 0 → ⊥) → judged xs t (rowsIn xs) (s .fault) (s .row) (s .blocks) ≡ verdict xs
     unfolding judged
     found-law n = eq-else _ _ _ _ some ∙ eq-else _ _ _ _ n ∙ sym (says n)
 
-    blocks-are : s .fault ≡ 0 → s .index .blocks ≡ length (blocksTo xs (rowsIn xs))
+    blocks-are : s .fault ≡ 0 → s .blocks ≡ length (blocksTo xs (rowsIn xs))
     blocks-are z = let k = known xs (rowsIn xs) (S .fine z) in S .blocks z ∙ k .blocks ∙ k .tracks .count
 
     blocks-of : blocksTo xs (rowsIn xs) ≡ blocksOf xs
     unfolding blocksOf
     blocks-of = sym (blocks-all xs (rowsIn xs)) ∙ ap (addRows []) rows-are
 
-    fine-law : s .fault ≡ 0 → judged xs (s .index .table) (rowsIn xs) (s .fault) (s .row) (s .index .blocks) ≡ verdict xs
+    fine-law : s .fault ≡ 0 → judged xs t (rowsIn xs) (s .fault) (s .row) (s .blocks) ≡ verdict xs
     unfolding judged verdict
     fine-law z =
         let few : rowsIn xs ≤ 1024 = rows-many xs .1 in
@@ -132,10 +132,10 @@ module _ (xs : List ℕ) (s : Scan) (S : Scanned xs (rowsIn xs) s) where
         eq-else _ _ _ _ some ∙ eq-then _ _ _ _ z
         ∙ rw (length-fits, r, e9, e10, S .table z, blocks-are z, blocks-of) (sym (passes-first _ ∙ passes-first _ ∙ both-placed _ _))
 
-  pub judged-law : judged xs (s .index .table) (rowsIn xs) (s .fault) (s .row) (s .index .blocks) ≡ verdict xs
+  pub judged-law : judged xs t (rowsIn xs) (s .fault) (s .row) (s .blocks) ≡ verdict xs
   judged-law = go (ℕ-discrete (rowsIn xs) 0) (ℕ-discrete (s .fault) 0)
     where
-      go : Dec (rowsIn xs ≡ 0) → Dec (s .fault ≡ 0) → judged xs (s .index .table) (rowsIn xs) (s .fault) (s .row) (s .index .blocks) ≡ verdict xs
+      go : Dec (rowsIn xs ≡ 0) → Dec (s .fault ≡ 0) → judged xs t (rowsIn xs) (s .fault) (s .row) (s .blocks) ≡ verdict xs
       go (yes e) d = none-law e
       go (no n) (yes z) = fine-law n z
       go (no n) (no m) = found-law n m
@@ -155,15 +155,15 @@ module _ (xs : List ℕ) (s : Scan) (S : Scanned xs (rowsIn xs) s) where
           found-says : (s .fault ≡ 0 → ⊥) → verdict xs ≡ refused (s .fault) (s .row)
           found-says m = says (accepted-some v) m
 
-  table-is : verdict xs ≡ Accepted → Indexed xs (s .index .table)
+  table-is : verdict xs ≡ Accepted → Indexed xs t
   table-is a =
       let z = accepted-fine a in
       let c = count-is (accepted-some a) in
       let f : Fine xs (rowCount xs) = rw c at (S .fine z) in
       rw (S .table z, c) (indexed xs f (accepted-show xs a .totals))
 
-  pub is-checked : (v : Verdict) → v ≡ judged xs (s .index .table) (rowsIn xs) (s .fault) (s .row) (s .index .blocks)
-      → IsChecked xs (record { verdict = v; index = s .index })
+  pub is-checked : (v : Verdict) → v ≡ judged xs t (rowsIn xs) (s .fault) (s .row) (s .blocks)
+      → IsChecked xs t (record { verdict = v; blocks = s .blocks })
   is-checked v e =
       record {
         said = e ∙ judged-law;
@@ -172,20 +172,20 @@ module _ (xs : List ℕ) (s : Scan) (S : Scanned xs (rowsIn xs) s) where
       }
 
 -- The same with the number of rows under another name.
-pub rows-many-of : (xs : List ℕ) (n : ℕ) → n ≡ rowsIn xs → (n * 11 ≤ length xs) × (n ≤ 1024)
-rows-many-of xs n e = rw e (rows-many xs)
+pub pass-asks : (xs t : List ℕ) (n : ℕ) → n ≡ rowsIn xs → t ≡ replicate 512 0 → (n * 11 ≤ length xs) × (n ≤ 1024) × (t ≡ replicate 512 0)
+pass-asks xs t n e empty = let m = rows-many xs in (rw e (m .0), rw e (m .1), empty)
 
-pub checked-of : (xs : List ℕ) (n : ℕ) (s : Scan) (v : Verdict) → n ≡ rowsIn xs → Scanned xs n s
-    → v ≡ judged xs (s .index .table) n (s .fault) (s .row) (s .index .blocks) → IsChecked xs (record { verdict = v; index = s .index })
-checked-of xs n s v e S j = is-checked xs s (rw e at S) v (rw e at j)
+pub checked-of : (xs t : List ℕ) (n : ℕ) (s : Scan) (v : Verdict) → n ≡ rowsIn xs → Scanned xs n t s
+    → v ≡ judged xs t n (s .fault) (s .row) (s .blocks) → IsChecked xs t (record { verdict = v; blocks = s .blocks })
+checked-of xs t n s v e S j = is-checked xs t s (rw e at S) v (rw e at j)
 
 -- The count by the index of accepted rows.
-pub cues-law : (xs : List ℕ) (r : Checked) → IsChecked xs r → verdict xs ≡ Accepted → cuesBy (r .index) ≡ count (blocksOf xs)
+pub cues-law : (xs t : List ℕ) (r : Checked) → IsChecked xs t r → verdict xs ≡ Accepted → cuesBy t (r .blocks) ≡ count (blocksOf xs)
 unfolding cuesBy count lastBlock
-cues-law xs r c v =
+cues-law xs t r c v =
     let s : Show xs = accepted-show xs v in
     let some : 1 ≤ length (blocksOf xs) = s .blocks .0 in
-    let e : r .index .blocks ≡ length (blocksOf xs) = c .blocks v in
+    let e : r .blocks ≡ length (blocksOf xs) = c .blocks v in
     let k : length (blocksOf xs) - 1 < length (blocksOf xs) = omega arith in
-    let f : 4 * (length (blocksOf xs) - 1) + 3 ≡ (r .index .blocks - 1) * 4 + 3 = omega arith in
+    let f : 4 * (length (blocksOf xs) - 1) + 3 ≡ (r .blocks - 1) * 4 + 3 = omega arith in
     eq-else _ _ _ _ (λ z. omega arith) ∙ rw f at (c .table v .at (length (blocksOf xs) - 1) k .total)

@@ -15,7 +15,6 @@ use Rattle.row.specs.Faults.{faultOf}
 use Rattle.rules.specs.Passing.{manyOf, Many, noted, nextState, seenTo, stateTo, tableTo, Fine, Scanned}
 use Rattle.rules.specs.declared.State.{State}
 use Rattle.rules.specs.declared.Scan.{Scan}
-use Rattle.rules.specs.declared.Index.{Index}
 use Rattle.rules.proofs.Indexing.{fault-is}
 
 pub record Going (xs : List ℕ) (n : ℕ) (t : List ℕ) (s : State) (r : ℕ) : Type 0 where
@@ -25,11 +24,11 @@ pub record Going (xs : List ℕ) (n : ℕ) (t : List ℕ) (s : State) (r : ℕ) 
   pub fine : Fine xs r
   pub rest : checkRows start 1 (rowsFrom xs 0 n) ≡ checkRows (seenTo xs r) (suc r) (rowsFrom xs r (n - r))
 
-pub going-begin : (xs : List ℕ) (n : ℕ) → Going xs n (replicate 512 0) (record { blocks = 0; cues = 0; kind = 0 }) 0
+pub going-begin : (xs : List ℕ) (n : ℕ) (t : List ℕ) → t ≡ replicate 512 0 → Going xs n t (record { blocks = 0; cues = 0; kind = 0 }) 0
 unfolding tableTo stateTo seenTo
-going-begin xs n =
+going-begin xs n t empty =
     let e : n - 0 ≡ n = omega arith in
-    record { few = omega arith; table = refl; state = refl; fine = λ q h. absurd (omega arith); rest = rw e }
+    record { few = omega arith; table = empty; state = refl; fine = λ q h. absurd (omega arith); rest = rw e }
 
 rows-next : (xs : List ℕ) (n r : ℕ) → r < n → rowsFrom xs r (n - r) ≡ rowAt xs r ∷ rowsFrom xs (r + 1) (n - (r + 1))
 unfolding rowsFrom
@@ -97,13 +96,13 @@ module _ (xs : List ℕ) (n : ℕ) (t : List ℕ) (s : State) (r : ℕ) (g : Goi
   going-done h = let e : n - r ≡ 0 = omega arith in g .rest ∙ rw (e, rowsFrom)
 
 -- What the pass returns at a fault, and at the end.
-pub scanned-stop : (xs : List ℕ) (n k row : ℕ) (index : Index) → checkRows start 1 (rowsFrom xs 0 n) ≡ refused k row → (k ≡ 0 → ⊥)
-    → Scanned xs n (record { fault = k; row = row; index = index })
-scanned-stop xs n k row index e m =
+pub scanned-stop : (xs : List ℕ) (n k row blocks : ℕ) (t : List ℕ) → checkRows start 1 (rowsFrom xs 0 n) ≡ refused k row → (k ≡ 0 → ⊥)
+    → Scanned xs n t (record { fault = k; row = row; blocks = blocks })
+scanned-stop xs n k row blocks t e m =
     record { found = λ z. e; passed = λ z. absurd (m z); fine = λ z. absurd (m z); table = λ z. absurd (m z); blocks = λ z. absurd (m z) }
 
 pub scanned-done : (xs : List ℕ) (n : ℕ) (t : List ℕ) (s : State) (r : ℕ) → Going xs n t s r → n ≤ r
-    → Scanned xs n (record { fault = 0; row = 0; index = record { blocks = s .blocks; table = t } })
+    → Scanned xs n t (record { fault = 0; row = 0; blocks = s .blocks })
 scanned-done xs n t s r g h =
     let e : r ≡ n = omega (arith, g .few) in
     record {

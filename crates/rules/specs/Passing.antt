@@ -15,7 +15,6 @@ use Rattle.model.specs.declared.Verdict.the-variants.{Accepted}
 use Rattle.rules.specs.Index.{Indexed}
 use Rattle.rules.specs.declared.State.{State}
 use Rattle.rules.specs.declared.Scan.{Scan}
-use Rattle.rules.specs.declared.Index.{Index}
 use Rattle.rules.specs.declared.Checked.{Checked}
 
 -- A total, or one more than the largest where it is too large.
@@ -86,12 +85,12 @@ abbrev pub Fine : List ℕ → ℕ → Type 0
 Fine xs r = (q : ℕ) → q < r → fault (seenTo xs q) (rowAt xs q) ≡ 0
 
 -- What the pass says of n rows.
-pub record Scanned (xs : List ℕ) (n : ℕ) (r : Scan) : Type 0 where
+pub record Scanned (xs : List ℕ) (n : ℕ) (t : List ℕ) (r : Scan) : Type 0 where
   pub found : (r .fault ≡ 0 → ⊥) → checkRows start 1 (rowsFrom xs 0 n) ≡ refused (r .fault) (r .row)
   pub passed : r .fault ≡ 0 → checkRows start 1 (rowsFrom xs 0 n) ≡ Accepted
   pub fine : r .fault ≡ 0 → Fine xs n
-  pub table : r .fault ≡ 0 → r .index .table ≡ tableTo xs n
-  pub blocks : r .fault ≡ 0 → r .index .blocks ≡ stateTo xs n .blocks
+  pub table : r .fault ≡ 0 → t ≡ tableTo xs n
+  pub blocks : r .fault ≡ 0 → r .blocks ≡ stateTo xs n .blocks
 
 -- Checks 9 and 10 of block k, by the table.
 unfoldable pub ownAt : List ℕ → List ℕ → ℕ → ℕ
@@ -136,11 +135,11 @@ judged xs t n fault row blocks =
     (refused fault row))
 
 -- What the check promises: the model's verdict, and where the rows are accepted, the index of their blocks.
-pub record IsChecked (xs : List ℕ) (r : Checked) : Type 0 where
+pub record IsChecked (xs t : List ℕ) (r : Checked) : Type 0 where
   pub said : r .verdict ≡ verdict xs
-  pub blocks : verdict xs ≡ Accepted → r .index .blocks ≡ length (blocksOf xs)
-  pub table : verdict xs ≡ Accepted → Indexed xs (r .index .table)
+  pub blocks : verdict xs ≡ Accepted → r .blocks ≡ length (blocksOf xs)
+  pub table : verdict xs ≡ Accepted → Indexed xs t
 
 -- The total of the last block, by the index.
-unfoldable pub cuesBy : Index → ℕ
-cuesBy i = ifEq (i .blocks) 0 0 (getD (i .table) ((i .blocks - 1) * 4 + 3) 0)
+unfoldable pub cuesBy : List ℕ → ℕ → ℕ
+cuesBy t blocks = ifEq blocks 0 0 (getD t ((blocks - 1) * 4 + 3) 0)

@@ -5,7 +5,7 @@
 ghost use mathlib.Core.Path.{_≡_};
 ghost use mathlib.Core.Bool.{true};
 ghost use Prim.Native.Nat.{ℕ, _+_, _*_, _-_, _≤_, _<_};
-ghost use lib.ListN.{length, getD};
+ghost use lib.ListN.{length, getD, replicate};
 ghost use Rattle.rules.specs.Passing.{capped, joinsAt, manyOf, Many, cuesOf, putAt, notedOpen, notedUse, noted, nextState, Scanned, ownAt, standsAt, passesAt, rowNumber, placeFrom, rowsIn, judged, IsChecked, cuesBy};
 ghost use Rattle.model.specs.Verdicts.{refused};
 use model::Refusal;
@@ -19,16 +19,10 @@ const MAX_TOTAL: u64 = 2147483647;
 
 const MAX_TOTAL_32: u32 = 2147483647;
 
-// How many blocks the rows open, and the table.
-pub struct Index {
-    pub blocks: u32,
-    pub table: [u32; 512],
-}
-
-// The verdict on rows, and their index where they are accepted.
+// The verdict on rows, and how many blocks they open.
 pub struct Checked {
     pub verdict: Verdict,
-    pub index: Index,
+    pub blocks: u32,
 }
 
 // What is carried from row to row: how many blocks are open, how many cues the last of them has, the kind of the last row.
@@ -38,11 +32,11 @@ pub struct State {
     pub kind: u32,
 }
 
-// The first fault of 5 to 8 that was found, or 0, and its row, counted from 1.
+// The first fault of 5 to 8 that was found, or 0, and its row, counted from 1; and how many blocks were opened.
 pub struct Scan {
     pub fault: u32,
     pub row: u32,
-    pub index: Index,
+    pub blocks: u32,
 }
 
 fn wide(x: u32) -> usize
@@ -201,12 +195,11 @@ fn row_before(r: usize) -> usize
     r - 1
 }
 
-// Checks 5 to 8 of n rows in one pass, with the index of what was read.
-pub fn pass(xs: &[u32], n: usize) -> Scan
-    requires { ⌜ (n * 11 ≤ length (now xs)) × (n ≤ 1024) ⌝ }
-    ensures { λ r. ⌜ Scanned (now (xs .entry)) n r ⌝ }
+// Checks 5 to 8 of n rows in one pass, with the index of what was read in a table that was empty.
+pub fn pass(xs: &[u32], n: usize, t: &mut [u32; 512]) -> Scan
+    requires { ⌜ (n * 11 ≤ length (now xs)) × (n ≤ 1024) × (now t ≡ replicate 512 0) ⌝ }
+    ensures { λ r. ⌜ Scanned (now (xs .entry)) n (now (t .exit)) r ⌝ }
 {
-    let mut t = [0u32; 512];
     let mut s = State {
         blocks: 0,
         cues: 0,
@@ -215,29 +208,23 @@ pub fn pass(xs: &[u32], n: usize) -> Scan
     let mut r = 0;
     while r < n {
         let p = r * ROW;
-        let many = many_of(xs, &t, p, s.blocks);
+        let many = many_of(xs, t, p, s.blocks);
         let k = row::fault(xs, p, row_before(r) * ROW, s.blocks, s.cues, s.kind, many);
         if k != 0 {
             return Scan {
                 fault: k,
                 row: (r + 1) as u32,
-                index: Index {
-                    blocks: s.blocks,
-                    table: t,
-                },
+                blocks: s.blocks,
             };
         }
-        note(&mut t, xs[p], xs[p + 1], xs[p + 2], xs[p + 3], r as u32);
+        note(t, xs[p], xs[p + 1], xs[p + 2], xs[p + 3], r as u32);
         s = next_state(xs, p, s);
         r += 1;
     }
     Scan {
         fault: 0,
         row: 0,
-        index: Index {
-            blocks: s.blocks,
-            table: t,
-        },
+        blocks: s.blocks,
     }
 }
 
@@ -338,29 +325,26 @@ fn judge(xs: &[u32], t: &[u32; 512], n: usize, fault: u32, row: u32, blocks: u32
     Verdict::Accepted
 }
 
-// The verdict on lent rows, and the index of their blocks.
-pub fn check(xs: &[u32]) -> Checked
-    ensures { λ r. ⌜ IsChecked (now (xs .entry)) r ⌝ }
+// The verdict on lent rows, and the index of their blocks in a table that was empty.
+pub fn check(xs: &[u32], t: &mut [u32; 512]) -> Checked
+    requires { ⌜ now t ≡ replicate 512 0 ⌝ }
+    ensures { λ r. ⌜ IsChecked (now (xs .entry)) (now (t .exit)) r ⌝ }
 {
     let n = rows_in(xs);
-    let s = pass(xs, n);
-    let index = s.index;
-    let table = index.table;
-    let verdict = judge(xs, &table, n, s.fault, s.row, index.blocks);
+    let s = pass(xs, n, t);
+    let verdict = judge(xs, t, n, s.fault, s.row, s.blocks);
     Checked {
         verdict: verdict,
-        index: index,
+        blocks: s.blocks,
     }
 }
 
-// The total of the last block, by the index.
-pub fn cues(index: Index) -> u32
-    ensures { λ r. ⌜ r ≡ cuesBy index ⌝ }
+// The total of the last of some blocks, by the index.
+pub fn cues(t: &[u32; 512], blocks: u32) -> u32
+    ensures { λ r. ⌜ r ≡ cuesBy (now (t .entry)) blocks ⌝ }
 {
-    let blocks = index.blocks;
     if blocks == 0 {
         return 0;
     }
-    let table = index.table;
-    get(&table, wide(blocks - 1) * 4 + 3)
+    get(t, wide(blocks - 1) * 4 + 3)
 }

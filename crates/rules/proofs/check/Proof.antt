@@ -1,6 +1,6 @@
 use borrow.Author.Needs.{needs}
 use native.Mathlib.Omega.{arith}
-use Rattle.rules.proofs.Checking.{rows-many-of, checked-of}
+use Rattle.rules.proofs.Checking.{pass-asks, checked-of}
 use Rattle.rules.proofs.check.Statement.{statement}
 use Rattle.rules.proofs.check.Tie as tie
 use Rattle.rules.proofs.check.Reads as reads
@@ -15,7 +15,7 @@ rows-in-requires c κs = search needs
 
 -- src/lib.rt:346:9
 pass-requires : tie.Need-pass-requires
-pass-requires c κs = rows-many-of _ _ (c .rows-in .ensures)
+pass-requires c κs = pass-asks _ _ _ (c .before .rows-in .ensures) (c .before .before .before .pre)
 
 -- src/lib.rt:349:9
 judge-requires : tie.Need-judge-requires
@@ -23,7 +23,7 @@ judge-requires c κs = search needs
 
 -- src/lib.rt:342:1
 returns : tie.Need-returns
-returns c = search (checked-of, needs)
+returns c = checked-of _ _ _ _ _ (c .before .before .before .before .rows-in .ensures) (c .before .before .pass .ensures) (c .judge .ensures)
 
 pub check-spec : {M : Type 1} → statement M
 check-spec = tie.close (tie.spec rows-in-requires pass-requires judge-requires returns)

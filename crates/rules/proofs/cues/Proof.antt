@@ -15,10 +15,6 @@ returns : tie.Need-returns
 unfolding cuesBy
 returns c = eq-yes _ _ _ _ _ (c .if1 .taken) refl
 
--- src/lib.rt:365:9
-slice-aggregate-get : tie.Need-slice-aggregate-get
-slice-aggregate-get c = search needs
-
 -- src/lib.rt:365:22
 sub-wide : tie.Need-sub-wide
 sub-wide c = search needs
@@ -42,14 +38,13 @@ get-requires c κs = search needs
 -- src/lib.rt:357:1
 returns-2 : tie.Need-returns-2
 unfolding cuesBy
-returns-2 c = eq-no _ _ _ _ _ (c .before .before .before .before .if1 .left) (cc)
+returns-2 c = eq-no _ _ _ _ _ (c .before .before .before .if1 .left) (cc)
 
 pub cues-spec : {M : Type 1} → statement M
 cues-spec =
     tie.close
     (tie.spec
     returns
-    slice-aggregate-get
     sub-wide
     wide-requires
     mul-get

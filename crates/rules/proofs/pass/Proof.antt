@@ -23,7 +23,7 @@ abbrev μ-loop : tie.MeasureT-loop
 
 -- src/lib.rt:205:5
 loop-holds : tie.Need-loop-holds Inv-loop μ-loop
-loop-holds c = search (going-begin, needs)
+loop-holds c = going-begin _ _ _ (c .before .pre .2)
 
 -- src/lib.rt:206:17
 mul-p : tie.Need-mul-p Inv-loop μ-loop
@@ -55,7 +55,7 @@ cast-t14 c = search needs
 
 -- src/lib.rt:210:13
 returns : tie.Need-returns Inv-loop μ-loop
-returns c = scanned-stop _ _ _ _ _ (going-stop _ _ _ _ _ (c .before .before .before .before .before .before .loop .inv) _ _ _ _ (omega arith) (record { before = c .before .before .row-before .ensures; joins = c .before .before .before .many-of .ensures; number = c .before .fault .ensures }) (c .if1 .taken) refl) (c .if1 .taken)
+returns c = scanned-stop _ _ _ _ _ _ (going-stop _ _ _ _ _ (c .before .before .before .before .before .before .loop .inv) _ _ _ _ (omega arith) (record { before = c .before .before .row-before .ensures; joins = c .before .before .before .many-of .ensures; number = c .before .fault .ensures }) (c .if1 .taken) refl) (c .if1 .taken)
 
 -- src/lib.rt:219:22
 mul-note : tie.Need-mul-note Inv-loop μ-loop
