@@ -46,7 +46,6 @@ use Rattle.theory.proofs.Accepted.{accepted-show}
 use Rattle.theory.proofs.RoundTrips.{rows-fit}
 use Rattle.rules.specs.Index.{Indexed}
 use Rattle.rules.specs.Passing.{IsChecked, cuesBy}
-use Rattle.rules.specs.declared.Index.{Index}
 use Rattle.rules.specs.declared.Checked.{Checked}
 use Rattle.rules.proofs.Checking.{cues-law}
 use Rattle.cues.specs.Copies.{placeOf}
@@ -63,30 +62,30 @@ pub on-no : {A : Type 0} (xs : List ℕ) (refuse : Refusal → A) (answer : A) (
 unfolding onAccepted
 on-no xs refuse answer f e = rw e
 
-module _ (xs : List ℕ) (r : Checked) (c : IsChecked xs r) where
+module _ (xs t : List ℕ) (r : Checked) (c : IsChecked xs t r) where
   pub said-yes : r .verdict ≡ Accepted → verdict xs ≡ Accepted
   said-yes e = sym (c .said) ∙ e
 
   pub said-no : (f : Refusal) → r .verdict ≡ Refused f → verdict xs ≡ Refused f
   said-no f e = sym (c .said) ∙ e
 
-  pub count-yes : (n : ℕ) → r .verdict ≡ Accepted → n ≡ cuesBy (r .index) → ofCount (Cues n) ≡ countAsked xs
+  pub count-yes : (n : ℕ) → r .verdict ≡ Accepted → n ≡ cuesBy t (r .blocks) → ofCount (Cues n) ≡ countAsked xs
   unfolding ofCount countAsked
   count-yes n e h =
       let v = said-yes e in
-      rw (h, cues-law xs r c v) (sym (on-yes xs (λ f. returned f) (given (count (blocksOf xs) ∷ [])) v))
+      rw (h, cues-law xs t r c v) (sym (on-yes xs (λ f. returned f) (given (count (blocksOf xs) ∷ [])) v))
 
   pub count-no : (f : Refusal) → r .verdict ≡ Refused f → ofCount (CountRefused f) ≡ countAsked xs
   unfolding ofCount countAsked
   count-no f e = sym (on-no xs (λ f. returned f) (given (count (blocksOf xs) ∷ [])) f (said-no f e))
 
 -- What is ready is what was checked and accepted.
-pub ready : (xs : List ℕ) (r : Checked) → IsChecked xs r → r .verdict ≡ Accepted → Ready xs (r .index)
-ready xs r c e = let v = said-yes xs r c e in record { accepted = v; blocks = c .blocks v; table = c .table v }
+pub ready : (xs t : List ℕ) (r : Checked) → IsChecked xs t r → r .verdict ≡ Accepted → Ready xs t (r .blocks)
+ready xs t r c e = let v = said-yes xs t r c e in record { accepted = v; many = c .blocks v; table = c .table v }
 
-pub cues-ready : (xs : List ℕ) (i : Index) → Ready xs i → cuesBy i ≡ count (blocksOf xs)
-cues-ready xs i g =
-    cues-law xs (record { verdict = verdict xs; index = i }) (record { said = refl; blocks = λ v. g .blocks; table = λ v. g .table }) (g .accepted)
+pub cues-ready : (xs t : List ℕ) (blocks : ℕ) → Ready xs t blocks → cuesBy t blocks ≡ count (blocksOf xs)
+cues-ready xs t blocks g =
+    cues-law xs t (record { verdict = verdict xs; blocks = blocks }) (record { said = refl; blocks = λ v. g .many; table = λ v. g .table }) (g .accepted)
 
 -- Refusals 11 and 12, and none of them.
 module _ (lent : List ℕ) (o : Outcome) where
@@ -132,9 +131,9 @@ module _ (bs : List Block) (n : ℕ) (path : List ℕ) where
   locate-low h l = locate-no h (cue-low (count bs) n l)
 
 -- The count under another name.
-module _ (xs : List ℕ) (i : Index) (g : Ready xs i) (n : ℕ) (path : List ℕ) (cues : ℕ) (e : cues ≡ cuesBy i) where
+module _ (xs t : List ℕ) (blocks : ℕ) (g : Ready xs t blocks) (n : ℕ) (path : List ℕ) (cues : ℕ) (e : cues ≡ cuesBy t blocks) where
   pub counted : cues ≡ count (blocksOf xs)
-  counted = e ∙ cues-ready xs i g
+  counted = e ∙ cues-ready xs t blocks g
 
   pub locate-high : 127 ≤ length path → 1 ≤ n → cues < n
       → outcome (ofLocate (LocateRefused (record { number = 12; place = 0 }))) path ≡ locateIn (blocksOf xs) n path
@@ -147,26 +146,26 @@ module _ (xs : List ℕ) (i : Index) (g : Ready xs i) (n : ℕ) (path : List ℕ
   locate-found q after h l m f a =
       rw (f, a) (has-cue path _ (blocksOf xs) n (cue-yes (count (blocksOf xs)) n l (rw counted at m)) ∙ has-room path _ 127 h)
 
-pub number-asks : (xs : List ℕ) (i : Index) → Ready xs i → (verdict xs ≡ Accepted) × (Indexed xs (i .table) × (i .blocks ≡ length (blocksOf xs)))
-number-asks xs i g = (g .accepted, (g .table, g .blocks))
+pub number-asks : (xs t : List ℕ) (blocks : ℕ) → Ready xs t blocks → (verdict xs ≡ Accepted) × (Indexed xs t × (blocks ≡ length (blocksOf xs)))
+number-asks xs t blocks g = (g .accepted, (g .table, g .many))
 
-module _ (xs : List ℕ) (r : Checked) (c : IsChecked xs r) where
+module _ (xs t : List ℕ) (r : Checked) (c : IsChecked xs t r) where
   pub locate-yes : (n : ℕ) (path : List ℕ) (o : Outcome) → r .verdict ≡ Accepted → o ≡ locateIn (blocksOf xs) n path → o ≡ locateAsked xs n path
   unfolding locateAsked
-  locate-yes n path o e h = h ∙ sym (on-yes xs (λ f. refuse f path) _ (said-yes xs r c e))
+  locate-yes n path o e h = h ∙ sym (on-yes xs (λ f. refuse f path) _ (said-yes xs t r c e))
 
   pub locate-refused : (n : ℕ) (path : List ℕ) (f : Refusal) → r .verdict ≡ Refused f → outcome (ofLocate (LocateRefused f)) path ≡ locateAsked xs n path
   unfolding ofLocate locateAsked refuse
-  locate-refused n path f e = sym (on-no xs (λ f. refuse f path) _ f (said-no xs r c f e))
+  locate-refused n path f e = sym (on-no xs (λ f. refuse f path) _ f (said-no xs t r c f e))
 
   pub number-yes : (path : List ℕ) (own n : ℕ) (a : NumberAnswer) → r .verdict ≡ Accepted → n ≡ showNumber (blocksOf xs) path own → ofNumber a ≡ numbered n
       → ofNumber a ≡ numberAsked xs path own
   unfolding numberAsked
-  number-yes path own n a e h g = g ∙ rw h (sym (on-yes xs (λ f. returned f) _ (said-yes xs r c e)))
+  number-yes path own n a e h g = g ∙ rw h (sym (on-yes xs (λ f. returned f) _ (said-yes xs t r c e)))
 
   pub number-refused : (path : List ℕ) (own : ℕ) (f : Refusal) → r .verdict ≡ Refused f → ofNumber (NumberRefused f) ≡ numberAsked xs path own
   unfolding ofNumber numberAsked
-  number-refused path own f e = sym (on-no xs (λ f. returned f) _ f (said-no xs r c f e))
+  number-refused path own f e = sym (on-no xs (λ f. returned f) _ f (said-no xs t r c f e))
 
 pub number-none : (n : ℕ) → n ≡ 0 → ofNumber (NumberRefused (record { number = 13; place = 0 })) ≡ numbered n
 unfolding ofNumber numbered refusal
@@ -220,35 +219,35 @@ module _ (xs out : List ℕ) (n : ℕ) (e : n ≡ length (text xs)) where
       let q : n ≡ length (fileText (rowsOf xs)) = e ∙ ap length (same-text xs) in
       rw (a, same-text xs, q) (has-room out _ (length (fileText (rowsOf xs))) (rw q at h))
 
-module _ (xs : List ℕ) (r : Checked) (c : IsChecked xs r) where
+module _ (xs t : List ℕ) (r : Checked) (c : IsChecked xs t r) where
   pub write-yes : (out : List ℕ) (o : Outcome) → r .verdict ≡ Accepted → o ≡ writeInto (fileText (rowsOf xs)) out → o ≡ writeAsked xs out
   unfolding writeAsked
-  write-yes out o e h = h ∙ sym (on-yes xs (λ f. refuse f out) _ (said-yes xs r c e))
+  write-yes out o e h = h ∙ sym (on-yes xs (λ f. refuse f out) _ (said-yes xs t r c e))
 
   pub write-refused : (out : List ℕ) (f : Refusal) → r .verdict ≡ Refused f → outcome (ofWrite (WriteRefused f)) out ≡ writeAsked xs out
   unfolding ofWrite writeAsked refuse
-  write-refused out f e = sym (on-no xs (λ f. refuse f out) _ f (said-no xs r c f e))
+  write-refused out f e = sym (on-no xs (λ f. refuse f out) _ f (said-no xs t r c f e))
 
 -- Reading.
-module _ (xs : List ℕ) (i : Index) (g : Ready xs i) (out : List ℕ) where
+module _ (xs t : List ℕ) (blocks : ℕ) (g : Ready xs t blocks) (out : List ℕ) where
   pub read-room : length out < length xs → outcome (ofRead (ReadRefused (record { number = 11; place = 0 }))) out ≡ readInto xs out
   unfolding ofRead readInto refuse refusal
   read-room h = no-room out _ (length xs) h
 
-  pub read-done : (after : List ℕ) (cues : ℕ) → length xs ≤ length out → after ≡ overwrite xs out → cues ≡ cuesBy i
-      → outcome (ofRead (Read (length xs / 11) (i .blocks) cues)) after ≡ readInto xs out
+  pub read-done : (after : List ℕ) (cues : ℕ) → length xs ≤ length out → after ≡ overwrite xs out → cues ≡ cuesBy t blocks
+      → outcome (ofRead (Read (length xs / 11) blocks cues)) after ≡ readInto xs out
   unfolding ofRead readInto answer rowCount
   read-done after cues h a e =
-      rw (a, e, cues-ready xs i g, g .blocks) (has-room out _ (length xs) h)
+      rw (a, e, cues-ready xs t blocks g, g .many) (has-room out _ (length xs) h)
 
-module _ (xs : List ℕ) (r : Checked) (c : IsChecked xs r) where
+module _ (xs t : List ℕ) (r : Checked) (c : IsChecked xs t r) where
   pub read-yes : (out : List ℕ) (o : Outcome) → r .verdict ≡ Accepted → o ≡ readInto xs out → o ≡ readNumbers xs out
   unfolding readNumbers inLines onAccepted
-  read-yes out o e h = rw (said-yes xs r c e) h
+  read-yes out o e h = rw (said-yes xs t r c e) h
 
   pub read-refused : (out : List ℕ) (f f′ : Refusal) → r .verdict ≡ Refused f → f′ ≡ byLine f → outcome (ofRead (ReadRefused f′)) out ≡ readNumbers xs out
   unfolding ofRead readNumbers inLines onAccepted refuse
-  read-refused out f f′ e h = rw (said-no xs r c f e, h)
+  read-refused out f f′ e h = rw (said-no xs t r c f e, h)
 
   pub refused-few : (f : Refusal) → r .verdict ≡ Refused f → f .place ≤ 1024
-  refused-few f e = place-few xs f (said-no xs r c f e)
+  refused-few f e = place-few xs f (said-no xs t r c f e)

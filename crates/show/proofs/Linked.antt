@@ -44,7 +44,6 @@ use Rattle.theory.proofs.Numbering.{numbering}
 use Rattle.theory.proofs.Passed.{is-cue}
 use Rattle.rules.specs.Index.{Indexed}
 use Rattle.rules.specs.Passing.{IsChecked, cuesBy}
-use Rattle.rules.specs.declared.Index.{Index}
 use Rattle.rules.specs.declared.Checked.{Checked}
 use Rattle.cues.specs.Copies.{placeOf}
 use Rattle.cues.specs.declared.Place.{Place}
@@ -87,19 +86,19 @@ pub leads-same : (xs : List ℕ) (v : ℕ) (path : List ℕ) (depth own d : ℕ)
 leads-same xs v path depth own d w e = rw e w
 
 -- A number that passes the test of a cue is one.
-module _ (xs : List ℕ) (i : Index) (g : Ready xs i) (v cues : ℕ) (b : Bool) (q : b ≡ isCue cues v) (e : cues ≡ cuesBy i) where
+module _ (xs t : List ℕ) (blocks : ℕ) (g : Ready xs t blocks) (v cues : ℕ) (b : Bool) (q : b ≡ isCue cues v) (e : cues ≡ cuesBy t blocks) where
   shown : isCue cues v ≡ isCue (count (blocksOf xs)) v
-  shown = rw (e, cues-ready xs i g)
+  shown = rw (e, cues-ready xs t blocks g)
 
-  pub holds : b ≡ true → Holds xs (i .table) (i .blocks) v
+  pub holds : b ≡ true → Holds xs t blocks v
   holds k =
       let c = is-cue cues v (sym q ∙ k) in
       record {
         accepted = g .accepted;
         table = g .table;
-        many = g .blocks;
+        many = g .many;
         low = c .0;
-        high = rw (e, cues-ready xs i g) at (c .1);
+        high = rw (e, cues-ready xs t blocks g) at (c .1);
       }
 
   -- What is no cue has no list.
@@ -123,16 +122,16 @@ pub list-asks : (xs t : List ℕ) (blocks v : ℕ) (path : List ℕ) (depth own 
 list-asks xs t blocks v path depth own h w =
     ((h .accepted, h .table, h .many), (omega (arith, w .size, w .deep), λ z. omega (arith, h .low, w .leads, z)))
 
-module _ (xs : List ℕ) (r : Checked) (c : IsChecked xs r) where
+module _ (xs table : List ℕ) (r : Checked) (c : IsChecked xs table r) where
   pub list-yes : (inward : Bool) (v n : ℕ) (page : List ℕ) (o : Outcome) → r .verdict ≡ Accepted → o ≡ listOf inward (blocksOf xs) v n page
       → o ≡ listAsked inward xs v n page
   unfolding listAsked
-  list-yes inward v n page o e h = h ∙ sym (on-yes xs (λ f. refuse f page) _ (said-yes xs r c e))
+  list-yes inward v n page o e h = h ∙ sym (on-yes xs (λ f. refuse f page) _ (said-yes xs table r c e))
 
   pub list-refused : (inward : Bool) (v n : ℕ) (page : List ℕ) (f : Refusal) → r .verdict ≡ Refused f
       → outcome (ofList (ListRefused f)) page ≡ listAsked inward xs v n page
   unfolding ofList listAsked refuse
-  list-refused inward v n page f e = sym (on-no xs (λ f. refuse f page) _ f (said-no xs r c f e))
+  list-refused inward v n page f e = sym (on-no xs (λ f. refuse f page) _ f (said-no xs table r c f e))
 
 -- Out and in.
 pub list-out : (xs : List ℕ) (v n : ℕ) (page : List ℕ) (inward : Bool) (o : Outcome) → inward ≡ false → o ≡ listAsked inward xs v n page → o ≡ outAsked xs v n page
@@ -188,32 +187,32 @@ pub fewest-room : (bs : List Block) (s t : ℕ) (work : List ℕ) → length wor
 unfolding ofFewest fewestIn refuse refusal
 fewest-room bs s t work h = no-room work _ 16384 h
 
-module _ (xs : List ℕ) (i : Index) (g : Ready xs i) (s t cues : ℕ) (work : List ℕ) (b : Bool) (q : b ≡ isCue cues s) (e : cues ≡ cuesBy i) (h : 16384 ≤ length work) where
+module _ (xs table : List ℕ) (blocks : ℕ) (g : Ready xs table blocks) (s t cues : ℕ) (work : List ℕ) (b : Bool) (q : b ≡ isCue cues s) (e : cues ≡ cuesBy table blocks) (h : 16384 ≤ length work) where
   pub fewest-from : b ≡ false → outcome (ofFewest (FewestRefused (record { number = 12; place = 0 }))) work ≡ fewestIn (blocksOf xs) s t work
   unfolding ofFewest fewestIn refuse refusal
-  fewest-from k = no-cue work _ (blocksOf xs) s (sym (shown xs i g s cues b q e) ∙ sym q ∙ k) ∙ has-room work _ 16384 h
+  fewest-from k = no-cue work _ (blocksOf xs) s (sym (shown xs table blocks g s cues b q e) ∙ sym q ∙ k) ∙ has-room work _ 16384 h
 
   pub fewest-to : (d : Bool) → b ≡ true → d ≡ isCue cues t → d ≡ false
       → outcome (ofFewest (FewestRefused (record { number = 12; place = 0 }))) work ≡ fewestIn (blocksOf xs) s t work
   unfolding ofFewest fewestIn refuse refusal
   fewest-to d k p l =
-      no-cue work _ (blocksOf xs) t (sym (shown xs i g t cues d p e) ∙ sym p ∙ l)
-      ∙ has-cue work _ (blocksOf xs) s (sym (shown xs i g s cues b q e) ∙ sym q ∙ k)
+      no-cue work _ (blocksOf xs) t (sym (shown xs table blocks g t cues d p e) ∙ sym p ∙ l)
+      ∙ has-cue work _ (blocksOf xs) s (sym (shown xs table blocks g s cues b q e) ∙ sym q ∙ k)
       ∙ has-room work _ 16384 h
 
   pub fewest-done : (d : Bool) (o : Outcome) → b ≡ true → d ≡ isCue cues t → d ≡ true → o ≡ between (blocksOf xs) s t work → o ≡ fewestIn (blocksOf xs) s t work
   unfolding fewestIn between
   fewest-done d o k p l f =
       f
-      ∙ has-cue work _ (blocksOf xs) t (sym (shown xs i g t cues d p e) ∙ sym p ∙ l)
-      ∙ has-cue work _ (blocksOf xs) s (sym (shown xs i g s cues b q e) ∙ sym q ∙ k)
+      ∙ has-cue work _ (blocksOf xs) t (sym (shown xs table blocks g t cues d p e) ∙ sym p ∙ l)
+      ∙ has-cue work _ (blocksOf xs) s (sym (shown xs table blocks g s cues b q e) ∙ sym q ∙ k)
       ∙ has-room work _ 16384 h
 
-module _ (xs : List ℕ) (r : Checked) (c : IsChecked xs r) where
+module _ (xs table : List ℕ) (r : Checked) (c : IsChecked xs table r) where
   pub fewest-yes : (s t : ℕ) (work : List ℕ) (o : Outcome) → r .verdict ≡ Accepted → o ≡ fewestIn (blocksOf xs) s t work → o ≡ fewestAsked xs s t work
   unfolding fewestAsked
-  fewest-yes s t work o e h = h ∙ sym (on-yes xs (λ f. refuse f work) _ (said-yes xs r c e))
+  fewest-yes s t work o e h = h ∙ sym (on-yes xs (λ f. refuse f work) _ (said-yes xs table r c e))
 
   pub fewest-refused : (s t : ℕ) (work : List ℕ) (f : Refusal) → r .verdict ≡ Refused f → outcome (ofFewest (FewestRefused f)) work ≡ fewestAsked xs s t work
   unfolding ofFewest fewestAsked refuse
-  fewest-refused s t work f e = sym (on-no xs (λ f. refuse f work) _ f (said-no xs r c f e))
+  fewest-refused s t work f e = sym (on-no xs (λ f. refuse f work) _ f (said-no xs table r c f e))

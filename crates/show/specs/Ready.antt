@@ -8,12 +8,11 @@ use Rattle.model.specs.Verdicts.{verdict, inLines}
 use Rattle.model.specs.Questions.{Outcome, refuse, onAccepted, readInto}
 use Rattle.model.specs.declared.Verdict.the-variants.{Accepted}
 use Rattle.rules.specs.Index.{Indexed}
-use Rattle.rules.specs.declared.Index.{Index}
 
-pub record Ready (xs : List ℕ) (i : Index) : Type 0 where
+pub record Ready (xs t : List ℕ) (blocks : ℕ) : Type 0 where
   pub accepted : verdict xs ≡ Accepted
-  pub blocks : i .blocks ≡ length (blocksOf xs)
-  pub table : Indexed xs (i .table)
+  pub many : blocks ≡ length (blocksOf xs)
+  pub table : Indexed xs t
 
 -- What reading answers for the numbers that a file has.
 unfoldable pub readNumbers : List ℕ → List ℕ → Outcome

@@ -27,24 +27,30 @@ use model::ReadAnswer;
 use model::Refusal;
 use model::Verdict;
 use model::WriteAnswer;
-use rules::Index;
 
 // The count of cues.
 pub fn count(rows: &[u32]) -> CountAnswer
     ensures { λ r. ⌜ ofCount r ≡ countAsked (now (rows .entry)) ⌝ }
 {
-    let checked = rules::check(rows);
+    let mut table = [0u32; 512];
+    let checked = rules::check(rows, &mut table);
+    let blocks = checked.blocks;
     let verdict = checked.verdict;
-    let index = checked.index;
     match verdict {
-        Verdict::Accepted => CountAnswer::Cues(rules::cues(index)),
+        Verdict::Accepted => CountAnswer::Cues(rules::cues(&table, blocks)),
         Verdict::Refused(refusal) => CountAnswer::Refused(refusal),
     }
 }
 
 // Cue n of accepted rows.
-fn locate_in(rows: &[u32], index: Index, n: u32, path: &mut [u32]) -> LocateAnswer
-    requires { ⌜ Ready (now rows) index ⌝ }
+fn locate_in(
+    rows: &[u32],
+    table: &[u32; 512],
+    blocks: u32,
+    n: u32,
+    path: &mut [u32],
+) -> LocateAnswer
+    requires { ⌜ Ready (now rows) (now table) blocks ⌝ }
     ensures { λ r. ⌜ outcome (ofLocate r) (now (path .exit)) ≡ locateIn (blocksOf (now (rows .entry))) n (now (path .entry)) ⌝ }
 {
     if path.len() < 127 {
@@ -53,7 +59,7 @@ fn locate_in(rows: &[u32], index: Index, n: u32, path: &mut [u32]) -> LocateAnsw
             place: 0,
         });
     }
-    let cues = rules::cues(index);
+    let cues = rules::cues(table, blocks);
     if n < 1 {
         return LocateAnswer::Refused(Refusal {
             number: 12,
@@ -66,8 +72,7 @@ fn locate_in(rows: &[u32], index: Index, n: u32, path: &mut [u32]) -> LocateAnsw
             place: 0,
         });
     }
-    let table = index.table;
-    let place = cues::locate(rows, &table, index.blocks, n, path);
+    let place = cues::locate(rows, table, blocks, n, path);
     LocateAnswer::Found(place.depth, place.block, place.own)
 }
 
@@ -75,11 +80,12 @@ fn locate_in(rows: &[u32], index: Index, n: u32, path: &mut [u32]) -> LocateAnsw
 pub fn locate(rows: &[u32], n: u32, path: &mut [u32]) -> LocateAnswer
     ensures { λ r. ⌜ outcome (ofLocate r) (now (path .exit)) ≡ locateAsked (now (rows .entry)) n (now (path .entry)) ⌝ }
 {
-    let checked = rules::check(rows);
+    let mut table = [0u32; 512];
+    let checked = rules::check(rows, &mut table);
+    let blocks = checked.blocks;
     let verdict = checked.verdict;
-    let index = checked.index;
     match verdict {
-        Verdict::Accepted => locate_in(rows, index, n, path),
+        Verdict::Accepted => locate_in(rows, &table, blocks, n, path),
         Verdict::Refused(refusal) => LocateAnswer::Refused(refusal),
     }
 }
@@ -101,14 +107,12 @@ fn number_of(n: u32) -> NumberAnswer
 pub fn number(rows: &[u32], path: &[u32], own: u32) -> NumberAnswer
     ensures { λ r. ⌜ ofNumber r ≡ numberAsked (now (rows .entry)) (now (path .entry)) own ⌝ }
 {
-    let checked = rules::check(rows);
+    let mut table = [0u32; 512];
+    let checked = rules::check(rows, &mut table);
+    let blocks = checked.blocks;
     let verdict = checked.verdict;
-    let index = checked.index;
     match verdict {
-        Verdict::Accepted => {
-            let table = index.table;
-            number_of(cues::number(rows, &table, index.blocks, path, own))
-        }
+        Verdict::Accepted => { number_of(cues::number(rows, &table, blocks, path, own)) }
         Verdict::Refused(refusal) => NumberAnswer::Refused(refusal),
     }
 }
@@ -140,8 +144,8 @@ fn copy(from: &[u32], to: &mut [u32])
 }
 
 // Accepted rows that a file has, handed out.
-fn hand_out(numbers: &[u32], index: Index, rows: &mut [u32]) -> ReadAnswer
-    requires { ⌜ Ready (now numbers) index ⌝ }
+fn hand_out(numbers: &[u32], table: &[u32; 512], blocks: u32, rows: &mut [u32]) -> ReadAnswer
+    requires { ⌜ Ready (now numbers) (now table) blocks ⌝ }
     ensures { λ r. ⌜ outcome (ofRead r) (now (rows .exit)) ≡ readInto (now (numbers .entry)) (now (rows .entry)) ⌝ }
 {
     if rows.len() < numbers.len() {
@@ -152,18 +156,19 @@ fn hand_out(numbers: &[u32], index: Index, rows: &mut [u32]) -> ReadAnswer
     }
     copy(numbers, rows);
     let many = numbers.len() / 11;
-    ReadAnswer::Read(many as u32, index.blocks, rules::cues(index))
+    ReadAnswer::Read(many as u32, blocks, rules::cues(table, blocks))
 }
 
 // The rows that a file has, checked and handed out.
 fn read_rows(numbers: &[u32], rows: &mut [u32]) -> ReadAnswer
     ensures { λ r. ⌜ outcome (ofRead r) (now (rows .exit)) ≡ readNumbers (now (numbers .entry)) (now (rows .entry)) ⌝ }
 {
-    let checked = rules::check(numbers);
+    let mut table = [0u32; 512];
+    let checked = rules::check(numbers, &mut table);
+    let blocks = checked.blocks;
     let verdict = checked.verdict;
-    let index = checked.index;
     match verdict {
-        Verdict::Accepted => hand_out(numbers, index, rows),
+        Verdict::Accepted => hand_out(numbers, &table, blocks, rows),
         Verdict::Refused(refusal) => ReadAnswer::Refused(by_line(refusal)),
     }
 }
@@ -209,7 +214,8 @@ fn write_rows(rows: &[u32], out: &mut [u8]) -> WriteAnswer
 pub fn write(rows: &[u32], out: &mut [u8]) -> WriteAnswer
     ensures { λ r. ⌜ outcome (ofWrite r) (now (out .exit)) ≡ writeAsked (now (rows .entry)) (now (out .entry)) ⌝ }
 {
-    let checked = rules::check(rows);
+    let mut table = [0u32; 512];
+    let checked = rules::check(rows, &mut table);
     let verdict = checked.verdict;
     match verdict {
         Verdict::Accepted => write_rows(rows, out),
@@ -245,25 +251,31 @@ fn find(rows: &[u32], table: &[u32; 512], blocks: u32, v: u32, path: &mut [u32; 
 }
 
 // The list of cue v of accepted rows.
-fn list_of(rows: &[u32], index: Index, inward: bool, v: u32, n: u32, page: &mut [u32]) -> ListAnswer
-    requires { ⌜ Ready (now rows) index ⌝ }
+fn list_of(
+    rows: &[u32],
+    table: &[u32; 512],
+    blocks: u32,
+    inward: bool,
+    v: u32,
+    n: u32,
+    page: &mut [u32],
+) -> ListAnswer
+    requires { ⌜ Ready (now rows) (now table) blocks ⌝ }
     ensures { λ r. ⌜ outcome (ofList r) (now (page .exit)) ≡ listOf inward (blocksOf (now (rows .entry))) v n (now (page .entry)) ⌝ }
 {
-    let known = is_cue(rules::cues(index), v);
+    let known = is_cue(rules::cues(table, blocks), v);
     if !known {
         return ListAnswer::Refused(Refusal {
             number: 12,
             place: 0,
         });
     }
-    let table = index.table;
-    let blocks = index.blocks;
     let mut path = [0u32; 127];
-    let place = find(rows, &table, blocks, v, &mut path);
+    let place = find(rows, table, blocks, v, &mut path);
     let depth = wide(place.depth);
     let listed = links::list(
         rows,
-        &table,
+        table,
         blocks,
         inward,
         &path,
@@ -279,11 +291,12 @@ fn list_of(rows: &[u32], index: Index, inward: bool, v: u32, n: u32, page: &mut 
 fn list(rows: &[u32], inward: bool, v: u32, n: u32, page: &mut [u32]) -> ListAnswer
     ensures { λ r. ⌜ outcome (ofList r) (now (page .exit)) ≡ listAsked inward (now (rows .entry)) v n (now (page .entry)) ⌝ }
 {
-    let checked = rules::check(rows);
+    let mut table = [0u32; 512];
+    let checked = rules::check(rows, &mut table);
+    let blocks = checked.blocks;
     let verdict = checked.verdict;
-    let index = checked.index;
     match verdict {
-        Verdict::Accepted => list_of(rows, index, inward, v, n, page),
+        Verdict::Accepted => list_of(rows, &table, blocks, inward, v, n, page),
         Verdict::Refused(refusal) => ListAnswer::Refused(refusal),
     }
 }
@@ -347,8 +360,15 @@ fn least(
 }
 
 // The fewest follow-ons from cue s to cue t of accepted rows.
-fn fewest_in(rows: &[u32], index: Index, s: u32, t: u32, work: &mut [u32]) -> FewestAnswer
-    requires { ⌜ Ready (now rows) index ⌝ }
+fn fewest_in(
+    rows: &[u32],
+    table: &[u32; 512],
+    blocks: u32,
+    s: u32,
+    t: u32,
+    work: &mut [u32],
+) -> FewestAnswer
+    requires { ⌜ Ready (now rows) (now table) blocks ⌝ }
     ensures { λ r. ⌜ outcome (ofFewest r) (now (work .exit)) ≡ fewestIn (blocksOf (now (rows .entry))) s t (now (work .entry)) ⌝ }
 {
     if work.len() < 16384 {
@@ -357,7 +377,7 @@ fn fewest_in(rows: &[u32], index: Index, s: u32, t: u32, work: &mut [u32]) -> Fe
             place: 0,
         });
     }
-    let cues = rules::cues(index);
+    let cues = rules::cues(table, blocks);
     let starts = is_cue(cues, s);
     if !starts {
         return FewestAnswer::Refused(Refusal {
@@ -372,19 +392,19 @@ fn fewest_in(rows: &[u32], index: Index, s: u32, t: u32, work: &mut [u32]) -> Fe
             place: 0,
         });
     }
-    let table = index.table;
-    least(rows, &table, index.blocks, s, t, work)
+    least(rows, table, blocks, s, t, work)
 }
 
 // The fewest follow-ons from cue s to cue t, or none. The work area holds the summaries of all blocks afterwards.
 pub fn fewest(rows: &[u32], s: u32, t: u32, work: &mut [u32]) -> FewestAnswer
     ensures { λ r. ⌜ outcome (ofFewest r) (now (work .exit)) ≡ fewestAsked (now (rows .entry)) s t (now (work .entry)) ⌝ }
 {
-    let checked = rules::check(rows);
+    let mut table = [0u32; 512];
+    let checked = rules::check(rows, &mut table);
+    let blocks = checked.blocks;
     let verdict = checked.verdict;
-    let index = checked.index;
     match verdict {
-        Verdict::Accepted => fewest_in(rows, index, s, t, work),
+        Verdict::Accepted => fewest_in(rows, &table, blocks, s, t, work),
         Verdict::Refused(refusal) => FewestAnswer::Refused(refusal),
     }
 }

@@ -25,7 +25,7 @@ is-cue-requires c κs = search needs
 -- src/lib.rt:363:9
 returns-2 : tie.Need-returns-2
 returns-2 c =
-    fewest-from _ _ (c .before .before .before .before .before .before .pre) _ _ _ _ _ (c .before .is-cue .ensures) (c .before .before .cues .ensures) (omega arith) (not-true _ (c .if2 .taken))
+    fewest-from _ _ _ (c .before .before .before .before .before .before .pre) _ _ _ _ _ (c .before .is-cue .ensures) (c .before .before .cues .ensures) (omega arith) (not-true _ (c .if2 .taken))
 
 -- src/lib.rt:368:9
 is-cue-requires-2 : tie.Need-is-cue-requires-2
@@ -34,15 +34,12 @@ is-cue-requires-2 c κs = search needs
 -- src/lib.rt:370:9
 returns-3 : tie.Need-returns-3
 returns-3 c =
-    fewest-to _ _ (c .before .before .before .before .before .before .before .before .pre) _ _ _ _ _ (c .before .before .before .is-cue .ensures) (c .before .before .before .before .cues .ensures) (omega arith) _ (not-false _ (c .before .before .if2 .left)) (c .before .is-cue2 .ensures) (not-true _ (c .if3 .taken))
+    fewest-to _ _ _ (c .before .before .before .before .before .before .before .before .pre) _ _ _ _ _ (c .before .before .before .is-cue .ensures) (c .before .before .before .before .cues .ensures) (omega arith) _ (not-false _ (c .before .before .if2 .left)) (c .before .is-cue2 .ensures) (not-true _ (c .if3 .taken))
 
 -- src/lib.rt:376:5
 least-requires : tie.Need-least-requires
-least-requires c κs = (
-  holds _ _ (c .before .before .before .before .before .before .before .before .before .before .before .pre) _ _ _ (c .before .before .before .before .before .before .is-cue .ensures) (c .before .before .before .before .before .before .before .cues .ensures) (not-false _ (c .before .before .before .before .before .if2 .left)),
-  holds _ _ (c .before .before .before .before .before .before .before .before .before .before .before .pre) _ _ _ (c .before .before .before .before .is-cue2 .ensures) (c .before .before .before .before .before .before .before .cues .ensures) (not-false _ (c .before .before .before .if3 .left)),
-  omega arith,
-)
+least-requires c κs =
+    (holds _ _ _ (c .before .before .before .before .before .before .before .before .before .pre) _ _ _ (c .before .before .before .before .is-cue .ensures) (c .before .before .before .before .before .cues .ensures) (not-false _ (c .before .before .before .if2 .left)), holds _ _ _ (c .before .before .before .before .before .before .before .before .before .pre) _ _ _ (c .before .before .is-cue2 .ensures) (c .before .before .before .before .before .cues .ensures) (not-false _ (c .before .if3 .left)), omega arith)
 
 -- src/lib.rt:350:1
 same-length : tie.Need-same-length
@@ -51,7 +48,7 @@ same-length c = search needs
 -- src/lib.rt:350:1
 returns-4 : tie.Need-returns-4
 returns-4 c =
-    fewest-done _ _ (c .before .before .before .before .before .before .before .before .before .before .before .before .before .before .pre) _ _ _ _ _ (c .before .before .before .before .before .before .before .before .before .is-cue .ensures) (c .before .before .before .before .before .before .before .before .before .before .cues .ensures) (omega arith) _ _ (not-false _ (c .before .before .before .before .before .before .before .before .if2 .left)) (c .before .before .before .before .before .before .before .is-cue2 .ensures) (not-false _ (c .before .before .before .before .before .before .if3 .left)) (c .before .before .least .ensures)
+    fewest-done _ _ _ (c .before .before .before .before .before .before .before .before .before .before .before .before .pre) _ _ _ _ _ (c .before .before .before .before .before .before .before .is-cue .ensures) (c .before .before .before .before .before .before .before .before .cues .ensures) (omega arith) _ _ (not-false _ (c .before .before .before .before .before .before .if2 .left)) (c .before .before .before .before .before .is-cue2 .ensures) (not-false _ (c .before .before .before .before .if3 .left)) (c .before .before .least .ensures)
 
 pub fewest-in-spec : {M : Type 1} → statement M
 fewest-in-spec =

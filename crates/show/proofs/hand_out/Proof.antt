@@ -17,8 +17,8 @@ copy-requires : tie.Need-copy-requires
 copy-requires c κs = search needs
 
 -- src/lib.rt:148:22
-cast-t12 : tie.Need-cast-t12
-cast-t12 c = omega (arith, rows-few _ (c .before .before .before .before .before .before .before .pre .accepted))
+cast-t13 : tie.Need-cast-t13
+cast-t13 c = omega (arith, rows-few _ (c .before .before .before .before .before .before .before .pre .accepted))
 
 -- src/lib.rt:148:49
 cues-requires : tie.Need-cues-requires
@@ -34,4 +34,4 @@ returns-2 c = search (read-done, needs)
 
 pub hand-out-spec : {M : Type 1} → statement M
 hand-out-spec =
-    tie.close (tie.spec returns copy-requires cast-t12 cues-requires same-length returns-2)
+    tie.close (tie.spec returns copy-requires cast-t13 cues-requires same-length returns-2)

@@ -23,12 +23,12 @@ is-cue-requires c κs = search needs
 -- src/lib.rt:254:9
 returns : tie.Need-returns
 returns c =
-    list-no _ _ (c .before .before .before .before .before .pre) _ _ _ (c .before .is-cue .ensures) (c .before .before .cues .ensures) _ _ _ (not-true _ (c .if1 .taken))
+    list-no _ _ _ (c .before .before .before .before .before .pre) _ _ _ (c .before .is-cue .ensures) (c .before .before .cues .ensures) _ _ _ (not-true _ (c .if1 .taken))
 
 -- src/lib.rt:262:9
 find-requires : tie.Need-find-requires
 find-requires c κs =
-    holds _ _ (c .before .before .before .before .before .before .before .before .pre) _ _ _ (c .before .before .before .before .is-cue .ensures) (c .before .before .before .before .before .cues .ensures) (not-false _ (c .before .before .before .if1 .left))
+    holds _ _ _ (c .before .before .before .before .before .before .pre) _ _ _ (c .before .before .is-cue .ensures) (c .before .before .before .cues .ensures) (not-false _ (c .before .if1 .left))
 
 -- src/lib.rt:263:9
 wide-requires : tie.Need-wide-requires
@@ -41,8 +41,8 @@ slice-aggregate-list c = search needs
 -- src/lib.rt:264:9
 list-requires : tie.Need-list-requires
 list-requires c κs =
-    list-asks _ _ _ _ _ _ _ (holds _ _ (c .before .before .before .before .before .before .before .before .before .before .before .before .before .pre) _ _ _ (c .before .before .before .before .before .before .before .before .before .is-cue .ensures) (c .before .before .before .before .before .before .before .before .before .before .cues .ensures) (not-false _ (c .before .before .before .before .before .before .before .before .if1 .left)))
-    (leads-same _ _ _ _ _ _ (c .before .before .before .before .find .ensures) (c .before .before .before .wide .ensures .0))
+    list-asks _ _ _ _ _ _ _ (holds _ _ _ (c .before .before .before .before .before .before .before .before .before .before .pre) _ _ _ (c .before .before .before .before .before .before .is-cue .ensures) (c .before .before .before .before .before .before .before .cues .ensures) (not-false _ (c .before .before .before .before .before .if1 .left)))
+    (leads-same _ _ _ _ _ _ (c .before .before .before .find .ensures) (c .before .before .wide .ensures .0))
 
 -- src/lib.rt:248:1
 same-length : tie.Need-same-length
@@ -51,8 +51,8 @@ same-length c = search needs
 -- src/lib.rt:248:1
 returns-2 : tie.Need-returns-2
 returns-2 c =
-    list-done _ _ (c .before .before .before .before .before .before .before .before .before .before .before .before .before .before .before .before .pre) _ _ _ (c .before .before .before .before .before .before .before .before .before .before .before .before .is-cue .ensures) (c .before .before .before .before .before .before .before .before .before .before .before .before .before .cues .ensures) _ _ _ _ _ _ _ _ (not-false _ (c .before .before .before .before .before .before .before .before .before .before .before .if1 .left))
-    (leads-same _ _ _ _ _ _ (c .before .before .before .before .before .before .before .find .ensures) (c .before .before .before .before .before .before .wide .ensures .0)) (c .before .before .list .ensures)
+    list-done _ _ _ (c .before .before .before .before .before .before .before .before .before .before .before .before .before .pre) _ _ _ (c .before .before .before .before .before .before .before .before .before .is-cue .ensures) (c .before .before .before .before .before .before .before .before .before .before .cues .ensures) _ _ _ _ _ _ _ _ (not-false _ (c .before .before .before .before .before .before .before .before .if1 .left))
+    (leads-same _ _ _ _ _ _ (c .before .before .before .before .before .before .find .ensures) (c .before .before .before .before .before .wide .ensures .0)) (c .before .before .list .ensures)
 
 pub list-of-spec : {M : Type 1} → statement M
 list-of-spec =

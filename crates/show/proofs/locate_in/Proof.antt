@@ -27,7 +27,9 @@ returns-3 c = search (locate-high, needs)
 
 -- src/lib.rt:58:9
 locate-requires : tie.Need-locate-requires
-locate-requires c κs = (c .before .before .before .before .before .before .before .before .before .pre .accepted, (c .before .before .before .before .before .before .before .before .before .pre .table, (c .before .before .before .before .before .before .before .before .before .pre .blocks, (omega arith, (omega (arith, c .before .before .before .before .before .cues .ensures ∙ cues-ready _ _ (c .before .before .before .before .before .before .before .before .before .pre)), omega arith)))))
+locate-requires c κs =
+    let g = c .before .before .before .before .before .before .before .pre in
+    (g .accepted, (g .table, (g .many, (omega arith, (omega (arith, c .before .before .before .cues .ensures ∙ cues-ready _ _ _ g), omega arith)))))
 
 -- src/lib.rt:34:1
 same-length : tie.Need-same-length

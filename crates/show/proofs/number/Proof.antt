@@ -20,7 +20,8 @@ enum-told c = search needs
 
 -- src/lib.rt:98:23
 number-requires : tie.Need-number-requires
-number-requires c κs = number-asks _ _ (ready _ _ (c .before .before .before .before .before .check .ensures) (search needs))
+number-requires c κs =
+    number-asks _ _ _ (ready _ _ _ (c .before .before .before .check .ensures) (search needs))
 
 -- src/lib.rt:98:13
 number-of-requires : tie.Need-number-of-requires
