@@ -5,6 +5,7 @@ pub mod compare;
 pub mod gen;
 pub mod limits;
 pub mod naive;
+pub mod picture;
 pub mod plain;
 pub mod question;
 pub mod race;

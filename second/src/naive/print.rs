@@ -7,7 +7,8 @@ use super::file::parse;
 use super::unfold::unfold;
 use crate::limits::Refusal;
 
-const MOST_CUES: u64 = 1000;
+/// With more cues the links are not printed.
+pub const MOST_CUES: u64 = 1000;
 
 /// The blocks of a file; a refused row is named by its line.
 pub fn blocks_of(file: &[u8]) -> Result<Vec<Block>, Refusal> {

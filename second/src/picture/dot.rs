@@ -1,0 +1,75 @@
+//! Lines of Graphviz text, set in by how deep they stand.
+
+/// What all pictures have in common: rows from left to right, round cues.
+const LOOK: [&str; 4] = [
+    "graph [rankdir=LR, newrank=true, labelloc=t, labeljust=l, nodesep=0.35, bgcolor=white];",
+    "graph [fontname=\"Helvetica\", style=\"rounded,filled\", color=\"#8c8c8c\"];",
+    "node [fontname=\"Helvetica\", fontsize=12, shape=circle, style=filled, fillcolor=white];",
+    "edge [fontname=\"Helvetica\", fontsize=11];",
+];
+
+/// The end of a line that begins at the left.
+const END: &str = "<BR ALIGN=\"LEFT\"/>";
+
+/// The grounds of frames, the next one for each frame inside another.
+const GROUNDS: [&str; 3] = ["#f4f1ea", "#e6edf5", "#e9f3e6"];
+
+/// A picture in the making.
+pub struct Picture {
+    text: String,
+    depth: usize,
+}
+
+impl Picture {
+    /// An empty picture with its title and what its shapes mean.
+    pub fn new(title: &str, key: &[&str]) -> Picture {
+        let mut picture = Picture { text: String::new(), depth: 0 };
+        picture.open("digraph");
+        LOOK.iter().for_each(|line| picture.line(line));
+        let head = format!("<FONT POINT-SIZE=\"16\">{}</FONT>{END}", escaped(title));
+        let rest: String = key.iter().map(|line| format!("{line}{END}")).collect();
+        picture.line(&format!("fontsize=12; label=<{head}{rest}>;"));
+        picture
+    }
+
+    /// Adds a line.
+    pub fn line(&mut self, line: &str) {
+        self.text.push_str(&"  ".repeat(self.depth));
+        self.text.push_str(line);
+        self.text.push('\n');
+    }
+
+    /// Opens a frame around what follows.
+    pub fn frame(&mut self, name: &str, label: &str) {
+        let ground = GROUNDS[(self.depth - 1) % GROUNDS.len()];
+        self.open(&format!("subgraph cluster_{name}"));
+        self.line(&format!("fontsize=12; label=\"{label}\"; fillcolor=\"{ground}\";"));
+    }
+
+    /// Ends the frame opened last.
+    pub fn end_frame(&mut self) {
+        self.depth -= 1;
+        self.line("}");
+    }
+
+    /// The finished text.
+    pub fn text(mut self) -> String {
+        self.end_frame();
+        self.text
+    }
+
+    fn open(&mut self, head: &str) {
+        self.line(&format!("{head} {{"));
+        self.depth += 1;
+    }
+}
+
+/// A label that keeps clear of the line below it.
+pub fn raised(label: &str) -> String {
+    format!("<{label}<BR/><FONT POINT-SIZE=\"3\"> </FONT>>")
+}
+
+/// A text with the signs that mean something in a label written out.
+fn escaped(text: &str) -> String {
+    text.replace('&', "&amp;").replace('<', "&lt;").replace('>', "&gt;")
+}
