@@ -112,7 +112,7 @@ pub fn number(rows: &[u32], path: &[u32], own: u32) -> NumberAnswer
     let blocks = checked.blocks;
     let verdict = checked.verdict;
     match verdict {
-        Verdict::Accepted => { number_of(cues::number(rows, &table, blocks, path, own)) }
+        Verdict::Accepted => number_of(cues::number(rows, &table, blocks, path, own)),
         Verdict::Refused(refusal) => NumberAnswer::Refused(refusal),
     }
 }
