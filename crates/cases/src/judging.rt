@@ -45,6 +45,7 @@ fn holds(list: &[u32], content: &[u32]) -> bool {
     true
 }
 
+// What a lent list must hold at a place.
 fn lent_at(content: &[u32], i: usize) -> u32 {
     if i < content.len() {
         return content[i];
@@ -72,6 +73,7 @@ fn lent_byte(content: &[u8], i: usize) -> u8 {
     7
 }
 
+// Writing leaves this content in what is lent, and gives what is wanted.
 fn is_written(rows: &[u32], out: &mut [u8], want: &[u32], content: &[u8]) -> bool {
     let said = asking::write(rows, out);
     let right = agrees(said, want);
@@ -89,6 +91,7 @@ fn is_file(file: &[u8], rows: &[u32], out: &mut [u8], want: &[u32]) -> bool {
     is_written(rows, out, want, &file[0..0])
 }
 
+// Writing to the first so many bytes of what is lent.
 fn writes_to(file: &[u8], rows: &[u32], size: usize, out: &mut [u8], want: &[u32]) -> bool {
     let end = least(size, out.len());
     is_file(file, rows, &mut out[0..end], want)
@@ -99,6 +102,7 @@ fn writes(file: &[u8], rows: &[u32], size: usize, want: &[u32]) -> bool {
     writes_to(file, rows, size, &mut out, want)
 }
 
+// The question leaves this content in the lent list, and gives what is wanted.
 fn is_asked(
     letter: u8,
     file: &[u8],
@@ -134,6 +138,7 @@ fn is_answered(
     is_asked(letter, file, rows, given, lent, want, content)
 }
 
+// The question with the first so many numbers of the lent list.
 fn answers_to(
     letter: u8,
     file: &[u8],

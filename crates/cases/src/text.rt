@@ -33,6 +33,34 @@ pub fn after(i: usize) -> usize {
     i
 }
 
+// The sum of two places.
+pub fn sum(a: usize, b: usize) -> usize {
+    if a < 4294967296 {
+        if b < 4294967296 {
+            return a + b;
+        }
+    }
+    a
+}
+
+// Copies the text from here on up to the mark, as far as there is room: how many bytes.
+pub fn copy(text: &[u8], from: usize, mark: u8, file: &mut [u8]) -> usize {
+    let mut i = from;
+    let mut n = 0;
+    while i < text.len() {
+        if file.len() <= n {
+            return n;
+        }
+        if text[i] == mark {
+            return n;
+        }
+        file[n] = text[i];
+        n += 1;
+        i += 1;
+    }
+    n
+}
+
 // The first place from here on that has the mark or a line feed, or the text's end.
 pub fn seek(text: &[u8], from: usize, mark: u8) -> usize {
     let mut i = from;

@@ -2,14 +2,17 @@
 use borrow.Author.Needs.{needs}
 use mathlib.Core.Path.{_≡_}
 use lib.ListN.{length}
-use Rattle.cases.proofs.take_lines.Statement.{statement}
-use Rattle.cases.proofs.take_lines.Tie as tie
+use Rattle.cases.proofs.lines.take_lines.Statement.{statement}
+use Rattle.cases.proofs.lines.take_lines.Tie as tie
 
 abbrev Inv-loop : tie.InvT-loop
 Inv-loop text size file₀ rows₀ content₀ run₀ left₀ file rows content run left = (length file ≡ length file₀) × (length rows ≡ length rows₀) × (length content ≡ length content₀)
 
 abbrev μ-loop : tie.MeasureT-loop
 μ-loop text size file₀ rows₀ content₀ run₀ left₀ file rows content run left = left
+
+go-on-requires : tie.Need-go-on-requires Inv-loop μ-loop
+go-on-requires c κs = search needs
 
 loop-holds : tie.Need-loop-holds Inv-loop μ-loop
 loop-holds c = search needs
@@ -56,6 +59,7 @@ take-lines-spec =
     (tie.spec
     Inv-loop
     μ-loop
+    go-on-requires
     loop-holds
     same-length
     same-length-2
