@@ -131,7 +131,7 @@ fn damaged(prng: &mut Prng) -> Vec<u32> {
         let mut rows = small(prng);
         damage::rows(prng, &mut rows);
         let small = Show::of_rows(&rows).map_or(true, |show| CUES.contains(&show.count()));
-        if small && rows.len() % COLUMNS == 0 && rows.len() < 40 * COLUMNS {
+        if small && rows.len().is_multiple_of(COLUMNS) && rows.len() < 40 * COLUMNS {
             return rows;
         }
     }
