@@ -1,0 +1,150 @@
+//! Prints random shows with the naive tool's answers, as the data of the program `cases`:
+//! `cases > ../crates/cases/data/random.txt`
+
+use std::fmt::Write;
+use std::ops::RangeInclusive;
+
+use second::gen::prng::Prng;
+use second::gen::{damage, random};
+use second::limits::{Refusal, COLUMNS, GIVEN, PATH, WORK};
+use second::naive::ask::Show;
+use second::naive::file::print;
+use second::question::{Answer, Question};
+
+const SEED: u64 = 8;
+/// Shows that are accepted, and rows that may be refused.
+const WHOLE: usize = 100;
+const DAMAGED: usize = 30;
+/// Cues of a show, few enough that all pairs can be asked.
+const CUES: RangeInclusive<u32> = 3..=8;
+
+/// Numbers with spaces between. Many equal ones in a row are written as `7x5`.
+fn list(numbers: &[u32]) -> String {
+    let run = |same: &[u32]| match same.len() {
+        1..=4 => vec![same[0].to_string(); same.len()].join(" "),
+        many => format!("{}x{many}", same[0]),
+    };
+    numbers.chunk_by(|a, b| a == b).map(run).collect::<Vec<_>>().join(" ")
+}
+
+/// The question's name and what it is given.
+fn asked(question: &Question) -> (&str, Vec<u32>) {
+    match *question {
+        Question::Read { .. } => ("read", vec![]),
+        Question::Write { .. } => ("write", vec![]),
+        Question::Count => ("count", vec![]),
+        Question::Locate { n, .. } => ("locate", vec![n]),
+        Question::Number { ref path, own } => ("number", [&[own], path.as_slice()].concat()),
+        Question::List { outward: true, v, n, .. } => ("out", vec![v, n]),
+        Question::List { v, n, .. } => ("in", vec![v, n]),
+        Question::Fewest { s, t, .. } => ("fewest", vec![s, t]),
+    }
+}
+
+/// Every question but reading and writing, about a show or about refused rows. The last numbers
+/// asked for are no cues.
+fn questions(show: Option<&Show>) -> Vec<Question> {
+    let mut all = vec![Question::Count, Question::Number { path: vec![1], own: 0 }];
+    let cues = show.map_or(0, Show::count);
+    for cue in show.map_or(&[][..], |show| &show.unfolding().cues) {
+        all.push(Question::Number { path: cue.path.clone(), own: cue.own });
+        all.push(Question::Number { path: cue.path.clone(), own: cue.own + 3 });
+    }
+    for n in (1..=cues).chain([0, cues + 1]) {
+        all.push(Question::Locate { n, room: PATH + 1 });
+        for (outward, room) in [(true, 1), (true, 9), (false, 1), (false, 9)] {
+            all.push(Question::List { outward, v: n, n: 0, room });
+            all.push(Question::List { outward, v: n, n: cues / 2, room: room / 9 });
+        }
+    }
+    all.push(Question::Fewest { s: 1, t: 1, room: WORK - 1 });
+    for s in 1..=cues {
+        all.extend((1..=cues).map(|t| Question::Fewest { s, t, room: WORK + 1 }));
+    }
+    for (s, t) in [(0, 1), (1, 0), (1, cues + 1), (cues + 1, 1)] {
+        all.push(Question::Fewest { s, t, room: WORK });
+    }
+    all
+}
+
+/// The data so far. A work area with the content of the last case is not written again.
+#[derive(Default)]
+struct Data {
+    text: String,
+    content: String,
+}
+
+impl Data {
+    fn case(&mut self, name: &str, question: &Question, answer: Result<Answer, Refusal>) {
+        let (word, given) = asked(question);
+        let (said, numbers) = match answer {
+            Ok(answer) => ([&[0], answer.given.as_slice()].concat(), answer.numbers),
+            Err(refusal) => (vec![refusal.number, refusal.place], Vec::new()),
+        };
+        // Reading gives the numbers of the show, which the data has.
+        let read = matches!(question, Question::Read { .. });
+        let content = if read { String::new() } else { list(&numbers) };
+        let fewest = matches!(question, Question::Fewest { .. });
+        let again = fewest && !content.is_empty() && content == self.content;
+        let (given, said, room) = (list(&given), list(&said), question.room());
+        let shown = if again { "=" } else { &content };
+        writeln!(self.text, "{name}|{word}|{given}|{room}|{said}|{shown}").expect("a string");
+        self.content = content;
+    }
+
+    /// A show with all questions. The last case has the name.
+    fn show(&mut self, name: &str, rows: &[u32]) {
+        let file = print(rows.as_chunks().0);
+        let shown = std::str::from_utf8(&file).expect("a file is digits and commas");
+        write!(self.text, "=\n{shown}").expect("a string");
+        let show = Show::of_rows(rows);
+        let answer = |question: &Question| {
+            show.as_ref().map_err(|refusal| *refusal)?.answer(question, GIVEN)
+        };
+        for question in questions(show.as_ref().ok()) {
+            self.case("", &question, answer(&question));
+        }
+        for room in [file.len() - 1, file.len() + 1] {
+            let question = Question::Write { room };
+            self.case("", &question, answer(&question));
+        }
+        let question = Question::Read { room: rows.len() + 1 };
+        let read = Show::of_file(&file).and_then(|show| show.answer(&question, GIVEN));
+        self.case(name, &question, read);
+    }
+}
+
+/// A small random show.
+fn small(prng: &mut Prng) -> Vec<u32> {
+    loop {
+        let shape = prng.pick(&random::SHAPES);
+        let rows = random::show(prng, shape);
+        if Show::of_rows(&rows).is_ok_and(|show| CUES.contains(&show.count())) {
+            return rows;
+        }
+    }
+}
+
+/// Whole rows with some damage.
+fn damaged(prng: &mut Prng) -> Vec<u32> {
+    loop {
+        let mut rows = small(prng);
+        damage::rows(prng, &mut rows);
+        let small = Show::of_rows(&rows).map_or(true, |show| CUES.contains(&show.count()));
+        if small && rows.len().is_multiple_of(COLUMNS) && rows.len() < 40 * COLUMNS {
+            return rows;
+        }
+    }
+}
+
+fn main() {
+    let mut data = Data::default();
+    let prng = &mut Prng::new(SEED, 0);
+    for case in 1..=WHOLE {
+        data.show(&format!("random show {case}"), &small(prng));
+    }
+    for case in 1..=DAMAGED {
+        data.show(&format!("changed rows {case}"), &damaged(prng));
+    }
+    print!("{}", data.text);
+}
