@@ -78,6 +78,20 @@ fn place(xs: &[u32], i: usize) -> usize
     get(xs, i) as usize
 }
 
+fn size(x: u32) -> usize
+    ensures { λ r. ⌜ (r ≡ x) × (r ≤ 4294967295) ⌝ }
+{
+    x as usize
+}
+
+// The same at a place before the end.
+fn there(xs: &[u32], i: usize) -> usize
+    requires { ⌜ i < length (now xs) ⌝ }
+    ensures { λ r. ⌜ (r ≡ getD (now (xs .entry)) i 0) × (r ≤ 4294967295) ⌝ }
+{
+    size(xs[i])
+}
+
 // The label of a cue.
 fn label(d: &[u32], c: usize) -> u64
     ensures { λ r. ⌜ (r ≡ getD (now (d .entry)) c 0) × (r ≤ 4294967295) ⌝ }
@@ -151,8 +165,20 @@ fn put_met(xs: &[u32], p: usize, kept: &[u32], q: usize, m: usize, d: &mut [u32]
     fell
 }
 
-// The labels of m cues that stand from place p on, into the first m of e.
-fn gather(xs: &[u32], p: usize, d: &[u32], m: usize, e: &mut [u32])
+// The labels of m cues that stand from place p on, all before the end, into the first m of e.
+fn gather_there(xs: &[u32], p: usize, d: &[u32], m: usize, e: &mut [u32])
+    requires { ⌜ (p + m < 1099511627776) × (m ≤ length (now e)) × (p + m ≤ length (now xs)) ⌝ }
+    ensures { λ _. ⌜ Gathered (now (xs .entry)) p (now (d .entry)) m (now (e .entry)) (now (e .exit)) ⌝ }
+{
+    let mut i = 0;
+    while i < m {
+        e[i] = get(d, there(xs, p + i));
+        i += 1;
+    }
+}
+
+// The same of any cues.
+fn gather_or_none(xs: &[u32], p: usize, d: &[u32], m: usize, e: &mut [u32])
     requires { ⌜ (p + m < 1099511627776) × (m ≤ length (now e)) ⌝ }
     ensures { λ _. ⌜ Gathered (now (xs .entry)) p (now (d .entry)) m (now (e .entry)) (now (e .exit)) ⌝ }
 {
@@ -160,6 +186,18 @@ fn gather(xs: &[u32], p: usize, d: &[u32], m: usize, e: &mut [u32])
     while i < m {
         e[i] = get(d, place(xs, p + i));
         i += 1;
+    }
+}
+
+// The labels of m cues that stand from place p on, into the first m of e.
+fn gather(xs: &[u32], p: usize, d: &[u32], m: usize, e: &mut [u32])
+    requires { ⌜ (p + m < 1099511627776) × (m ≤ length (now e)) ⌝ }
+    ensures { λ _. ⌜ Gathered (now (xs .entry)) p (now (d .entry)) m (now (e .entry)) (now (e .exit)) ⌝ }
+{
+    if p + m <= xs.len() {
+        gather_there(xs, p, d, m, e);
+    } else {
+        gather_or_none(xs, p, d, m, e);
     }
 }
 
@@ -289,8 +327,20 @@ fn relax_many(xs: &[u32], work: &[u32], p: usize, q: usize, m: usize, d: &mut [u
     false
 }
 
-// The edges of a use that names two cues, from one to the other.
-fn relax_pair(xs: &[u32], work: &[u32], p: usize, q: usize, d: &mut [u32]) -> bool
+// The edges of a use that names two cues, from one to the other: cues and weights are there.
+fn pair_there(xs: &[u32], work: &[u32], p: usize, q: usize, d: &mut [u32]) -> bool
+    requires { ⌜ (p < 1099511627776) × (q < 1099511627776) × (p + 1 < length (now xs)) × (q + 8 < length (now work)) ⌝ }
+    ensures { λ r. ⌜ Round (Mesh (now (xs .entry)) (now (work .entry)) p q 2 2) (now (d .entry)) r (now (d .exit)) ⌝ }
+{
+    let a = there(xs, p);
+    let b = there(xs, p + 1);
+    let c = improve(d, a, b, work[q + 1]);
+    let e = improve(d, b, a, work[q + JOINS]);
+    either(c, e)
+}
+
+// The same of any cues and weights.
+fn pair_or_none(xs: &[u32], work: &[u32], p: usize, q: usize, d: &mut [u32]) -> bool
     requires { ⌜ (p < 1099511627776) × (q < 1099511627776) ⌝ }
     ensures { λ r. ⌜ Round (Mesh (now (xs .entry)) (now (work .entry)) p q 2 2) (now (d .entry)) r (now (d .exit)) ⌝ }
 {
@@ -299,6 +349,19 @@ fn relax_pair(xs: &[u32], work: &[u32], p: usize, q: usize, d: &mut [u32]) -> bo
     let c = improve(d, a, b, get(work, q + 1));
     let e = improve(d, b, a, get(work, q + JOINS));
     either(c, e)
+}
+
+// The edges of a use that names two cues, from one to the other.
+fn relax_pair(xs: &[u32], work: &[u32], p: usize, q: usize, d: &mut [u32]) -> bool
+    requires { ⌜ (p < 1099511627776) × (q < 1099511627776) ⌝ }
+    ensures { λ r. ⌜ Round (Mesh (now (xs .entry)) (now (work .entry)) p q 2 2) (now (d .entry)) r (now (d .exit)) ⌝ }
+{
+    if p + 1 < xs.len() {
+        if q + JOINS < work.len() {
+            return pair_there(xs, work, p, q, d);
+        }
+    }
+    pair_or_none(xs, work, p, q, d)
 }
 
 // The edges of a use that names m cues; a cue's edge to itself improves nothing. In accepted rows m is at most 8 and the weights are there,
@@ -337,8 +400,23 @@ fn own_of(xs: &[u32], t: &[u32], b: usize) -> usize
     place(xs, place(t, ENTRY * b) * ROW + 3)
 }
 
-// The link rows a and on, before e.
-fn relax_links(xs: &[u32], a: usize, e: usize, d: &mut [u32]) -> bool
+// The link rows a and on, before e, which are all there.
+fn links_there(xs: &[u32], a: usize, e: usize, d: &mut [u32]) -> bool
+    requires { ⌜ (a ≤ e) × (e ≤ 4294967295) × (e * 11 ≤ length (now xs)) ⌝ }
+    ensures { λ r. ⌜ Round (Span (LinkEdge (now (xs .entry))) a e) (now (d .entry)) r (now (d .exit)) ⌝ }
+{
+    let mut changed = false;
+    let mut r = a;
+    while r < e {
+        let c = improve(d, there(xs, r * ROW + 3), there(xs, r * ROW + 4), 1);
+        changed = either(changed, c);
+        r += 1;
+    }
+    changed
+}
+
+// The same of any rows.
+fn links_or_none(xs: &[u32], a: usize, e: usize, d: &mut [u32]) -> bool
     requires { ⌜ (a ≤ e) × (e ≤ 4294967295) ⌝ }
     ensures { λ r. ⌜ Round (Span (LinkEdge (now (xs .entry))) a e) (now (d .entry)) r (now (d .exit)) ⌝ }
 {
@@ -350,6 +428,17 @@ fn relax_links(xs: &[u32], a: usize, e: usize, d: &mut [u32]) -> bool
         r += 1;
     }
     changed
+}
+
+// The link rows a and on, before e. In accepted rows they are all there: one test of that in place of two for each row.
+fn relax_links(xs: &[u32], a: usize, e: usize, d: &mut [u32]) -> bool
+    requires { ⌜ (a ≤ e) × (e ≤ 4294967295) ⌝ }
+    ensures { λ r. ⌜ Round (Span (LinkEdge (now (xs .entry))) a e) (now (d .entry)) r (now (d .exit)) ⌝ }
+{
+    if e * ROW <= xs.len() {
+        return links_there(xs, a, e, d);
+    }
+    links_or_none(xs, a, e, d)
 }
 
 // The use rows a and on, before e.

@@ -1,8 +1,8 @@
--- `distance::relax_pair` meets its contract.
+-- `distance::pair_or_none` meets its contract.
 use borrow.Author.Needs.{needs}
 use Rattle.distance.proofs.Laws.{mesh-pair}
-use Rattle.distance.proofs.relax_pair.Statement.{statement}
-use Rattle.distance.proofs.relax_pair.Tie as tie
+use Rattle.distance.proofs.pair_or_none.Statement.{statement}
+use Rattle.distance.proofs.pair_or_none.Tie as tie
 
 place-requires : tie.Need-place-requires
 place-requires c κs = search needs
@@ -40,8 +40,8 @@ same-length c = search needs
 returns : tie.Need-returns
 returns c = search (mesh-pair, needs)
 
-pub relax-pair-spec : {M : Type 1} → statement M
-relax-pair-spec =
+pub pair-or-none-spec : {M : Type 1} → statement M
+pair-or-none-spec =
     tie.close
     (tie.spec
     place-requires

@@ -1,4 +1,4 @@
--- `distance::relax_links` meets its contract. The invariant: a round over the link rows passed.
+-- `distance::links_or_none` meets its contract. The invariant: a round over the link rows passed.
 use Prim.Native.Nat.{_-_, _≤_}
 use native.Mathlib.Omega.{arith}
 use mathlib.Core.Path.{_≡_}
@@ -6,8 +6,8 @@ use lib.ListN.{length}
 use borrow.Author.Needs.{needs}
 use Rattle.distance.specs.Rounds.{Span, LinkEdge, Round}
 use Rattle.distance.proofs.Laws.{span-none, links-more}
-use Rattle.distance.proofs.relax_links.Statement.{statement}
-use Rattle.distance.proofs.relax_links.Tie as tie
+use Rattle.distance.proofs.links_or_none.Statement.{statement}
+use Rattle.distance.proofs.links_or_none.Tie as tie
 
 abbrev Inv-loop : tie.InvT-loop
 Inv-loop xs a e d₀ changed₀ r₀ d changed r = (a ≤ r) × (r ≤ e) × (length d ≡ length d₀) × Round (Span (LinkEdge xs) a r) d₀ changed d
@@ -60,8 +60,8 @@ same-length c = search needs
 returns : tie.Need-returns Inv-loop μ-loop
 returns c = let e : c .before .loop .r ≡ c .before .before .before .before .args .e = omega arith in rw e at (c .before .loop .inv .3)
 
-pub relax-links-spec : {M : Type 1} → statement M
-relax-links-spec =
+pub links-or-none-spec : {M : Type 1} → statement M
+links-or-none-spec =
     tie.close
     (tie.spec
     Inv-loop

@@ -1,4 +1,4 @@
--- `distance::gather` meets its contract. The invariant: the numbers passed are the labels of their cues.
+-- `distance::gather_there` meets its contract. The invariant: the numbers passed are the labels of their cues.
 use Prim.Native.Nat.{_-_, _≤_}
 use native.Mathlib.Omega.{arith}
 use mathlib.Core.Path.{_≡_}
@@ -6,8 +6,8 @@ use lib.ListN.{length}
 use borrow.Author.Needs.{needs}
 use Rattle.distance.specs.Copies.{Gathered}
 use Rattle.distance.proofs.Lines.{gathered-none, gathered-more}
-use Rattle.distance.proofs.gather.Statement.{statement}
-use Rattle.distance.proofs.gather.Tie as tie
+use Rattle.distance.proofs.gather_there.Statement.{statement}
+use Rattle.distance.proofs.gather_there.Tie as tie
 
 abbrev Inv-loop : tie.InvT-loop
 Inv-loop xs p d m e₀ i₀ e i = (i ≤ m) × (length e ≡ length e₀) × Gathered xs p d i e₀ e
@@ -18,11 +18,11 @@ abbrev μ-loop : tie.MeasureT-loop
 loop-holds : tie.Need-loop-holds Inv-loop μ-loop
 loop-holds c = (search needs, search needs, gathered-none _ _ _ _)
 
-add-place : tie.Need-add-place Inv-loop μ-loop
-add-place c = search needs
+add-there : tie.Need-add-there Inv-loop μ-loop
+add-there c = search needs
 
-place-requires : tie.Need-place-requires Inv-loop μ-loop
-place-requires c κs = search needs
+there-requires : tie.Need-there-requires Inv-loop μ-loop
+there-requires c κs = search needs
 
 get-requires : tie.Need-get-requires Inv-loop μ-loop
 get-requires c κs = search needs
@@ -41,9 +41,9 @@ loop-less c = search needs
 
 loop-again : tie.Need-loop-again Inv-loop μ-loop
 loop-again c =
-    let at-place = c .before in
-    let l = at-place .before .before .loop in
-    (search needs, search needs, gathered-more _ _ _ _ _ _ _ _ (omega arith) (l .inv .2) (at-place .place .ensures .0) (c .get .ensures))
+    let at-there = c .before in
+    let l = at-there .before .before .loop in
+    (search needs, search needs, gathered-more _ _ _ _ _ _ _ _ (omega arith) (l .inv .2) (at-there .there .ensures .0) (c .get .ensures))
 
 same-length : tie.Need-same-length Inv-loop μ-loop
 same-length c = search needs
@@ -51,15 +51,15 @@ same-length c = search needs
 returns : tie.Need-returns Inv-loop μ-loop
 returns c = let e : c .before .loop .i ≡ c .before .before .before .before .before .args .m = omega arith in rw e at (c .before .loop .inv .2)
 
-pub gather-spec : {M : Type 1} → statement M
-gather-spec =
+pub gather-there-spec : {M : Type 1} → statement M
+gather-there-spec =
     tie.close
     (tie.spec
     Inv-loop
     μ-loop
     loop-holds
-    add-place
-    place-requires
+    add-there
+    there-requires
     get-requires
     mul-e
     slice-write-e
