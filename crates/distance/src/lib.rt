@@ -84,7 +84,7 @@ fn size(x: u32) -> usize
     x as usize
 }
 
-// The same at a place before the end.
+// The number at a place before the end, as an index.
 fn there(xs: &[u32], i: usize) -> usize
     requires { ⌜ i < length (now xs) ⌝ }
     ensures { λ r. ⌜ (r ≡ getD (now (xs .entry)) i 0) × (r ≤ 4294967295) ⌝ }

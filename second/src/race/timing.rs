@@ -26,22 +26,23 @@ fn median(mut samples: Vec<f64>) -> f64 {
     samples[samples.len() / 2]
 }
 
-/// The median nanoseconds of a run of each runner.
+/// The median nanoseconds of a run of each runner. Each sample has as many runs of one
+/// runner as of the other: a repeated run finds the machine prepared.
 pub fn race(runners: &mut [Runner]) -> Vec<f64> {
-    let mut times = Vec::new();
+    let mut times = 1;
     let mut samples = SAMPLES;
     for run in runners.iter_mut() {
         sample(run, 3);
         let once = sample(run, 10);
-        times.push((SAMPLE_NS / once).clamp(1.0, 10_000.0) as usize);
+        times = times.max((SAMPLE_NS / once).clamp(1.0, 10_000.0) as usize);
         if once > LONG_NS {
             samples = 5;
         }
     }
     let mut taken = vec![Vec::new(); runners.len()];
     for _ in 0..samples {
-        for ((run, times), taken) in runners.iter_mut().zip(&times).zip(&mut taken) {
-            taken.push(sample(run, *times));
+        for (run, taken) in runners.iter_mut().zip(&mut taken) {
+            taken.push(sample(run, times));
         }
     }
     taken.into_iter().map(median).collect()
