@@ -76,22 +76,35 @@ fn time(entry: &Entry, library: Option<&Subject>, worst: &mut Worst) {
     }
 }
 
+/// The nanoseconds of unfolding a long ring and searching breadth first, and of the library.
+fn unfolded_and_folded(blocks: u32, library: Option<&Subject>) -> (f64, Option<f64>) {
+    let rows = known::long_ring(blocks);
+    let input = Input::Rows(rows.clone());
+    let question = Question::Fewest { s: 1, t: 2, room: WORK };
+    let mut memory = Memory::new();
+    let mut search = |_| {
+        let steps = breadth::fewest(black_box(&rows), 1, 2);
+        assert_eq!(steps, Some(1 << blocks));
+    };
+    let unfolded = race(&mut [&mut search])[0];
+    let folded =
+        library.map(|library| race(&mut [&mut |_| memory.ask(library, &input, &question)])[0]);
+    (unfolded, folded)
+}
+
 /// Unfolding and searching breadth first, in place of the plain implementation.
 fn time_unfolding(library: Option<&Subject>) {
     for blocks in [10, 17, 23] {
-        let rows = known::long_ring(blocks);
-        let input = Input::Rows(rows.clone());
-        let question = Question::Fewest { s: 1, t: 2, room: WORK };
-        let mut memory = Memory::new();
-        let mut search = |_| {
-            let steps = breadth::fewest(black_box(&rows), 1, 2);
-            assert_eq!(steps, Some(1 << blocks));
-        };
-        let unfolded = race(&mut [&mut search])[0];
-        let library =
-            library.map(|library| race(&mut [&mut |_| memory.ask(library, &input, &question)])[0]);
+        let (unfolded, folded) = unfolded_and_folded(blocks, library);
         let name = format!("unfolded long ring, {} cues", (1 << blocks) + 1);
-        print_line("fewest", &name, library, unfolded);
+        print_line("fewest", &name, folded, unfolded);
+    }
+    let wins = (1..10).find(|blocks| {
+        let (unfolded, folded) = unfolded_and_folded(*blocks, library);
+        folded.is_some_and(|folded| folded < unfolded)
+    });
+    if let Some(blocks) = wins {
+        println!("the library beats unfolding from a long ring of {} cues on", (1 << blocks) + 1);
     }
 }
 
