@@ -99,7 +99,8 @@ fn label(d: &[u32], c: usize) -> u64
     wide(get(d, c))
 }
 
-// The lesser of a sum and a label. Here and in the test that follows the machine takes no branch: which labels fall is not foreseeable.
+// The lesser of a sum and a label. This and the test that follows are apart from the store, so that the compiler needs no branch for them:
+// which labels fall is not foreseeable.
 fn lesser(z: u64, y: u64) -> u32
     requires { ⌜ y ≤ 4294967295 ⌝ }
     ensures { λ r. ⌜ ((z < y) × (r ≡ z)) ⊎ ((y ≤ z) × (r ≡ y)) ⌝ }
