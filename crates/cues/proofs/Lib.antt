@@ -2,3 +2,4 @@
 pub mod Laws
 pub mod Locating
 pub mod Numbers
+pub mod Finding

@@ -13,6 +13,7 @@ ghost use Rattle.model.specs.Verdicts.{verdict};
 ghost use Rattle.model.specs.declared.Verdict.the-variants.{Accepted};
 ghost use Rattle.rules.specs.Index.{Indexed};
 ghost use Rattle.cues.specs.Copies.{Known, UseRows, usesOf, cuesOf, inCopy, inUses, Asked, Falls, placeOf, Placed, fromCopy, fromUses, Begun, firstUses, Ahead};
+ghost use Rattle.cues.specs.Found.{Holds, Leads};
 
 // Where a cue is: the length of its path, and the block and the own cue that it is there.
 pub struct Place {
@@ -163,6 +164,14 @@ pub fn locate(xs: &[u32], t: &[u32; 512], blocks: u32, n: u32, path: &mut [u32])
 {
     let last = wide(blocks) - 1;
     locate_copy(xs, t, last, n, 0, path)
+}
+
+// Where cue v is: its path goes to a list that is long enough for every path.
+pub fn find(xs: &[u32], t: &[u32; 512], blocks: u32, v: u32, path: &mut [u32; 127]) -> Place
+    requires { ⌜ Holds (now xs) (now t) blocks v ⌝ }
+    ensures { λ r. ⌜ Leads (now (xs .entry)) v (now (path .exit)) (r .depth) (r .own) ⌝ }
+{
+    locate(xs, t, blocks, v, path)
 }
 
 // The number of own cue c of a copy after base that has so many own cues; 0 if it has no such one.

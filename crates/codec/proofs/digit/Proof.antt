@@ -4,15 +4,9 @@ use Rattle.model.specs.Text.{digitAt}
 use Rattle.codec.proofs.digit.Statement.{statement}
 use Rattle.codec.proofs.digit.Tie as tie
 
-cast-result : tie.Need-cast-result
-cast-result c = search needs
-
-add-result : tie.Need-add-result
-add-result c = search needs
-
 returns : tie.Need-returns
 unfolding digitAt
 returns c = search needs
 
 pub digit-spec : {M : Type 1} → statement M
-digit-spec = tie.close (tie.spec cast-result add-result returns)
+digit-spec = tie.close (tie.spec (λ c. search needs) (λ c. search needs) returns)

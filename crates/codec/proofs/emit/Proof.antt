@@ -10,11 +10,8 @@ put-names-requires c κs = search (names-room, needs)
 put-rows-requires : tie.Need-put-rows-requires
 put-rows-requires c κs = (search needs, search (file-room, needs))
 
-same-length : tie.Need-same-length
-same-length c = search needs
-
 returns : tie.Need-returns
 returns c = search (file-written, needs)
 
 pub emit-spec : {M : Type 1} → statement M
-emit-spec = tie.close (tie.spec put-names-requires put-rows-requires same-length returns)
+emit-spec = tie.close (tie.spec put-names-requires put-rows-requires (λ c. search needs) returns)

@@ -5,12 +5,6 @@ use Rattle.codec.specs.Scanning.{endedAt}
 use Rattle.codec.proofs.ended_at.Statement.{statement}
 use Rattle.codec.proofs.ended_at.Tie as tie
 
-shared-slice-read-if2 : tie.Need-shared-slice-read-if2
-shared-slice-read-if2 c = search needs
-
-add-t10 : tie.Need-add-t10
-add-t10 c = search needs
-
 returns : tie.Need-returns
 unfolding endedAt
 returns c = search (ifs, needs) depth 8
@@ -24,4 +18,4 @@ unfolding endedAt
 returns-3 c = search (ifs, needs) depth 8
 
 pub ended-at-spec : {M : Type 1} → statement M
-ended-at-spec = tie.close (tie.spec shared-slice-read-if2 add-t10 returns returns-2 returns-3)
+ended-at-spec = tie.close (tie.spec (λ c. search needs) (λ c. search needs) returns returns-2 returns-3)

@@ -10,15 +10,9 @@ returns : tie.Need-returns
 unfolding startsNamed names
 returns c = search (ifs, needs) depth 8
 
-slice-aggregate-same-to : tie.Need-slice-aggregate-same-to
-slice-aggregate-same-to c = search needs
-
-same-to-requires : tie.Need-same-to-requires
-same-to-requires c κs = search needs
-
 returns-2 : tie.Need-returns-2
 unfolding startsNamed names
 returns-2 c = search (ifs, needs) depth 8
 
 pub named-spec : {M : Type 1} → statement M
-named-spec = tie.close (tie.spec returns slice-aggregate-same-to same-to-requires returns-2)
+named-spec = tie.close (tie.spec returns (λ c. search needs) (λ c κs. search needs) returns-2)

@@ -5,23 +5,11 @@ use Rattle.codec.proofs.Sofar.{long-refused, unnamed-refused}
 use Rattle.codec.proofs.parse.Statement.{statement}
 use Rattle.codec.proofs.parse.Tie as tie
 
-refuse-requires : tie.Need-refuse-requires
-refuse-requires c κs = search needs
-
 returns : tie.Need-returns
 returns c = search (long-refused, needs)
 
-named-requires : tie.Need-named-requires
-named-requires c κs = search needs
-
 read-lines-requires : tie.Need-read-lines-requires
 read-lines-requires c κs = (search needs, sym (c .before .before .named .ensures) ∙ c .before .if2 .taken, search needs)
-
-returns-2 : tie.Need-returns-2
-returns-2 c = search needs
-
-refuse-requires-2 : tie.Need-refuse-requires-2
-refuse-requires-2 c κs = search needs
 
 returns-3 : tie.Need-returns-3
 returns-3 c = search (unnamed-refused, needs)
@@ -29,11 +17,4 @@ returns-3 c = search (unnamed-refused, needs)
 pub parse-spec : {M : Type 1} → statement M
 parse-spec =
     tie.close
-    (tie.spec
-    refuse-requires
-    returns
-    named-requires
-    read-lines-requires
-    returns-2
-    refuse-requires-2
-    returns-3)
+    (tie.spec (λ c κs. search needs) returns (λ c κs. search needs) read-lines-requires (λ c. search needs) (λ c κs. search needs) returns-3)

@@ -2,7 +2,18 @@
 use native.Mathlib.Omega.{arith}
 use borrow.Author.Needs.{needs}
 use Rattle.codec.specs.Writing.{one, two}
-use Rattle.codec.proofs.DigitStores.{second-room, third-room, three-wide, four-wide, five-wide, one-digit, two-digits, three-digits, four-digits, five-digits}
+use Rattle.codec.proofs.DigitStores.{
+  second-room,
+  third-room,
+  three-wide,
+  four-wide,
+  five-wide,
+  one-digit,
+  two-digits,
+  three-digits,
+  four-digits,
+  five-digits,
+}
 use Rattle.codec.proofs.Stores.{room-same, room-next, puts-as, puts-both}
 use Rattle.codec.proofs.put_digits.Statement.{statement}
 use Rattle.codec.proofs.put_digits.Tie as tie
@@ -10,17 +21,11 @@ use Rattle.codec.proofs.put_digits.Tie as tie
 put-one-requires : tie.Need-put-one-requires
 put-one-requires c κs = search (room-same, one-digit, needs)
 
-same-length : tie.Need-same-length
-same-length c = search needs
-
 returns : tie.Need-returns
 returns c = search (puts-as, one-digit, needs)
 
 put-two-requires : tie.Need-put-two-requires
 put-two-requires c κs = search (room-same, two-digits, needs)
-
-same-length-2 : tie.Need-same-length-2
-same-length-2 c = search needs
 
 returns-2 : tie.Need-returns-2
 returns-2 c = search (puts-as, two-digits, needs)
@@ -33,9 +38,6 @@ put-one-requires-2 c κs =
 
 put-two-requires-2 : tie.Need-put-two-requires-2
 put-two-requires-2 c κs = search (room-next, three-digits, needs)
-
-same-length-3 : tie.Need-same-length-3
-same-length-3 c = search needs
 
 returns-3 : tie.Need-returns-3
 returns-3 c = search (puts-as, puts-both, three-digits, needs)
@@ -51,9 +53,6 @@ put-two-requires-3 c κs =
 
 put-two-requires-4 : tie.Need-put-two-requires-4
 put-two-requires-4 c κs = search (room-next, four-digits, needs)
-
-same-length-4 : tie.Need-same-length-4
-same-length-4 c = search needs
 
 returns-4 : tie.Need-returns-4
 returns-4 c = search (puts-as, puts-both, four-digits, needs)
@@ -83,32 +82,12 @@ put-two-requires-6 c κs =
     _ _ _
     (c .before .before .before .put-two5 .ensures)
 
-same-length-5 : tie.Need-same-length-5
-same-length-5 c = search needs
-
 returns-5 : tie.Need-returns-5
 returns-5 c = search (puts-as, puts-both, five-digits, needs)
 
 pub put-digits-spec : {M : Type 1} → statement M
 put-digits-spec =
     tie.close
-    (tie.spec
-    put-one-requires
-    same-length
-    returns
-    put-two-requires
-    same-length-2
-    returns-2
-    put-one-requires-2
-    put-two-requires-2
-    same-length-3
-    returns-3
-    put-two-requires-3
-    put-two-requires-4
-    same-length-4
-    returns-4
-    put-one-requires-3
-    put-two-requires-5
-    put-two-requires-6
-    same-length-5
-    returns-5)
+    (tie.spec put-one-requires (λ c. search needs) returns put-two-requires (λ c. search needs) returns-2 put-one-requires-2 put-two-requires-2
+    (λ c. search needs) returns-3 put-two-requires-3 put-two-requires-4 (λ c. search needs) returns-4 put-one-requires-3 put-two-requires-5
+    put-two-requires-6 (λ c. search needs) returns-5)

@@ -5,9 +5,6 @@ use Rattle.codec.proofs.DigitStores.{puts-one}
 use Rattle.codec.proofs.put_one.Statement.{statement}
 use Rattle.codec.proofs.put_one.Tie as tie
 
-digit-requires : tie.Need-digit-requires
-digit-requires c κs = search needs
-
 slice-write-out : tie.Need-slice-write-out
 unfolding one
 slice-write-out c = search needs
@@ -16,11 +13,8 @@ add-result : tie.Need-add-result
 unfolding one
 add-result c = search needs
 
-same-length : tie.Need-same-length
-same-length c = search needs
-
 returns : tie.Need-returns
 returns c = search (puts-one, needs)
 
 pub put-one-spec : {M : Type 1} → statement M
-put-one-spec = tie.close (tie.spec digit-requires slice-write-out add-result same-length returns)
+put-one-spec = tie.close (tie.spec (λ c κs. search needs) slice-write-out add-result (λ c. search needs) returns)

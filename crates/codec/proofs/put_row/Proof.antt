@@ -16,47 +16,17 @@ Inv-loop xs r texts out₀ from a at₀ c₀ out at c =
 abbrev μ-loop : tie.MeasureT-loop
 μ-loop xs r texts out₀ from a at₀ c₀ out at c = 10 - c
 
-mul-a : tie.Need-mul-a Inv-loop μ-loop
-mul-a c = search needs
-
 loop-holds : tie.Need-loop-holds Inv-loop μ-loop
 loop-holds c = (search needs, search needs, search (row-begin, needs))
-
-add-put-comma : tie.Need-add-put-comma Inv-loop μ-loop
-add-put-comma c = search needs
-
-mul-put-comma : tie.Need-mul-put-comma Inv-loop μ-loop
-mul-put-comma c = search needs
-
-shared-slice-read-put-comma : tie.Need-shared-slice-read-put-comma Inv-loop μ-loop
-shared-slice-read-put-comma c = search needs
 
 put-comma-requires : tie.Need-put-comma-requires Inv-loop μ-loop
 put-comma-requires c κs = (search needs, search (row-room, needs))
 
-add-c : tie.Need-add-c Inv-loop μ-loop
-add-c c = search needs
-
-loop-less : tie.Need-loop-less Inv-loop μ-loop
-loop-less c = search needs
-
 loop-again : tie.Need-loop-again Inv-loop μ-loop
 loop-again c = (search needs, search needs, search (row-on, needs))
 
-add-put-value : tie.Need-add-put-value Inv-loop μ-loop
-add-put-value c = search needs
-
-mul-put-value : tie.Need-mul-put-value Inv-loop μ-loop
-mul-put-value c = search needs
-
-shared-slice-read-put-value : tie.Need-shared-slice-read-put-value Inv-loop μ-loop
-shared-slice-read-put-value c = search needs
-
 put-value-requires : tie.Need-put-value-requires Inv-loop μ-loop
 put-value-requires c κs = search (last-room, needs)
-
-same-length : tie.Need-same-length Inv-loop μ-loop
-same-length c = search needs
 
 returns : tie.Need-returns Inv-loop μ-loop
 returns c = search (row-end, needs)
@@ -64,21 +34,6 @@ returns c = search (row-end, needs)
 pub put-row-spec : {M : Type 1} → statement M
 put-row-spec =
     tie.close
-    (tie.spec
-    Inv-loop
-    μ-loop
-    mul-a
-    loop-holds
-    add-put-comma
-    mul-put-comma
-    shared-slice-read-put-comma
-    put-comma-requires
-    add-c
-    loop-less
-    loop-again
-    add-put-value
-    mul-put-value
-    shared-slice-read-put-value
-    put-value-requires
-    same-length
-    returns)
+    (tie.spec Inv-loop μ-loop (λ c. search needs) loop-holds (λ c. search needs) (λ c. search needs) (λ c. search needs) put-comma-requires
+    (λ c. search needs) (λ c. search needs) loop-again (λ c. search needs) (λ c. search needs) (λ c. search needs) put-value-requires
+    (λ c. search needs) returns)

@@ -7,19 +7,9 @@ use Rattle.codec.specs.Writing.{valueText, fourBytes, shortText, shortTe
 use Rattle.codec.proofs.put_rows.Statement.{statement}
 use Rattle.codec.proofs.put_rows.Tie as tie
 
-slice-aggregate-put-lines : tie.Need-slice-aggregate-put-lines
-slice-aggregate-put-lines c = search needs
-
 put-lines-requires : tie.Need-put-lines-requires
 unfolding shortTexts shortText fourBytes valueText digits digitAt ifLt
 put-lines-requires c κs = (search needs, refl, search needs)
 
-same-length : tie.Need-same-length
-same-length c = search needs
-
-returns : tie.Need-returns
-returns c = search needs
-
 pub put-rows-spec : {M : Type 1} → statement M
-put-rows-spec =
-    tie.close (tie.spec slice-aggregate-put-lines put-lines-requires same-length returns)
+put-rows-spec = tie.close (tie.spec (λ c. search needs) put-lines-requires (λ c. search needs) (λ c. search needs))

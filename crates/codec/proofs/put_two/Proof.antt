@@ -13,11 +13,8 @@ put-one-requires c κs = search needs
 put-one-requires-2 : tie.Need-put-one-requires-2
 put-one-requires-2 c κs = search (room-next, two-is, needs)
 
-same-length : tie.Need-same-length
-same-length c = search needs
-
 returns : tie.Need-returns
 returns c = search (puts-two, needs)
 
 pub put-two-spec : {M : Type 1} → statement M
-put-two-spec = tie.close (tie.spec put-one-requires put-one-requires-2 same-length returns)
+put-two-spec = tie.close (tie.spec put-one-requires put-one-requires-2 (λ c. search needs) returns)

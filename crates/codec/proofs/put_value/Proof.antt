@@ -17,12 +17,8 @@ add-result c =
     omega
     (arith, end-room _ _ _ _ _ (c .before .before .put-digits .ensures) _ (c .before .before .before .before .before .pre), puts-long (c .before .before .put-digits .ensures))
 
-same-length : tie.Need-same-length
-same-length c = search needs
-
 returns : tie.Need-returns
 returns c = search (puts-value, needs)
 
 pub put-value-spec : {M : Type 1} → statement M
-put-value-spec =
-    tie.close (tie.spec put-digits-requires slice-write-out add-result same-length returns)
+put-value-spec = tie.close (tie.spec put-digits-requires slice-write-out add-result (λ c. search needs) returns)

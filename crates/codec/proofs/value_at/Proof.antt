@@ -18,47 +18,23 @@ Inv-loop file at end first i₀ d₀ v₀ i d v =
 abbrev μ-loop : tie.MeasureT-loop
 μ-loop file at end first i₀ d₀ v₀ i d v = length file - i
 
-digit-at-requires : tie.Need-digit-at-requires Inv-loop μ-loop
-digit-at-requires c κs = search needs
-
 returns : tie.Need-returns Inv-loop μ-loop
 returns c = search (value-none, needs)
 
 add-i : tie.Need-add-i Inv-loop μ-loop
 add-i c = omega (arith, next-in _ _ _ (c .before .digit-at .ensures) (c .if1 .left))
 
-digit-at-requires-2 : tie.Need-digit-at-requires-2 Inv-loop μ-loop
-digit-at-requires-2 c κs = search needs
-
 returns-2 : tie.Need-returns-2 Inv-loop μ-loop
 returns-2 c = search (value-led, needs)
-
-ended-at-requires : tie.Need-ended-at-requires Inv-loop μ-loop
-ended-at-requires c κs = search needs
 
 returns-3 : tie.Need-returns-3 Inv-loop μ-loop
 returns-3 c = search (value-zero, needs)
 
-digit-at-requires-3 : tie.Need-digit-at-requires-3 Inv-loop μ-loop
-digit-at-requires-3 c κs = search needs
-
 loop-holds : tie.Need-loop-holds Inv-loop μ-loop
 loop-holds c = (search (next-in, needs), search needs, search needs, search (value-begin, needs))
 
-mul-v : tie.Need-mul-v Inv-loop μ-loop
-mul-v c = search needs
-
-add-v : tie.Need-add-v Inv-loop μ-loop
-add-v c = search needs
-
 returns-4 : tie.Need-returns-4 Inv-loop μ-loop
 returns-4 c = search (value-big, needs)
-
-add-i-2 : tie.Need-add-i-2 Inv-loop μ-loop
-add-i-2 c = search needs
-
-digit-at-requires-4 : tie.Need-digit-at-requires-4 Inv-loop μ-loop
-digit-at-requires-4 c κs = search needs
 
 loop-less : tie.Need-loop-less Inv-loop μ-loop
 loop-less c = search (less-in, needs)
@@ -66,33 +42,12 @@ loop-less c = search (less-in, needs)
 loop-again : tie.Need-loop-again Inv-loop μ-loop
 loop-again c = search (value-turn, next-in, needs)
 
-ended-at-requires-2 : tie.Need-ended-at-requires-2 Inv-loop μ-loop
-ended-at-requires-2 c κs = search needs
-
 returns-5 : tie.Need-returns-5 Inv-loop μ-loop
 returns-5 c = search (value-done, needs)
 
 pub value-at-spec : {M : Type 1} → statement M
 value-at-spec =
     tie.close
-    (tie.spec
-    Inv-loop
-    μ-loop
-    digit-at-requires
-    returns
-    add-i
-    digit-at-requires-2
-    returns-2
-    ended-at-requires
-    returns-3
-    digit-at-requires-3
-    loop-holds
-    mul-v
-    add-v
-    returns-4
-    add-i-2
-    digit-at-requires-4
-    loop-less
-    loop-again
-    ended-at-requires-2
-    returns-5)
+    (tie.spec Inv-loop μ-loop (λ c κs. search needs) returns add-i (λ c κs. search needs) returns-2 (λ c κs. search needs) returns-3
+    (λ c κs. search needs) loop-holds (λ c. search needs) (λ c. search needs) returns-4 (λ c. search needs) (λ c κs. search needs) loop-less
+    loop-again (λ c κs. search needs) returns-5)

@@ -1,7 +1,7 @@
 -- `locate_copy` and `locate_uses` call each other, and the block number falls from a copy to the next.
 use native.Mathlib.Omega.{arith}
 use borrow.Author.Needs.{needs}
-use Prim.Native.Nat.{ℕ, _<_, _+_, _*_}
+use Prim.Native.Nat.{ℕ, _+_, _*_, _<_}
 use mathlib.Core.Path.{_∙_}
 use lib.ListN.{length-set}
 use Rattle.cues.proofs.Locating.{copy-here, copy-uses, ask-uses, ask-copy, uses-step}
@@ -47,41 +47,14 @@ locate-copy-claims t = (own-cues-reads.Asked, own-cues-reads.Learnt, past-reads.
 abbrev locate-uses-claims : ℕ → locate-uses-lts.Claims
 locate-uses-claims t = (falls-reads.Asked, falls-reads.Learnt, locate-copy-below t, locate-copy.Post)
 
-locate-copy-own-cues-requires : (t : ℕ) → locate-copy-lts.Need-own-cues-requires (locate-copy-claims t) (locate-copy-at t) locate-copy.Post
-locate-copy-own-cues-requires t c κs = search needs
-
-locate-copy-cast-t9 : (t : ℕ) → locate-copy-lts.Need-cast-t9 (locate-copy-claims t) (locate-copy-at t) locate-copy.Post
-locate-copy-cast-t9 t c = search needs
-
-locate-copy-cast-t10 : (t : ℕ) → locate-copy-lts.Need-cast-t10 (locate-copy-claims t) (locate-copy-at t) locate-copy.Post
-locate-copy-cast-t10 t c = search needs
-
 locate-copy-returns : (t : ℕ) → locate-copy-lts.Need-returns (locate-copy-claims t) (locate-copy-at t) locate-copy.Post
 locate-copy-returns t c = copy-here (c .before .before .before .before .pre .1) _ (c .before .own-cues .ensures) (omega arith)
-
-locate-copy-past-requires : (t : ℕ) → locate-copy-lts.Need-past-requires (locate-copy-claims t) (locate-copy-at t) locate-copy.Post
-locate-copy-past-requires t c κs = search needs
 
 locate-copy-locate-uses-requires : (t : ℕ) → locate-copy-lts.Need-locate-uses-requires (locate-copy-claims t) (locate-copy-at t) locate-copy.Post
 locate-copy-locate-uses-requires t c κs = search (ask-uses, needs)
 
-locate-copy-same-length : (t : ℕ) → locate-copy-lts.Need-same-length (locate-copy-claims t) (locate-copy-at t) locate-copy.Post
-locate-copy-same-length t c = search needs
-
 locate-copy-returns-2 : (t : ℕ) → locate-copy-lts.Need-returns-2 (locate-copy-claims t) (locate-copy-at t) locate-copy.Post
 locate-copy-returns-2 t c = search (copy-uses, needs)
-
-locate-uses-falls-requires : (t : ℕ) → locate-uses-lts.Need-falls-requires (locate-uses-claims t) (locate-uses-at t) locate-uses.Post
-locate-uses-falls-requires t c κs = search needs
-
-locate-uses-mul-path : (t : ℕ) → locate-uses-lts.Need-mul-path (locate-uses-claims t) (locate-uses-at t) locate-uses.Post
-locate-uses-mul-path t c = search needs
-
-locate-uses-slice-write-path : (t : ℕ) → locate-uses-lts.Need-slice-write-path (locate-uses-claims t) (locate-uses-at t) locate-uses.Post
-locate-uses-slice-write-path t c = search needs
-
-locate-uses-add-locate-copy : (t : ℕ) → locate-uses-lts.Need-add-locate-copy (locate-uses-claims t) (locate-uses-at t) locate-uses.Post
-locate-uses-add-locate-copy t c = search needs
 
 locate-uses-locate-copy-requires : (t : ℕ) → locate-uses-lts.Need-locate-copy-requires (locate-uses-claims t) (locate-uses-at t) locate-uses.Post
 locate-uses-locate-copy-requires t c κs = search (ask-copy, needs)
@@ -93,26 +66,8 @@ locate-uses-returns : (t : ℕ) → locate-uses-lts.Need-returns (locate-uses-cl
 locate-uses-returns t c = search (uses-step, needs)
 
 pub +locate-copy+locate-uses-spec : {M : Type 1} → statement M
-+locate-copy+locate-uses-spec = close μ-locate-copy μ-locate-uses (λ t. locate-copy-lts.spec
-    (locate-copy-claims t)
-    (locate-copy-at t)
-    locate-copy.Post
-    (locate-copy-own-cues-requires t)
-    (locate-copy-cast-t9 t)
-    (locate-copy-cast-t10 t)
-    (locate-copy-returns t)
-    (locate-copy-past-requires t)
-    (locate-copy-locate-uses-requires t)
-    (locate-copy-same-length t)
-    (locate-copy-returns-2 t))
-    λ t. locate-uses-lts.spec
-    (locate-uses-claims t)
-    (locate-uses-at t)
-    locate-uses.Post
-    (locate-uses-falls-requires t)
-    (locate-uses-mul-path t)
-    (locate-uses-slice-write-path t)
-    (locate-uses-add-locate-copy t)
-    (locate-uses-locate-copy-requires t)
-    (locate-uses-same-length t)
-    (locate-uses-returns t)
++locate-copy+locate-uses-spec = close μ-locate-copy μ-locate-uses (λ t. locate-copy-lts.spec (locate-copy-claims t) (locate-copy-at t)
+    locate-copy.Post (λ c κs. search needs) (λ c. search needs) (λ c. search needs) (locate-copy-returns t) (λ c κs. search needs)
+    (locate-copy-locate-uses-requires t) (λ c. search needs) (locate-copy-returns-2 t))
+    λ t. locate-uses-lts.spec (locate-uses-claims t) (locate-uses-at t) locate-uses.Post (λ c κs. search needs) (λ c. search needs)
+    (λ c. search needs) (λ c. search needs) (locate-uses-locate-copy-requires t) (locate-uses-same-length t) (locate-uses-returns t)

@@ -3,9 +3,21 @@ use mathlib.Core.Path.{_∙_}
 use lib.ListN.{getD}
 use borrow.Author.Needs.{needs}
 use native.Mathlib.Omega.{arith}
-use Prim.Native.Nat.{ℕ, _<_, _+_, _*_}
+use Prim.Native.Nat.{ℕ, _+_, _*_, _<_}
 use Rattle.cues.proofs.Laws.{uses-there}
-use Rattle.cues.proofs.Numbers.{Into, own-fits, number-here, number-on, begin-uses, number-no-use, step-there, step-ahead, step-lower, begin-copy, number-step}
+use Rattle.cues.proofs.Numbers.{
+  Into,
+  own-fits,
+  number-here,
+  number-on,
+  begin-uses,
+  number-no-use,
+  step-there,
+  step-ahead,
+  step-lower,
+  begin-copy,
+  number-step,
+}
 use borrow.Fn.Kinds.{In}
 use borrow.Fn.PlainCycle.{Measures, is, falls, and}
 use Rattle.cues.proofs.number_copy.Reads as number-copy
@@ -51,9 +63,6 @@ number-copy-claims t = (own-cues-reads.Asked, own-cues-reads.Learnt, number-uses
 abbrev number-uses-claims : ℕ → number-uses-lts.Claims
 number-uses-claims t = (use-rows-reads.Asked, use-rows-reads.Learnt, wide-reads.Asked, wide-reads.Learnt, value-reads.Asked, value-reads.Learnt, behind-reads.Asked, behind-reads.Learnt, number-copy-below t, number-copy.Post)
 
-number-copy-own-cues-requires : (t : ℕ) → number-copy-lts.Need-own-cues-requires (number-copy-claims t) (number-copy-at t) number-copy.Post
-number-copy-own-cues-requires t c κs = search needs
-
 number-copy-add-number-uses : (t : ℕ) → number-copy-lts.Need-add-number-uses (number-copy-claims t) (number-copy-at t) number-copy.Post
 number-copy-add-number-uses t c = omega (arith, own-fits (c .before .before .before .before .pre .1) (c .before .own-cues .result) (c .before .own-cues .ensures))
 
@@ -80,15 +89,6 @@ into t w =
 number-uses-use-rows-requires : (t : ℕ) → number-uses-lts.Need-use-rows-requires (number-uses-claims t) (number-uses-at t) number-uses.Post
 number-uses-use-rows-requires t c κs = omega (arith, uses-there (c .before .before .pre .1 .known))
 
-number-uses-mul-wide : (t : ℕ) → number-uses-lts.Need-mul-wide (number-uses-claims t) (number-uses-at t) number-uses.Post
-number-uses-mul-wide t c = search needs
-
-number-uses-shared-slice-read-wide : (t : ℕ) → number-uses-lts.Need-shared-slice-read-wide (number-uses-claims t) (number-uses-at t) number-uses.Post
-number-uses-shared-slice-read-wide t c = search needs
-
-number-uses-wide-requires : (t : ℕ) → number-uses-lts.Need-wide-requires (number-uses-claims t) (number-uses-at t) number-uses.Post
-number-uses-wide-requires t c κs = search needs
-
 number-uses-returns : (t : ℕ) → number-uses-lts.Need-returns (number-uses-claims t) (number-uses-at t) number-uses.Post
 number-uses-returns t c =
     let w = c .before in
@@ -111,17 +111,11 @@ number-uses-value-requires t c κs =
     let w = z .before .before .before in
     omega (arith, step-there (into t w) (z .before .before .if1 .left) (z .if2 .left))
 
-number-uses-wide-requires-2 : (t : ℕ) → number-uses-lts.Need-wide-requires-2 (number-uses-claims t) (number-uses-at t) number-uses.Post
-number-uses-wide-requires-2 t c κs = search needs
-
 number-uses-behind-requires : (t : ℕ) → number-uses-lts.Need-behind-requires (number-uses-claims t) (number-uses-at t) number-uses.Post
 number-uses-behind-requires t c κs =
     let z = c .before .before .before in
     let w = z .before .before .before in
     step-ahead (into t w) (z .before .before .if1 .left) (z .if2 .left)
-
-number-uses-add-number-copy : (t : ℕ) → number-uses-lts.Need-add-number-copy (number-uses-claims t) (number-uses-at t) number-uses.Post
-number-uses-add-number-copy t c = search needs
 
 number-uses-number-copy-requires : (t : ℕ) → number-uses-lts.Need-number-copy-requires (number-uses-claims t) (number-uses-at t) number-uses.Post
 number-uses-number-copy-requires t c κs =
@@ -139,30 +133,10 @@ number-uses-returns-3 t c =
     number-step (into t w) (z .before .before .if1 .left) (z .if2 .left) (b .before .wide2 .ensures .0 ∙ b .before .before .value .ensures) (b .behind .ensures) _ _ _ (c .number-copy .ensures)
 
 pub +number-copy+number-uses-spec : {M : Type 1} → statement M
-+number-copy+number-uses-spec = close μ-number-copy μ-number-uses (λ t. number-copy-lts.spec
-    (number-copy-claims t)
-    (number-copy-at t)
-    number-copy.Post
-    (number-copy-own-cues-requires t)
-    (number-copy-add-number-uses t)
-    (number-copy-number-uses-requires t)
-    (number-copy-returns t)
-    (number-copy-own-number-requires t)
-    (number-copy-returns-2 t))
-    λ t. number-uses-lts.spec
-    (number-uses-claims t)
-    (number-uses-at t)
-    number-uses.Post
-    (number-uses-use-rows-requires t)
-    (number-uses-mul-wide t)
-    (number-uses-shared-slice-read-wide t)
-    (number-uses-wide-requires t)
-    (number-uses-returns t)
-    (number-uses-returns-2 t)
-    (number-uses-add-value t)
-    (number-uses-value-requires t)
-    (number-uses-wide-requires-2 t)
-    (number-uses-behind-requires t)
-    (number-uses-add-number-copy t)
-    (number-uses-number-copy-requires t)
++number-copy+number-uses-spec = close μ-number-copy μ-number-uses (λ t. number-copy-lts.spec (number-copy-claims t) (number-copy-at t)
+    number-copy.Post (λ c κs. search needs) (number-copy-add-number-uses t) (number-copy-number-uses-requires t) (number-copy-returns t)
+    (number-copy-own-number-requires t) (number-copy-returns-2 t))
+    λ t. number-uses-lts.spec (number-uses-claims t) (number-uses-at t) number-uses.Post (number-uses-use-rows-requires t) (λ c. search needs)
+    (λ c. search needs) (λ c κs. search needs) (number-uses-returns t) (number-uses-returns-2 t) (number-uses-add-value t)
+    (number-uses-value-requires t) (λ c κs. search needs) (number-uses-behind-requires t) (λ c. search needs) (number-uses-number-copy-requires t)
     (number-uses-returns-3 t)

@@ -13,12 +13,6 @@ Inv-loop xs t k many base i₀ end sum₀ i sum = Summed xs t k many base end i 
 abbrev μ-loop : tie.MeasureT-loop
 μ-loop xs t k many base i₀ end sum₀ i sum = end - i
 
-entry-requires : tie.Need-entry-requires Inv-loop μ-loop
-entry-requires c κs = search needs
-
-wide-requires : tie.Need-wide-requires Inv-loop μ-loop
-wide-requires c κs = search needs
-
 add-end : tie.Need-add-end Inv-loop μ-loop
 add-end c = omega (arith, ahead-rows (c .before .before .before .pre))
 
@@ -30,9 +24,6 @@ value-requires : tie.Need-value-requires Inv-loop μ-loop
 value-requires c κs =
     omega (arith, sum-there (c .before .before .before .before .before .pre) (c .before .loop .inv) (c .loop-test .taken))
 
-wide-requires-2 : tie.Need-wide-requires-2 Inv-loop μ-loop
-wide-requires-2 c κs = search needs
-
 entry-requires-2 : tie.Need-entry-requires-2 Inv-loop μ-loop
 entry-requires-2 c κs =
     let z = c .before .before in
@@ -42,12 +33,6 @@ add-sum : tie.Need-add-sum Inv-loop μ-loop
 add-sum c =
     let z = c .before .before .before in
     omega (arith, sum-fits (z .before .before .before .before .before .pre) (z .before .loop .inv) (c .before .wide2 .result) (c .entry2 .result) (search needs) (c .entry2 .ensures) (z .loop-test .taken))
-
-add-i : tie.Need-add-i Inv-loop μ-loop
-add-i c = search needs
-
-loop-less : tie.Need-loop-less Inv-loop μ-loop
-loop-less c = search needs
 
 loop-again : tie.Need-loop-again Inv-loop μ-loop
 loop-again c =
@@ -60,18 +45,5 @@ returns c = search (sum-done, needs)
 pub behind-spec : {M : Type 1} → statement M
 behind-spec =
     tie.close
-    (tie.spec
-    Inv-loop
-    μ-loop
-    entry-requires
-    wide-requires
-    add-end
-    loop-holds
-    value-requires
-    wide-requires-2
-    entry-requires-2
-    add-sum
-    add-i
-    loop-less
-    loop-again
-    returns)
+    (tie.spec Inv-loop μ-loop (λ c κs. search needs) (λ c κs. search needs) add-end loop-holds value-requires (λ c κs. search needs) entry-requires-2
+    add-sum (λ c. search needs) (λ c. search needs) loop-again returns)

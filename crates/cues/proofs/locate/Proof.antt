@@ -7,9 +7,6 @@ use native.Mathlib.Omega.{arith}
 use Rattle.cues.proofs.locate.Statement.{statement}
 use Rattle.cues.proofs.locate.Tie as tie
 
-wide-requires : tie.Need-wide-requires
-wide-requires c κs = search needs
-
 sub-last : tie.Need-sub-last
 sub-last c =
     let p = c .before .before .before .pre in
@@ -21,9 +18,6 @@ locate-copy-requires c κs =
     let p = w .before .before .before .pre in
     ask-show (shown (p .0) (p .1 .0) (w .wide .ensures .0 ∙ p .1 .1 .0)) _ _ (p .1 .1 .1 .0) (p .1 .1 .1 .1 .0) (p .1 .1 .1 .1 .1)
 
-same-length : tie.Need-same-length
-same-length c = search needs
-
 returns : tie.Need-returns
 returns c =
     let r = c .before .before in
@@ -33,4 +27,4 @@ returns c =
     (show-answer s _ _ _ _ (r .locate-copy .ensures), show-path s _ _ _ _ (r .locate-copy .ensures))
 
 pub locate-spec : {M : Type 1} → statement M
-locate-spec = tie.close (tie.spec wide-requires sub-last locate-copy-requires same-length returns)
+locate-spec = tie.close (tie.spec (λ c κs. search needs) sub-last locate-copy-requires (λ c. search needs) returns)

@@ -7,9 +7,6 @@ use native.Mathlib.Omega.{arith}
 use Rattle.cues.proofs.number.Statement.{statement}
 use Rattle.cues.proofs.number.Tie as tie
 
-wide-requires : tie.Need-wide-requires
-wide-requires c κs = search needs
-
 sub-last : tie.Need-sub-last
 sub-last c =
     let p = c .before .before .before .pre in
@@ -27,4 +24,4 @@ returns c =
     show-number (shown (p .0) (p .1 .0) (w .wide .ensures .0 ∙ p .1 .1)) _ _ _ (c .number-copy .ensures)
 
 pub number-spec : {M : Type 1} → statement M
-number-spec = tie.close (tie.spec wide-requires sub-last number-copy-requires returns)
+number-spec = tie.close (tie.spec (λ c κs. search needs) sub-last number-copy-requires returns)

@@ -13,12 +13,9 @@ returns-2 : tie.Need-returns-2
 unfolding ownNumber
 returns-2 c = search (ifs, needs)
 
-add-result : tie.Need-add-result
-add-result c = search needs
-
 returns-3 : tie.Need-returns-3
 unfolding ownNumber
 returns-3 c = search (ifs, needs)
 
 pub own-number-spec : {M : Type 1} → statement M
-own-number-spec = tie.close (tie.spec returns returns-2 add-result returns-3)
+own-number-spec = tie.close (tie.spec returns returns-2 (λ c. search needs) returns-3)

@@ -32,35 +32,14 @@ loop-holds c =
     let kn = here (c .before .before .before .before .before .before) in
     (search needs, search needs, omega (arith, c .joins-of .ensures .0), omega (arith, c .before .own-of .ensures .0), filled-none _ _)
 
-add-from-cue : tie.Need-add-from-cue Inv-loop μ-loop
-add-from-cue c = search needs
-
-add-from-cue-2 : tie.Need-add-from-cue-2 Inv-loop μ-loop
-add-from-cue-2 c = search needs
-
-add-from-cue-3 : tie.Need-add-from-cue-3 Inv-loop μ-loop
-add-from-cue-3 c = search needs
-
 from-cue-requires : tie.Need-from-cue-requires Inv-loop μ-loop
 from-cue-requires c κs =
     let at-before = c .before .before .before .before .before .before .before .before in
     let kn = here (at-before .before) in
     (omega arith, (kn .opens, kn .links), omega arith, omega arith)
 
-slice-aggregate-keep-row : tie.Need-slice-aggregate-keep-row Inv-loop μ-loop
-slice-aggregate-keep-row c = search needs
-
-add-keep-row : tie.Need-add-keep-row Inv-loop μ-loop
-add-keep-row c = search needs
-
 keep-row-requires : tie.Need-keep-row-requires Inv-loop μ-loop
 keep-row-requires c κs = (omega (arith, c .before .before .before .before .before .before .before .loop .inv .4 .size), search needs)
-
-add-i : tie.Need-add-i Inv-loop μ-loop
-add-i c = search needs
-
-loop-less : tie.Need-loop-less Inv-loop μ-loop
-loop-less c = search needs
 
 loop-again : tie.Need-loop-again Inv-loop μ-loop
 loop-again c =
@@ -81,9 +60,6 @@ loop-again c =
           (l .inv .4) (f .from-cue .ensures) (λ x. omega (arith, at-slice-known2 .slice-known2 .given x)) (k .ensures) (k .kept .0),
     )
 
-same-length : tie.Need-same-length Inv-loop μ-loop
-same-length c = search needs
-
 returns : tie.Need-returns Inv-loop μ-loop
 returns c =
     let at-loop = c .before in
@@ -95,21 +71,6 @@ returns c =
 pub block-numbers-spec : {M : Type 1} → statement M
 block-numbers-spec =
     tie.close
-    (tie.spec
-    Inv-loop
-    μ-loop
-    own-of-requires
-    joins-of-requires
-    loop-holds
-    add-from-cue
-    add-from-cue-2
-    add-from-cue-3
-    from-cue-requires
-    slice-aggregate-keep-row
-    add-keep-row
-    keep-row-requires
-    add-i
-    loop-less
-    loop-again
-    same-length
+    (tie.spec Inv-loop μ-loop own-of-requires joins-of-requires loop-holds (λ c. search needs) (λ c. search needs) (λ c. search needs)
+    from-cue-requires (λ c. search needs) (λ c. search needs) keep-row-requires (λ c. search needs) (λ c. search needs) loop-again (λ c. search needs)
     returns)

@@ -1,5 +1,4 @@
 -- `distance::climb` meets its contract.
-use Prim.Native.Nat.{_-_}
 use native.Mathlib.Omega.{arith}
 use mathlib.Core.Path.{_∙_}
 use borrow.Author.Needs.{needs}
@@ -8,27 +7,6 @@ use Rattle.distance.specs.Copies.{Traced}
 use Rattle.distance.proofs.Climbing.{risen-start, own-level, fits-level}
 use Rattle.distance.proofs.climb.Statement.{statement}
 use Rattle.distance.proofs.climb.Tie as tie
-
-slice-aggregate-trace : tie.Need-slice-aggregate-trace
-slice-aggregate-trace c = search needs
-
-trace-requires : tie.Need-trace-requires
-trace-requires c κs = search needs
-
-slice-aggregate-place : tie.Need-slice-aggregate-place
-slice-aggregate-place c = search needs
-
-place-requires : tie.Need-place-requires
-place-requires c κs = search needs
-
-own-of-requires : tie.Need-own-of-requires
-own-of-requires c κs = search needs
-
-joins-of-requires : tie.Need-joins-of-requires
-joins-of-requires c κs = search needs
-
-add-from-cue : tie.Need-add-from-cue
-add-from-cue c = search needs
 
 from-cue-requires : tie.Need-from-cue-requires
 from-cue-requires c κs =
@@ -52,9 +30,6 @@ keep-joins-requires c κs =
     let e = at-place .place .ensures .0 ∙ tr (s .args .depth) (omega arith) in
     (fits-level _ _ _ (s .pre .0) _ _ _ (s .pre .1) _ (at-place .place .result) (omega arith) e, omega (arith, s .pre .1), search needs, search needs)
 
-slice-aggregate-rise : tie.Need-slice-aggregate-rise
-slice-aggregate-rise c = search needs
-
 rise-requires : tie.Need-rise-requires
 rise-requires c κs =
     let at-keep-joins = c .before .before .before .before .before in
@@ -68,30 +43,9 @@ rise-requires c κs =
     let e = at-place .place .ensures .0 ∙ tr (s .args .depth) (omega arith) in
     (s .pre .0, s .pre .1, tr, at-keep-joins .keep-joins .kept .1 .1 .1 .1 .1 .0 ∙ s .pre .3, at-from-cue .from-cue .kept .1 .1 .1 .1 .1 .1 .0 ∙ s .pre .4, risen-start _ _ _ (s .pre .0) _ _ _ (s .pre .1) (at-place .place .result) (s .args .kept .now) (at-from-cue .from-cue .last .1 .1 .1 .1 .1 .1 .0) (at-keep-joins .keep-joins .last .1 .1 .1 .1 .1 .0) e (rw (at-own-of .own-of .ensures .0, at-joins-of .joins-of .ensures .0) at (at-from-cue .from-cue .ensures)) (at-keep-joins .keep-joins .ensures))
 
-same-length : tie.Need-same-length
-same-length c = search needs
-
-same-length-2 : tie.Need-same-length-2
-same-length-2 c = search needs
-
-returns : tie.Need-returns
-returns c = search needs
-
 pub climb-spec : {M : Type 1} → statement M
 climb-spec =
     tie.close
-    (tie.spec
-    slice-aggregate-trace
-    trace-requires
-    slice-aggregate-place
-    place-requires
-    own-of-requires
-    joins-of-requires
-    add-from-cue
-    from-cue-requires
-    keep-joins-requires
-    slice-aggregate-rise
-    rise-requires
-    same-length
-    same-length-2
-    returns)
+    (tie.spec (λ c. search needs) (λ c κs. search needs) (λ c. search needs) (λ c κs. search needs) (λ c κs. search needs) (λ c κs. search needs)
+    (λ c. search needs) from-cue-requires keep-joins-requires (λ c. search needs) rise-requires (λ c. search needs) (λ c. search needs)
+    (λ c. search needs))

@@ -1,17 +1,13 @@
-use borrow.Author.Needs.{needs}
+-- `distance::falls` meets its contract.
 use native.Mathlib.Omega.{arith}
 use mathlib.Core.Path.{refl}
 use mathlib.Core.Logic.{inl, inr}
 use Rattle.distance.proofs.falls.Statement.{statement}
 use Rattle.distance.proofs.falls.Tie as tie
-use Rattle.distance.proofs.falls.Reads as reads
-use Rattle.distance.proofs.falls.Lts as lts
 
--- src/lib.rt:104:9
 returns : tie.Need-returns
 returns c = inl (omega arith, refl)
 
--- src/lib.rt:100:1
 returns-2 : tie.Need-returns-2
 returns-2 c = inr (omega arith, refl)
 

@@ -23,11 +23,8 @@ between-requires c κs =
       omega (arith, c .before .last-of .ensures, a .2),
     )
 
-said-requires : tie.Need-said-requires
-said-requires c κs = search needs
-
 returns : tie.Need-returns
 returns c = c .said .ensures ∙ sym (c .before .between .ensures)
 
 pub fewest-spec : {M : Type 1} → statement M
-fewest-spec = tie.close (tie.spec last-of-requires between-requires said-requires returns)
+fewest-spec = tie.close (tie.spec last-of-requires between-requires (λ c κs. search needs) returns)

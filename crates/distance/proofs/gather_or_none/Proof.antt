@@ -18,35 +18,11 @@ abbrev μ-loop : tie.MeasureT-loop
 loop-holds : tie.Need-loop-holds Inv-loop μ-loop
 loop-holds c = (search needs, search needs, gathered-none _ _ _ _)
 
-add-place : tie.Need-add-place Inv-loop μ-loop
-add-place c = search needs
-
-place-requires : tie.Need-place-requires Inv-loop μ-loop
-place-requires c κs = search needs
-
-get-requires : tie.Need-get-requires Inv-loop μ-loop
-get-requires c κs = search needs
-
-mul-e : tie.Need-mul-e Inv-loop μ-loop
-mul-e c = search needs
-
-slice-write-e : tie.Need-slice-write-e Inv-loop μ-loop
-slice-write-e c = search needs
-
-add-i : tie.Need-add-i Inv-loop μ-loop
-add-i c = search needs
-
-loop-less : tie.Need-loop-less Inv-loop μ-loop
-loop-less c = search needs
-
 loop-again : tie.Need-loop-again Inv-loop μ-loop
 loop-again c =
     let at-place = c .before in
     let l = at-place .before .before .loop in
     (search needs, search needs, gathered-more _ _ _ _ _ _ _ _ (omega arith) (l .inv .2) (at-place .place .ensures .0) (c .get .ensures))
-
-same-length : tie.Need-same-length Inv-loop μ-loop
-same-length c = search needs
 
 returns : tie.Need-returns Inv-loop μ-loop
 returns c = let e : c .before .loop .i ≡ c .before .before .before .before .before .args .m = omega arith in rw e at (c .before .loop .inv .2)
@@ -54,17 +30,5 @@ returns c = let e : c .before .loop .i ≡ c .before .before .before .before .be
 pub gather-or-none-spec : {M : Type 1} → statement M
 gather-or-none-spec =
     tie.close
-    (tie.spec
-    Inv-loop
-    μ-loop
-    loop-holds
-    add-place
-    place-requires
-    get-requires
-    mul-e
-    slice-write-e
-    add-i
-    loop-less
-    loop-again
-    same-length
-    returns)
+    (tie.spec Inv-loop μ-loop loop-holds (λ c. search needs) (λ c κs. search needs) (λ c κs. search needs) (λ c. search needs) (λ c. search needs)
+    (λ c. search needs) (λ c. search needs) loop-again (λ c. search needs) returns)

@@ -4,17 +4,8 @@ use Rattle.distance.proofs.Laws.{past}
 use Rattle.distance.proofs.get.Statement.{statement}
 use Rattle.distance.proofs.get.Tie as tie
 
-mul-result : tie.Need-mul-result
-mul-result c = search needs
-
-shared-slice-read-result : tie.Need-shared-slice-read-result
-shared-slice-read-result c = search needs
-
-returns : tie.Need-returns
-returns c = search needs
-
 returns-2 : tie.Need-returns-2
 returns-2 c = search (past, needs)
 
 pub get-spec : {M : Type 1} → statement M
-get-spec = tie.close (tie.spec mul-result shared-slice-read-result returns returns-2)
+get-spec = tie.close (tie.spec (λ c. search needs) (λ c. search needs) (λ c. search needs) returns-2)

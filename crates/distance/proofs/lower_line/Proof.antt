@@ -18,43 +18,10 @@ abbrev μ-loop : tie.MeasureT-loop
 loop-holds : tie.Need-loop-holds Inv-loop μ-loop
 loop-holds c = (search needs, search needs, line-none _ _ _ _)
 
-mul-lowered : tie.Need-mul-lowered Inv-loop μ-loop
-mul-lowered c = search needs
-
-slice-read-lowered : tie.Need-slice-read-lowered Inv-loop μ-loop
-slice-read-lowered c = search needs
-
-add-lowered : tie.Need-add-lowered Inv-loop μ-loop
-add-lowered c = search needs
-
-mul-lowered-2 : tie.Need-mul-lowered-2 Inv-loop μ-loop
-mul-lowered-2 c = search needs
-
-shared-slice-read-lowered : tie.Need-shared-slice-read-lowered Inv-loop μ-loop
-shared-slice-read-lowered c = search needs
-
-lowered-requires : tie.Need-lowered-requires Inv-loop μ-loop
-lowered-requires c κs = search needs
-
-mul-e : tie.Need-mul-e Inv-loop μ-loop
-mul-e c = search needs
-
-slice-write-e : tie.Need-slice-write-e Inv-loop μ-loop
-slice-write-e c = search needs
-
-add-j : tie.Need-add-j Inv-loop μ-loop
-add-j c = search needs
-
-loop-less : tie.Need-loop-less Inv-loop μ-loop
-loop-less c = search needs
-
 loop-again : tie.Need-loop-again Inv-loop μ-loop
 loop-again c =
     let l = c .before .before .before .before .loop in
     (search needs, search needs, line-more _ _ _ _ _ _ _ _ _ (omega arith) (l .inv .2) refl refl (c .lowered .ensures))
-
-same-length : tie.Need-same-length Inv-loop μ-loop
-same-length c = search needs
 
 returns : tie.Need-returns Inv-loop μ-loop
 returns c = let e : c .before .loop .j ≡ 8 = omega arith in rw e at (c .before .loop .inv .2)
@@ -62,20 +29,5 @@ returns c = let e : c .before .loop .j ≡ 8 = omega arith in rw e at (c .before
 pub lower-line-spec : {M : Type 1} → statement M
 lower-line-spec =
     tie.close
-    (tie.spec
-    Inv-loop
-    μ-loop
-    loop-holds
-    mul-lowered
-    slice-read-lowered
-    add-lowered
-    mul-lowered-2
-    shared-slice-read-lowered
-    lowered-requires
-    mul-e
-    slice-write-e
-    add-j
-    loop-less
-    loop-again
-    same-length
-    returns)
+    (tie.spec Inv-loop μ-loop loop-holds (λ c. search needs) (λ c. search needs) (λ c. search needs) (λ c. search needs) (λ c. search needs)
+    (λ c κs. search needs) (λ c. search needs) (λ c. search needs) (λ c. search needs) (λ c. search needs) loop-again (λ c. search needs) returns)

@@ -18,35 +18,11 @@ abbrev μ-loop : tie.MeasureT-loop
 loop-holds : tie.Need-loop-holds Inv-loop μ-loop
 loop-holds c = (search needs, search needs, lines-none _ _ _ _)
 
-mul-lower-by : tie.Need-mul-lower-by Inv-loop μ-loop
-mul-lower-by c = search needs
-
-add-lower-by : tie.Need-add-lower-by Inv-loop μ-loop
-add-lower-by c = search needs
-
-mul-lower-by-2 : tie.Need-mul-lower-by-2 Inv-loop μ-loop
-mul-lower-by-2 c = search needs
-
-shared-slice-read-lower-by : tie.Need-shared-slice-read-lower-by Inv-loop μ-loop
-shared-slice-read-lower-by c = search needs
-
-lower-by-requires : tie.Need-lower-by-requires Inv-loop μ-loop
-lower-by-requires c κs = search needs
-
-add-i : tie.Need-add-i Inv-loop μ-loop
-add-i c = search needs
-
-loop-less : tie.Need-loop-less Inv-loop μ-loop
-loop-less c = search needs
-
 loop-again : tie.Need-loop-again Inv-loop μ-loop
 loop-again c =
     let b = c .before .before in
     let l = b .before .before .before .before .loop in
     (search needs, search needs, lines-more _ _ _ _ _ _ _ _ (l .inv .2) refl (b .lower-by .ensures))
-
-same-length : tie.Need-same-length Inv-loop μ-loop
-same-length c = search needs
 
 returns : tie.Need-returns Inv-loop μ-loop
 returns c = let e : c .before .loop .i ≡ 8 = omega arith in rw e at (c .before .loop .inv .2)
@@ -54,17 +30,5 @@ returns c = let e : c .before .loop .i ≡ 8 = omega arith in rw e at (c .before
 pub lower-lines-spec : {M : Type 1} → statement M
 lower-lines-spec =
     tie.close
-    (tie.spec
-    Inv-loop
-    μ-loop
-    loop-holds
-    mul-lower-by
-    add-lower-by
-    mul-lower-by-2
-    shared-slice-read-lower-by
-    lower-by-requires
-    add-i
-    loop-less
-    loop-again
-    same-length
-    returns)
+    (tie.spec Inv-loop μ-loop loop-holds (λ c. search needs) (λ c. search needs) (λ c. search needs) (λ c. search needs) (λ c κs. search needs)
+    (λ c. search needs) (λ c. search needs) loop-again (λ c. search needs) returns)

@@ -18,18 +18,6 @@ abbrev μ-loop : tie.MeasureT-loop
 loop-holds : tie.Need-loop-holds Inv-loop μ-loop
 loop-holds c = (search needs, search needs, search needs, c .before .before .before .before .before .before .before .pre .5)
 
-sub-l : tie.Need-sub-l Inv-loop μ-loop
-sub-l c = search needs
-
-place-requires : tie.Need-place-requires Inv-loop μ-loop
-place-requires c κs = search needs
-
-place-requires-2 : tie.Need-place-requires-2 Inv-loop μ-loop
-place-requires-2 c κs = search needs
-
-step-row-requires : tie.Need-step-row-requires Inv-loop μ-loop
-step-row-requires c κs = search needs
-
 add-rise-one : tie.Need-add-rise-one Inv-loop μ-loop
 add-rise-one c =
     let start = c .before .before .before .before .before .before .before .before .before .before .before .before in
@@ -53,9 +41,6 @@ keep-joins-requires c κs =
     let long : l .l - 1 ≤ s .args .depth = omega arith in
     (fits-level _ _ _ (s .pre .0) _ _ _ (s .pre .1) (l .l - 1) (at-place .place .result) long (at-place .place .ensures .0 ∙ s .pre .2 (l .l - 1) (omega arith)), omega (arith, s .pre .1), search needs, search needs)
 
-loop-less : tie.Need-loop-less Inv-loop μ-loop
-loop-less c = search needs
-
 loop-again : tie.Need-loop-again Inv-loop μ-loop
 loop-again c =
     let at-keep-joins = c .before .before in
@@ -74,31 +59,11 @@ loop-again c =
           (at-place .place .ensures .0 ∙ s .pre .2 (l .l - 1) (omega arith)) (at-place2 .place2 .ensures .0) (at-step-row .step-row .ensures .0) (rw e (l .inv .3)) (at-rise-one .rise-one .ensures) (at-keep-joins .keep-joins .ensures),
     )
 
-same-length : tie.Need-same-length Inv-loop μ-loop
-same-length c = search needs
-
-same-length-2 : tie.Need-same-length-2 Inv-loop μ-loop
-same-length-2 c = search needs
-
 returns : tie.Need-returns Inv-loop μ-loop
 returns c = let e : c .before .loop .l ≡ 0 = omega arith in rw e at (c .before .loop .inv .3)
 
 pub rise-spec : {M : Type 1} → statement M
 rise-spec =
     tie.close
-    (tie.spec
-    Inv-loop
-    μ-loop
-    loop-holds
-    sub-l
-    place-requires
-    place-requires-2
-    step-row-requires
-    add-rise-one
-    rise-one-requires
-    keep-joins-requires
-    loop-less
-    loop-again
-    same-length
-    same-length-2
-    returns)
+    (tie.spec Inv-loop μ-loop loop-holds (λ c. search needs) (λ c κs. search needs) (λ c κs. search needs) (λ c κs. search needs) add-rise-one
+    rise-one-requires keep-joins-requires (λ c. search needs) loop-again (λ c. search needs) (λ c. search needs) returns)

@@ -1,5 +1,4 @@
 -- `distance::settle` meets its contract. The invariant: every change so far was by an edge that improved a label. The measure: the sum of the labels.
-use Prim.Native.Nat.{_-_}
 use mathlib.Core.Path.{_≡_}
 use lib.ListN.{length}
 use borrow.Author.Needs.{needs}
@@ -17,30 +16,14 @@ abbrev μ-loop : tie.MeasureT-loop
 loop-holds : tie.Need-loop-holds Inv-loop μ-loop
 loop-holds c = (search needs, runs-none _)
 
-relax-block-requires : tie.Need-relax-block-requires Inv-loop μ-loop
-relax-block-requires c κs = search needs
-
 loop-less : tie.Need-loop-less Inv-loop μ-loop
 loop-less c = search (round-falls, needs)
 
 loop-again : tie.Need-loop-again Inv-loop μ-loop
 loop-again c = (search needs, search (round-again, needs))
 
-same-length : tie.Need-same-length Inv-loop μ-loop
-same-length c = search needs
-
 returns : tie.Need-returns Inv-loop μ-loop
 returns c = search (round-last, needs)
 
 pub settle-spec : {M : Type 1} → statement M
-settle-spec =
-    tie.close
-    (tie.spec
-    Inv-loop
-    μ-loop
-    loop-holds
-    relax-block-requires
-    loop-less
-    loop-again
-    same-length
-    returns)
+settle-spec = tie.close (tie.spec Inv-loop μ-loop loop-holds (λ c κs. search needs) loop-less loop-again (λ c. search needs) returns)

@@ -22,9 +22,6 @@ loop-holds c =
     let s = c .before .before .before .before .before .before .before in
     (search needs, search needs, s .pre .3, with refl (omega arith) refl, s .pre .6)
 
-place-requires : tie.Need-place-requires Inv-loop μ-loop
-place-requires c κs = search needs
-
 step-row-requires : tie.Need-step-row-requires Inv-loop μ-loop
 step-row-requires c κs =
     let at-loop = c .before .before in
@@ -32,21 +29,6 @@ step-row-requires c κs =
     let l = at-loop .loop in
     let f = fits-level _ _ _ (s .pre .0) _ _ _ (s .pre .2) (l .l) (l .k) (l .inv .0) (l .inv .2) in
     (omega (arith, f), omega arith)
-
-mul-place : tie.Need-mul-place Inv-loop μ-loop
-mul-place c = search needs
-
-add-place : tie.Need-add-place Inv-loop μ-loop
-add-place c = search needs
-
-place-requires-2 : tie.Need-place-requires-2 Inv-loop μ-loop
-place-requires-2 c κs = search needs
-
-still-holds-requires : tie.Need-still-holds-requires Inv-loop μ-loop
-still-holds-requires c κs = search needs
-
-add-sink-one : tie.Need-add-sink-one Inv-loop μ-loop
-add-sink-one c = search needs
 
 sink-one-requires : tie.Need-sink-one-requires Inv-loop μ-loop
 sink-one-requires c κs =
@@ -58,12 +40,6 @@ sink-one-requires c κs =
     let l = at-loop .loop in
     let e = block-next _ _ _ (s .pre .0) _ _ _ (s .pre .1) _ _ _ (s .pre .2) (l .l) (l .k) (at-place .place .result) (at-step-row .step-row .result) (at-place2 .place2 .result) (l .inv .2) (at-place .place .ensures .0) (at-step-row .step-row .ensures .0) (at-place2 .place2 .ensures .0) in
     (fits-level _ _ _ (s .pre .0) _ _ _ (s .pre .2) (l .l + 1) (at-place2 .place2 .result) (omega arith) e, omega arith, omega (arith, s .pre .2), omega arith)
-
-add-l : tie.Need-add-l Inv-loop μ-loop
-add-l c = search needs
-
-loop-less : tie.Need-loop-less Inv-loop μ-loop
-loop-less c = search needs
 
 loop-again : tie.Need-loop-again Inv-loop μ-loop
 loop-again c =
@@ -85,9 +61,6 @@ loop-again c =
       sunk-on _ _ _ (s .pre .0) _ _ _ (s .pre .1) _ _ _ (s .pre .2) (l .l) (l .k) (at-place .place .result) (at-step-row .step-row .result) (at-place2 .place2 .result) (at-still-holds .still-holds .result) (s .args .kept .now) (l .d) (at-sink-one .sink-one .last .1 .1 .1 .1 .1 .1 .1 .1 .1 .1 .1 .0) less (l .inv .2) (at-place .place .ensures .0) (at-step-row .step-row .ensures .0) (at-place2 .place2 .ensures .0) held (s .pre .4) (l .inv .4) (at-sink-one .sink-one .ensures),
     )
 
-same-length : tie.Need-same-length Inv-loop μ-loop
-same-length c = search needs
-
 returns : tie.Need-returns Inv-loop μ-loop
 returns c =
     let at-loop = c .before in
@@ -97,20 +70,5 @@ returns c =
 pub sink-spec : {M : Type 1} → statement M
 sink-spec =
     tie.close
-    (tie.spec
-    Inv-loop
-    μ-loop
-    loop-holds
-    place-requires
-    step-row-requires
-    mul-place
-    add-place
-    place-requires-2
-    still-holds-requires
-    add-sink-one
-    sink-one-requires
-    add-l
-    loop-less
-    loop-again
-    same-length
-    returns)
+    (tie.spec Inv-loop μ-loop loop-holds (λ c κs. search needs) step-row-requires (λ c. search needs) (λ c. search needs) (λ c κs. search needs)
+    (λ c κs. search needs) (λ c. search needs) sink-one-requires (λ c. search needs) (λ c. search needs) loop-again (λ c. search needs) returns)

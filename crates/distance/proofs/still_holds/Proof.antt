@@ -4,9 +4,6 @@ use Rattle.distance.proofs.Levels.{held-yes, held-other, held-end, held
 use Rattle.distance.proofs.still_holds.Statement.{statement}
 use Rattle.distance.proofs.still_holds.Tie as tie
 
-place-requires : tie.Need-place-requires
-place-requires c κs = search needs
-
 returns : tie.Need-returns
 returns c = search (held-yes, needs)
 
@@ -20,4 +17,4 @@ returns-4 : tie.Need-returns-4
 returns-4 c = search (held-not, needs)
 
 pub still-holds-spec : {M : Type 1} → statement M
-still-holds-spec = tie.close (tie.spec place-requires returns returns-2 returns-3 returns-4)
+still-holds-spec = tie.close (tie.spec (λ c κs. search needs) returns returns-2 returns-3 returns-4)

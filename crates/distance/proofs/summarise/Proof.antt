@@ -7,9 +7,6 @@ use Rattle.distance.proofs.Area.{area-all}
 use Rattle.distance.proofs.summarise.Statement.{statement}
 use Rattle.distance.proofs.summarise.Tie as tie
 
-summarise-blocks-requires : tie.Need-summarise-blocks-requires
-summarise-blocks-requires c κs = search needs
-
 mul-a : tie.Need-mul-a
 mul-a c = omega (arith, few-blocks _ (c .before .before .before .before .before .before .before .pre .0))
 
@@ -22,15 +19,6 @@ sub-wipe c = omega (arith, few-blocks _ (c .before .before .before .before .befo
 part-wipe-start : tie.Need-part-wipe-start
 part-wipe-start c = omega (arith, few-blocks _ (c .before .before .before .before .before .before .before .pre .0))
 
-part-wipe-end : tie.Need-part-wipe-end
-part-wipe-end c = search needs
-
-wipe-requires : tie.Need-wipe-requires
-wipe-requires c κs = search needs
-
-same-length : tie.Need-same-length
-same-length c = search needs
-
 returns : tie.Need-returns
 returns c =
     let w = c .before .before in
@@ -42,13 +30,4 @@ returns c =
 pub summarise-spec : {M : Type 1} → statement M
 summarise-spec =
     tie.close
-    (tie.spec
-    summarise-blocks-requires
-    mul-a
-    mul-wipe
-    sub-wipe
-    part-wipe-start
-    part-wipe-end
-    wipe-requires
-    same-length
-    returns)
+    (tie.spec (λ c κs. search needs) mul-a mul-wipe sub-wipe part-wipe-start (λ c. search needs) (λ c κs. search needs) (λ c. search needs) returns)

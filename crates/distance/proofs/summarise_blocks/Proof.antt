@@ -19,9 +19,6 @@ abbrev μ-loop : tie.MeasureT-loop
 loop-holds : tie.Need-loop-holds Inv-loop μ-loop
 loop-holds c = (search needs, search needs, search needs, area-none _ _)
 
-slice-aggregate-summarise-block : tie.Need-slice-aggregate-summarise-block Inv-loop μ-loop
-slice-aggregate-summarise-block c = search needs
-
 summarise-block-requires : tie.Need-summarise-block-requires Inv-loop μ-loop
 summarise-block-requires c κs =
     let at-loop = c .before .before .before in
@@ -29,12 +26,6 @@ summarise-block-requires c κs =
     let l = at-loop .loop in
     let few = few-blocks _ (s .pre .0) in
     (s .pre .0, s .pre .1, omega arith, area-below _ (s .args .work .now) _ _ (good-blocks _ (s .pre .0)) (l .inv .3), l .inv .2, omega arith)
-
-add-k : tie.Need-add-k Inv-loop μ-loop
-add-k c = search needs
-
-loop-less : tie.Need-loop-less Inv-loop μ-loop
-loop-less c = search needs
 
 loop-again : tie.Need-loop-again Inv-loop μ-loop
 loop-again c =
@@ -44,9 +35,6 @@ loop-again c =
     let l = at-loop .loop in
     (search needs, search needs, search needs, area-more _ _ (l .k) (l .work) _ (l .inv .3) (s .ensures))
 
-same-length : tie.Need-same-length Inv-loop μ-loop
-same-length c = search needs
-
 returns : tie.Need-returns Inv-loop μ-loop
 returns c =
     let e : c .before .loop .k ≡ c .before .before .before .before .before .args .blocks = omega arith in
@@ -55,14 +43,5 @@ returns c =
 pub summarise-blocks-spec : {M : Type 1} → statement M
 summarise-blocks-spec =
     tie.close
-    (tie.spec
-    Inv-loop
-    μ-loop
-    loop-holds
-    slice-aggregate-summarise-block
-    summarise-block-requires
-    add-k
-    loop-less
-    loop-again
-    same-length
-    returns)
+    (tie.spec Inv-loop μ-loop loop-holds (λ c. search needs) summarise-block-requires (λ c. search needs) (λ c. search needs) loop-again
+    (λ c. search needs) returns)

@@ -5,11 +5,8 @@ use Rattle.distance.proofs.Laws.{true-not-false}
 use Rattle.distance.proofs.unlike.Statement.{statement}
 use Rattle.distance.proofs.unlike.Tie as tie
 
-returns : tie.Need-returns
-returns c = search needs
-
 returns-2 : tie.Need-returns-2
 returns-2 c = λ h. absurd (true-not-false refl h)
 
 pub unlike-spec : {M : Type 1} → statement M
-unlike-spec = tie.close (tie.spec returns returns-2)
+unlike-spec = tie.close (tie.spec (λ c. search needs) returns-2)

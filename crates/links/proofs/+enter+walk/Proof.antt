@@ -1,12 +1,26 @@
 -- `links::enter` and `links::walk` meet their contracts: the walk of a copy and that of a use call each other; the block number falls.
+use mathlib.Core.List.{[]}
 use borrow.Author.Needs.{needs}
 use Prim.Native.Nat.{ℕ, _+_, _*_, _-_, _≤_, _<_}
 use mathlib.Core.Path.{_≡_, refl, _∙_}
-use mathlib.Core.List.{[]}
 use lib.ListN.{length}
 use Rattle.links.specs.Walks.{Going}
 use Rattle.links.proofs.Ground.{row-known, rows-order}
-use Rattle.links.proofs.Walks.{enter-shut, door-small, door-known, may-walk, table-less, enter-walk, leaf-walked, use-in, may-enter, next-small, going-begin, going-on, uses-walked}
+use Rattle.links.proofs.Walks.{
+  enter-shut,
+  door-small,
+  door-known,
+  may-walk,
+  table-less,
+  enter-walk,
+  leaf-walked,
+  use-in,
+  may-enter,
+  next-small,
+  going-begin,
+  going-on,
+  uses-walked,
+}
 use native.Mathlib.Omega.{arith}
 use borrow.Fn.Kinds.{In}
 use borrow.Fn.PlainCycle.{Measures, is, falls, and}
@@ -44,7 +58,8 @@ walk-at t = and 4 walk-kinds.ps (is 4 walk-kinds.ps μ-walk t) walk.Pre
 abbrev walk-below : ℕ → In 4 walk-kinds.ps
 walk-below t = and 4 walk-kinds.ps (falls 4 walk-kinds.ps _<_ μ-walk t) walk.Pre
 
-enter-door-requires : (t : ℕ) → enter-lts.Need-door-requires (
+abbrev enter-claims : ℕ → enter-lts.Claims
+enter-claims t = (
   door-reads.Asked,
   door-reads.Learnt,
   value-reads.Asked,
@@ -59,97 +74,24 @@ enter-door-requires : (t : ℕ) → enter-lts.Need-door-requires (
   entry-reads.Learnt,
   walk-below t,
   walk.Post,
-) (enter-at t) enter.Post
-enter-door-requires t c κs = search needs
+)
 
-enter-returns : (t : ℕ) → enter-lts.Need-returns (
-  door-reads.Asked,
-  door-reads.Learnt,
-  value-reads.Asked,
-  value-reads.Learnt,
-  wide-reads.Asked,
-  wide-reads.Learnt,
-  own-of-reads.Asked,
-  own-of-reads.Learnt,
-  give-block-reads.Asked,
-  give-block-reads.Learnt,
+abbrev walk-claims : ℕ → walk-lts.Claims
+walk-claims t = (
   entry-reads.Asked,
   entry-reads.Learnt,
-  walk-below t,
-  walk.Post,
-) (enter-at t) enter.Post
+  own-of-reads.Asked,
+  own-of-reads.Learnt,
+  enter-below t,
+  enter.Post,
+  size-of-reads.Asked,
+  size-of-reads.Learnt,
+)
+
+enter-returns : (t : ℕ) → enter-lts.Need-returns (enter-claims t) (enter-at t) enter.Post
 enter-returns t c = search (enter-shut, needs) fits 20000
 
-enter-value-requires : (t : ℕ) → enter-lts.Need-value-requires (
-  door-reads.Asked,
-  door-reads.Learnt,
-  value-reads.Asked,
-  value-reads.Learnt,
-  wide-reads.Asked,
-  wide-reads.Learnt,
-  own-of-reads.Asked,
-  own-of-reads.Learnt,
-  give-block-reads.Asked,
-  give-block-reads.Learnt,
-  entry-reads.Asked,
-  entry-reads.Learnt,
-  walk-below t,
-  walk.Post,
-) (enter-at t) enter.Post
-enter-value-requires t c κs = search needs
-
-enter-wide-requires : (t : ℕ) → enter-lts.Need-wide-requires (
-  door-reads.Asked,
-  door-reads.Learnt,
-  value-reads.Asked,
-  value-reads.Learnt,
-  wide-reads.Asked,
-  wide-reads.Learnt,
-  own-of-reads.Asked,
-  own-of-reads.Learnt,
-  give-block-reads.Asked,
-  give-block-reads.Learnt,
-  entry-reads.Asked,
-  entry-reads.Learnt,
-  walk-below t,
-  walk.Post,
-) (enter-at t) enter.Post
-enter-wide-requires t c κs = search needs
-
-enter-mul-at : (t : ℕ) → enter-lts.Need-mul-at (
-  door-reads.Asked,
-  door-reads.Learnt,
-  value-reads.Asked,
-  value-reads.Learnt,
-  wide-reads.Asked,
-  wide-reads.Learnt,
-  own-of-reads.Asked,
-  own-of-reads.Learnt,
-  give-block-reads.Asked,
-  give-block-reads.Learnt,
-  entry-reads.Asked,
-  entry-reads.Learnt,
-  walk-below t,
-  walk.Post,
-) (enter-at t) enter.Post
-enter-mul-at t c = search needs
-
-enter-mul-at-2 : (t : ℕ) → enter-lts.Need-mul-at-2 (
-  door-reads.Asked,
-  door-reads.Learnt,
-  value-reads.Asked,
-  value-reads.Learnt,
-  wide-reads.Asked,
-  wide-reads.Learnt,
-  own-of-reads.Asked,
-  own-of-reads.Learnt,
-  give-block-reads.Asked,
-  give-block-reads.Learnt,
-  entry-reads.Asked,
-  entry-reads.Learnt,
-  walk-below t,
-  walk.Post,
-) (enter-at t) enter.Post
+enter-mul-at-2 : (t : ℕ) → enter-lts.Need-mul-at-2 (enter-claims t) (enter-at t) enter.Post
 enter-mul-at-2 t c =
     let pre = c .before .before .before .before .before .before .before .pre .1 in
     let door = c .before .before .before .door .ensures in
@@ -159,22 +101,7 @@ enter-mul-at-2 t c =
     let few = door-small _ _ _ _ _ _ _ _ _ (pre .0) door enters in
     omega (arith, few)
 
-enter-add-at : (t : ℕ) → enter-lts.Need-add-at (
-  door-reads.Asked,
-  door-reads.Learnt,
-  value-reads.Asked,
-  value-reads.Learnt,
-  wide-reads.Asked,
-  wide-reads.Learnt,
-  own-of-reads.Asked,
-  own-of-reads.Learnt,
-  give-block-reads.Asked,
-  give-block-reads.Learnt,
-  entry-reads.Asked,
-  entry-reads.Learnt,
-  walk-below t,
-  walk.Post,
-) (enter-at t) enter.Post
+enter-add-at : (t : ℕ) → enter-lts.Need-add-at (enter-claims t) (enter-at t) enter.Post
 enter-add-at t c =
     let pre = c .before .before .before .before .before .before .before .pre .1 in
     let door = c .before .before .before .door .ensures in
@@ -184,58 +111,7 @@ enter-add-at t c =
     let few = door-small _ _ _ _ _ _ _ _ _ (pre .0) door enters in
     omega (arith, few, y₁, y₂, pre .1 .lower, pre .1 .known, pre .0 .show .blocks)
 
-enter-own-of-requires : (t : ℕ) → enter-lts.Need-own-of-requires (
-  door-reads.Asked,
-  door-reads.Learnt,
-  value-reads.Asked,
-  value-reads.Learnt,
-  wide-reads.Asked,
-  wide-reads.Learnt,
-  own-of-reads.Asked,
-  own-of-reads.Learnt,
-  give-block-reads.Asked,
-  give-block-reads.Learnt,
-  entry-reads.Asked,
-  entry-reads.Learnt,
-  walk-below t,
-  walk.Post,
-) (enter-at t) enter.Post
-enter-own-of-requires t c κs = search needs
-
-enter-add-d : (t : ℕ) → enter-lts.Need-add-d (
-  door-reads.Asked,
-  door-reads.Learnt,
-  value-reads.Asked,
-  value-reads.Learnt,
-  wide-reads.Asked,
-  wide-reads.Learnt,
-  own-of-reads.Asked,
-  own-of-reads.Learnt,
-  give-block-reads.Asked,
-  give-block-reads.Learnt,
-  entry-reads.Asked,
-  entry-reads.Learnt,
-  walk-below t,
-  walk.Post,
-) (enter-at t) enter.Post
-enter-add-d t c = search needs
-
-enter-cast-d : (t : ℕ) → enter-lts.Need-cast-d (
-  door-reads.Asked,
-  door-reads.Learnt,
-  value-reads.Asked,
-  value-reads.Learnt,
-  wide-reads.Asked,
-  wide-reads.Learnt,
-  own-of-reads.Asked,
-  own-of-reads.Learnt,
-  give-block-reads.Asked,
-  give-block-reads.Learnt,
-  entry-reads.Asked,
-  entry-reads.Learnt,
-  walk-below t,
-  walk.Post,
-) (enter-at t) enter.Post
+enter-cast-d : (t : ℕ) → enter-lts.Need-cast-d (enter-claims t) (enter-at t) enter.Post
 enter-cast-d t c =
     let pre = c .before .before .before .before .before .before .before .before .pre .1 in
     let door = c .before .before .before .before .door .ensures in
@@ -245,22 +121,7 @@ enter-cast-d t c =
     let few = door-small _ _ _ _ _ _ _ _ _ (pre .0) door enters in
     omega (arith, few)
 
-enter-add-d-2 : (t : ℕ) → enter-lts.Need-add-d-2 (
-  door-reads.Asked,
-  door-reads.Learnt,
-  value-reads.Asked,
-  value-reads.Learnt,
-  wide-reads.Asked,
-  wide-reads.Learnt,
-  own-of-reads.Asked,
-  own-of-reads.Learnt,
-  give-block-reads.Asked,
-  give-block-reads.Learnt,
-  entry-reads.Asked,
-  entry-reads.Learnt,
-  walk-below t,
-  walk.Post,
-) (enter-at t) enter.Post
+enter-add-d-2 : (t : ℕ) → enter-lts.Need-add-d-2 (enter-claims t) (enter-at t) enter.Post
 enter-add-d-2 t c =
     let pre = c .before .before .before .before .before .before .before .before .pre .1 in
     let door = c .before .before .before .before .door .ensures in
@@ -270,22 +131,7 @@ enter-add-d-2 t c =
     let few = door-small _ _ _ _ _ _ _ _ _ (pre .0) door enters in
     omega (arith, few, c .own-of .ensures)
 
-enter-give-block-requires : (t : ℕ) → enter-lts.Need-give-block-requires (
-  door-reads.Asked,
-  door-reads.Learnt,
-  value-reads.Asked,
-  value-reads.Learnt,
-  wide-reads.Asked,
-  wide-reads.Learnt,
-  own-of-reads.Asked,
-  own-of-reads.Learnt,
-  give-block-reads.Asked,
-  give-block-reads.Learnt,
-  entry-reads.Asked,
-  entry-reads.Learnt,
-  walk-below t,
-  walk.Post,
-) (enter-at t) enter.Post
+enter-give-block-requires : (t : ℕ) → enter-lts.Need-give-block-requires (enter-claims t) (enter-at t) enter.Post
 enter-give-block-requires t c κs =
     let pre = c .before .before .before .before .before .before .before .before .before .pre .1 in
     let door = c .before .before .before .before .before .door .ensures in
@@ -300,84 +146,21 @@ enter-give-block-requires t c κs =
       may-walk _ _ _ [] (pre .0) _ _ _ _ _ _ _ _ _ _ _ (pre .1) door enters y₁ y₂ y₃ refl _ (pre .5) (pre .6) (pre .5 .bound),
     )
 
-enter-entry-requires : (t : ℕ) → enter-lts.Need-entry-requires (
-  door-reads.Asked,
-  door-reads.Learnt,
-  value-reads.Asked,
-  value-reads.Learnt,
-  wide-reads.Asked,
-  wide-reads.Learnt,
-  own-of-reads.Asked,
-  own-of-reads.Learnt,
-  give-block-reads.Asked,
-  give-block-reads.Learnt,
-  entry-reads.Asked,
-  entry-reads.Learnt,
-  walk-below t,
-  walk.Post,
-) (enter-at t) enter.Post
+enter-entry-requires : (t : ℕ) → enter-lts.Need-entry-requires (enter-claims t) (enter-at t) enter.Post
 enter-entry-requires t c κs =
     let pre = c .before .before .before .before .before .before .before .before .before .before .before .before .pre .1 in
     let y₁ = c .before .before .before .before .before .before .value .ensures in
     let y₂ = c .before .before .before .before .before .wide .ensures .0 in
     (omega (arith, y₁, y₂, pre .1 .lower, pre .1 .known, pre .0 .show .blocks), omega arith)
 
-enter-entry-requires-2 : (t : ℕ) → enter-lts.Need-entry-requires-2 (
-  door-reads.Asked,
-  door-reads.Learnt,
-  value-reads.Asked,
-  value-reads.Learnt,
-  wide-reads.Asked,
-  wide-reads.Learnt,
-  own-of-reads.Asked,
-  own-of-reads.Learnt,
-  give-block-reads.Asked,
-  give-block-reads.Learnt,
-  entry-reads.Asked,
-  entry-reads.Learnt,
-  walk-below t,
-  walk.Post,
-) (enter-at t) enter.Post
+enter-entry-requires-2 : (t : ℕ) → enter-lts.Need-entry-requires-2 (enter-claims t) (enter-at t) enter.Post
 enter-entry-requires-2 t c κs =
     let pre = c .before .before .before .before .before .before .before .before .before .before .before .before .before .pre .1 in
     let y₁ = c .before .before .before .before .before .before .before .value .ensures in
     let y₂ = c .before .before .before .before .before .before .wide .ensures .0 in
     (omega (arith, y₁, y₂, pre .1 .lower, pre .1 .known, pre .0 .show .blocks), omega arith)
 
-enter-same-length : (t : ℕ) → enter-lts.Need-same-length (
-  door-reads.Asked,
-  door-reads.Learnt,
-  value-reads.Asked,
-  value-reads.Learnt,
-  wide-reads.Asked,
-  wide-reads.Learnt,
-  own-of-reads.Asked,
-  own-of-reads.Learnt,
-  give-block-reads.Asked,
-  give-block-reads.Learnt,
-  entry-reads.Asked,
-  entry-reads.Learnt,
-  walk-below t,
-  walk.Post,
-) (enter-at t) enter.Post
-enter-same-length t c = search needs
-
-enter-returns-2 : (t : ℕ) → enter-lts.Need-returns-2 (
-  door-reads.Asked,
-  door-reads.Learnt,
-  value-reads.Asked,
-  value-reads.Learnt,
-  wide-reads.Asked,
-  wide-reads.Learnt,
-  own-of-reads.Asked,
-  own-of-reads.Learnt,
-  give-block-reads.Asked,
-  give-block-reads.Learnt,
-  entry-reads.Asked,
-  entry-reads.Learnt,
-  walk-below t,
-  walk.Post,
-) (enter-at t) enter.Post
+enter-returns-2 : (t : ℕ) → enter-lts.Need-returns-2 (enter-claims t) (enter-at t) enter.Post
 enter-returns-2 t c =
     let pre = c .before .before .before .before .before .before .before .before .before .before .before .before .before .before .before .pre .1 in
     let door = c .before .before .before .before .before .before .before .before .before .before .before .door .ensures in
@@ -390,22 +173,7 @@ enter-returns-2 t c =
     (leaf-walked _ _ _ (pre .0) _ _ _ _ _ _ _ _ _ (omega (arith, y₁, y₂, pre .1 .lower, pre .1 .known)) (c .before .before .entry .ensures .0) (c .before .entry2 .ensures .0)
     (c .if2 .taken) (c .before .before .before .before .before .give-block .ensures))
 
-enter-walk-requires : (t : ℕ) → enter-lts.Need-walk-requires (
-  door-reads.Asked,
-  door-reads.Learnt,
-  value-reads.Asked,
-  value-reads.Learnt,
-  wide-reads.Asked,
-  wide-reads.Learnt,
-  own-of-reads.Asked,
-  own-of-reads.Learnt,
-  give-block-reads.Asked,
-  give-block-reads.Learnt,
-  entry-reads.Asked,
-  entry-reads.Learnt,
-  walk-below t,
-  walk.Post,
-) (enter-at t) enter.Post
+enter-walk-requires : (t : ℕ) → enter-lts.Need-walk-requires (enter-claims t) (enter-at t) enter.Post
 enter-walk-requires t c κs =
     let pre = c .before .before .before .before .before .before .before .before .before .before .before .before .before .before .before .before .pre .1 in
     let door = c .before .before .before .before .before .before .before .before .before .before .before .before .door .ensures in
@@ -424,40 +192,7 @@ enter-walk-requires t c κs =
       ),
     )
 
-enter-same-length-2 : (t : ℕ) → enter-lts.Need-same-length-2 (
-  door-reads.Asked,
-  door-reads.Learnt,
-  value-reads.Asked,
-  value-reads.Learnt,
-  wide-reads.Asked,
-  wide-reads.Learnt,
-  own-of-reads.Asked,
-  own-of-reads.Learnt,
-  give-block-reads.Asked,
-  give-block-reads.Learnt,
-  entry-reads.Asked,
-  entry-reads.Learnt,
-  walk-below t,
-  walk.Post,
-) (enter-at t) enter.Post
-enter-same-length-2 t c = search needs
-
-enter-returns-3 : (t : ℕ) → enter-lts.Need-returns-3 (
-  door-reads.Asked,
-  door-reads.Learnt,
-  value-reads.Asked,
-  value-reads.Learnt,
-  wide-reads.Asked,
-  wide-reads.Learnt,
-  own-of-reads.Asked,
-  own-of-reads.Learnt,
-  give-block-reads.Asked,
-  give-block-reads.Learnt,
-  entry-reads.Asked,
-  entry-reads.Learnt,
-  walk-below t,
-  walk.Post,
-) (enter-at t) enter.Post
+enter-returns-3 : (t : ℕ) → enter-lts.Need-returns-3 (enter-claims t) (enter-at t) enter.Post
 enter-returns-3 t c =
     let pre = c .before .before .before .before .before .before .before .before .before .before .before .before .before .before .before .before .before .before .before .pre .1 in
     let door = c .before .before .before .before .before .before .before .before .before .before .before .before .before .before .before .door .ensures in
@@ -475,64 +210,7 @@ walk-Inv-loop xs t q m k base c page₀ w g₀ a e r₀ b₀ page g r b =
 abbrev walk-μ-loop : walk-lts.MeasureT-loop
 walk-μ-loop xs t q m k base c page₀ w g₀ a e r₀ b₀ page g r b = e - r
 
-walk-entry-requires : (t : ℕ) → walk-lts.Need-entry-requires (
-  entry-reads.Asked,
-  entry-reads.Learnt,
-  own-of-reads.Asked,
-  own-of-reads.Learnt,
-  enter-below t,
-  enter.Post,
-  size-of-reads.Asked,
-  size-of-reads.Learnt,
-) (walk-at t) walk.Post walk-Inv-loop walk-μ-loop
-walk-entry-requires t c κs = search needs
-
-walk-entry-requires-2 : (t : ℕ) → walk-lts.Need-entry-requires-2 (
-  entry-reads.Asked,
-  entry-reads.Learnt,
-  own-of-reads.Asked,
-  own-of-reads.Learnt,
-  enter-below t,
-  enter.Post,
-  size-of-reads.Asked,
-  size-of-reads.Learnt,
-) (walk-at t) walk.Post walk-Inv-loop walk-μ-loop
-walk-entry-requires-2 t c κs = search needs
-
-walk-own-of-requires : (t : ℕ) → walk-lts.Need-own-of-requires (
-  entry-reads.Asked,
-  entry-reads.Learnt,
-  own-of-reads.Asked,
-  own-of-reads.Learnt,
-  enter-below t,
-  enter.Post,
-  size-of-reads.Asked,
-  size-of-reads.Learnt,
-) (walk-at t) walk.Post walk-Inv-loop walk-μ-loop
-walk-own-of-requires t c κs = search needs
-
-walk-add-b : (t : ℕ) → walk-lts.Need-add-b (
-  entry-reads.Asked,
-  entry-reads.Learnt,
-  own-of-reads.Asked,
-  own-of-reads.Learnt,
-  enter-below t,
-  enter.Post,
-  size-of-reads.Asked,
-  size-of-reads.Learnt,
-) (walk-at t) walk.Post walk-Inv-loop walk-μ-loop
-walk-add-b t c = search needs
-
-walk-loop-holds : (t : ℕ) → walk-lts.Need-loop-holds (
-  entry-reads.Asked,
-  entry-reads.Learnt,
-  own-of-reads.Asked,
-  own-of-reads.Learnt,
-  enter-below t,
-  enter.Post,
-  size-of-reads.Asked,
-  size-of-reads.Learnt,
-) (walk-at t) walk.Post walk-Inv-loop walk-μ-loop
+walk-loop-holds : (t : ℕ) → walk-lts.Need-loop-holds (walk-claims t) (walk-at t) walk.Post walk-Inv-loop walk-μ-loop
 walk-loop-holds t c =
     let pre = c .before .before .before .before .before .before .pre .1 in
     let known = pre .3 .known in
@@ -540,16 +218,7 @@ walk-loop-holds t c =
     let y₂ = c .before .entry2 .ensures .0 in
     (omega arith, rows-order _ _ _ _ _ (pre .0) known y₁ y₂, refl, going-begin _ _ _ (pre .0) _ _ _ _ _ _ _ known y₁ y₂ _ (c .own-of .ensures .0) (pre .3 .bound))
 
-walk-enter-requires : (t : ℕ) → walk-lts.Need-enter-requires (
-  entry-reads.Asked,
-  entry-reads.Learnt,
-  own-of-reads.Asked,
-  own-of-reads.Learnt,
-  enter-below t,
-  enter.Post,
-  size-of-reads.Asked,
-  size-of-reads.Learnt,
-) (walk-at t) walk.Post walk-Inv-loop walk-μ-loop
+walk-enter-requires : (t : ℕ) → walk-lts.Need-enter-requires (walk-claims t) (walk-at t) walk.Post walk-Inv-loop walk-μ-loop
 walk-enter-requires t c κs =
     let pre = c .before .before .before .before .before .before .before .before .before .pre .1 in
     let known = pre .3 .known in
@@ -569,16 +238,7 @@ walk-enter-requires t c κs =
       ),
     )
 
-walk-size-of-requires : (t : ℕ) → walk-lts.Need-size-of-requires (
-  entry-reads.Asked,
-  entry-reads.Learnt,
-  own-of-reads.Asked,
-  own-of-reads.Learnt,
-  enter-below t,
-  enter.Post,
-  size-of-reads.Asked,
-  size-of-reads.Learnt,
-) (walk-at t) walk.Post walk-Inv-loop walk-μ-loop
+walk-size-of-requires : (t : ℕ) → walk-lts.Need-size-of-requires (walk-claims t) (walk-at t) walk.Post walk-Inv-loop walk-μ-loop
 walk-size-of-requires t c κs =
     let pre = c .before .before .before .before .before .before .before .before .before .before .before .before .pre .1 in
     let known = pre .3 .known in
@@ -586,16 +246,7 @@ walk-size-of-requires t c κs =
     let y₂ = c .before .before .before .before .before .before .before .entry2 .ensures .0 in
     (pre .0, row-known _ _ _ _ _ _ (pre .0) known y₁ y₂ (c .before .before .before .before .before .loop .inv .0) (c .before .before .before .before .loop-test .taken))
 
-walk-add-b-2 : (t : ℕ) → walk-lts.Need-add-b-2 (
-  entry-reads.Asked,
-  entry-reads.Learnt,
-  own-of-reads.Asked,
-  own-of-reads.Learnt,
-  enter-below t,
-  enter.Post,
-  size-of-reads.Asked,
-  size-of-reads.Learnt,
-) (walk-at t) walk.Post walk-Inv-loop walk-μ-loop
+walk-add-b-2 : (t : ℕ) → walk-lts.Need-add-b-2 (walk-claims t) (walk-at t) walk.Post walk-Inv-loop walk-μ-loop
 walk-add-b-2 t c =
     let pre = c .before .before .before .before .before .before .before .before .before .before .before .before .before .pre .1 in
     let known = pre .3 .known in
@@ -604,40 +255,7 @@ walk-add-b-2 t c =
     let inv = c .before .before .before .before .before .before .loop .inv in
     omega (arith, next-small _ _ _ (pre .0) _ _ _ _ _ _ _ known y₁ y₂ _ _ _ _ _ _ _ (pre .3) (inv .0) (c .before .before .before .before .before .loop-test .taken) (inv .3) (c .size-of .ensures))
 
-walk-add-r : (t : ℕ) → walk-lts.Need-add-r (
-  entry-reads.Asked,
-  entry-reads.Learnt,
-  own-of-reads.Asked,
-  own-of-reads.Learnt,
-  enter-below t,
-  enter.Post,
-  size-of-reads.Asked,
-  size-of-reads.Learnt,
-) (walk-at t) walk.Post walk-Inv-loop walk-μ-loop
-walk-add-r t c = search needs
-
-walk-loop-less : (t : ℕ) → walk-lts.Need-loop-less (
-  entry-reads.Asked,
-  entry-reads.Learnt,
-  own-of-reads.Asked,
-  own-of-reads.Learnt,
-  enter-below t,
-  enter.Post,
-  size-of-reads.Asked,
-  size-of-reads.Learnt,
-) (walk-at t) walk.Post walk-Inv-loop walk-μ-loop
-walk-loop-less t c = search needs
-
-walk-loop-again : (t : ℕ) → walk-lts.Need-loop-again (
-  entry-reads.Asked,
-  entry-reads.Learnt,
-  own-of-reads.Asked,
-  own-of-reads.Learnt,
-  enter-below t,
-  enter.Post,
-  size-of-reads.Asked,
-  size-of-reads.Learnt,
-) (walk-at t) walk.Post walk-Inv-loop walk-μ-loop
+walk-loop-again : (t : ℕ) → walk-lts.Need-loop-again (walk-claims t) (walk-at t) walk.Post walk-Inv-loop walk-μ-loop
 walk-loop-again t c =
     let pre = c .before .before .before .before .before .before .before .before .before .before .before .before .before .pre .1 in
     let known = pre .3 .known in
@@ -652,28 +270,7 @@ walk-loop-again t c =
       going-on _ _ _ (pre .0) _ _ _ _ _ _ _ known y₁ y₂ _ _ _ _ _ _ _ (inv .0) h (inv .3) entered (c .size-of .ensures),
     )
 
-walk-same-length : (t : ℕ) → walk-lts.Need-same-length (
-  entry-reads.Asked,
-  entry-reads.Learnt,
-  own-of-reads.Asked,
-  own-of-reads.Learnt,
-  enter-below t,
-  enter.Post,
-  size-of-reads.Asked,
-  size-of-reads.Learnt,
-) (walk-at t) walk.Post walk-Inv-loop walk-μ-loop
-walk-same-length t c = search needs
-
-walk-returns : (t : ℕ) → walk-lts.Need-returns (
-  entry-reads.Asked,
-  entry-reads.Learnt,
-  own-of-reads.Asked,
-  own-of-reads.Learnt,
-  enter-below t,
-  enter.Post,
-  size-of-reads.Asked,
-  size-of-reads.Learnt,
-) (walk-at t) walk.Post walk-Inv-loop walk-μ-loop
+walk-returns : (t : ℕ) → walk-lts.Need-returns (walk-claims t) (walk-at t) walk.Post walk-Inv-loop walk-μ-loop
 walk-returns t c =
     let pre = c .before .before .before .before .before .before .before .before .pre .1 in
     let known = pre .3 .known in
@@ -683,67 +280,10 @@ walk-returns t c =
     uses-walked _ _ _ (pre .0) _ _ _ _ _ _ _ known y₁ y₂ _ _ _ _ (omega (arith, inv .0, inv .1)) (inv .1) (c .loop-test .left) (inv .3)
 
 pub +enter+walk-spec : {M : Type 1} → statement M
-+enter+walk-spec = close μ-enter μ-walk (λ t. enter-lts.spec (
-  door-reads.Asked,
-  door-reads.Learnt,
-  value-reads.Asked,
-  value-reads.Learnt,
-  wide-reads.Asked,
-  wide-reads.Learnt,
-  own-of-reads.Asked,
-  own-of-reads.Learnt,
-  give-block-reads.Asked,
-  give-block-reads.Learnt,
-  entry-reads.Asked,
-  entry-reads.Learnt,
-  walk-below t,
-  walk.Post,
-)
-    (enter-at t)
-    enter.Post
-    (enter-door-requires t)
-    (enter-returns t)
-    (enter-value-requires t)
-    (enter-wide-requires t)
-    (enter-mul-at t)
-    (enter-mul-at-2 t)
-    (enter-add-at t)
-    (enter-own-of-requires t)
-    (enter-add-d t)
-    (enter-cast-d t)
-    (enter-add-d-2 t)
-    (enter-give-block-requires t)
-    (enter-entry-requires t)
-    (enter-entry-requires-2 t)
-    (enter-same-length t)
-    (enter-returns-2 t)
-    (enter-walk-requires t)
-    (enter-same-length-2 t)
-    (enter-returns-3 t))
-    λ t. walk-lts.spec (
-      entry-reads.Asked,
-      entry-reads.Learnt,
-      own-of-reads.Asked,
-      own-of-reads.Learnt,
-      enter-below t,
-      enter.Post,
-      size-of-reads.Asked,
-      size-of-reads.Learnt,
-    )
-    (walk-at t)
-    walk.Post
-    walk-Inv-loop
-    walk-μ-loop
-    (walk-entry-requires t)
-    (walk-entry-requires-2 t)
-    (walk-own-of-requires t)
-    (walk-add-b t)
-    (walk-loop-holds t)
-    (walk-enter-requires t)
-    (walk-size-of-requires t)
-    (walk-add-b-2 t)
-    (walk-add-r t)
-    (walk-loop-less t)
-    (walk-loop-again t)
-    (walk-same-length t)
-    (walk-returns t)
++enter+walk-spec = close μ-enter μ-walk (λ t. enter-lts.spec (enter-claims t) (enter-at t) enter.Post (λ c κs. search needs) (enter-returns t)
+    (λ c κs. search needs) (λ c κs. search needs) (λ c. search needs) (enter-mul-at-2 t) (enter-add-at t) (λ c κs. search needs) (λ c. search needs)
+    (enter-cast-d t) (enter-add-d-2 t) (enter-give-block-requires t) (enter-entry-requires t) (enter-entry-requires-2 t) (λ c. search needs)
+    (enter-returns-2 t) (enter-walk-requires t) (λ c. search needs) (enter-returns-3 t))
+    λ t. walk-lts.spec (walk-claims t) (walk-at t) walk.Post walk-Inv-loop walk-μ-loop (λ c κs. search needs) (λ c κs. search needs)
+    (λ c κs. search needs) (λ c. search needs) (walk-loop-holds t) (walk-enter-requires t) (walk-size-of-requires t) (walk-add-b-2 t)
+    (λ c. search needs) (λ c. search needs) (walk-loop-again t) (λ c. search needs) (walk-returns t)

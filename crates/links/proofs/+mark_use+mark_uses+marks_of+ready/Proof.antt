@@ -1,15 +1,27 @@
 -- The record of a join is made from those of the joins below that meet it: the four functions call each other, and the block number falls.
+use mathlib.Core.List.{[]}
 use borrow.Author.Needs.{needs}
 use Prim.Native.Nat.{ℕ, _+_, _*_, _-_, _≤_, _<_}
 use mathlib.Core.Path.{_≡_, refl, _∙_}
-use mathlib.Core.List.{[]}
 use lib.ListN.{length}
 use Rattle.model.specs.Blocks.{blocksOf}
 use Rattle.rules.specs.Index.{usesFrom}
 use Rattle.links.specs.Near.{UsesStep}
 use Rattle.links.proofs.Ground.{row-known, rows-order, links-order}
 use Rattle.links.proofs.Marks.{use-inside, use-quiet}
-use Rattle.links.proofs.Tables.{step-made, step-none, steps-begin, steps-on, steps-end, steps-long, marks-step, zero-long, made-before, made-now, written-long}
+use Rattle.links.proofs.Tables.{
+  step-made,
+  step-none,
+  steps-begin,
+  steps-on,
+  steps-end,
+  steps-long,
+  marks-step,
+  zero-long,
+  made-before,
+  made-now,
+  written-long,
+}
 use native.Mathlib.Omega.{arith}
 use borrow.Fn.Kinds.{In}
 use borrow.Fn.PlainCycle.{Measures, is, falls, and}
@@ -77,7 +89,8 @@ ready-at t = and 3 ready-kinds.ps (is 3 ready-kinds.ps μ-ready t) ready.Pre
 abbrev ready-below : ℕ → In 3 ready-kinds.ps
 ready-below t = and 3 ready-kinds.ps (falls 3 ready-kinds.ps _<_ μ-ready t) ready.Pre
 
-mark-use-value-requires : (t : ℕ) → mark-use-lts.Need-value-requires (
+abbrev mark-use-claims : ℕ → mark-use-lts.Claims
+mark-use-claims t = (
   value-reads.Asked,
   value-reads.Learnt,
   wide-reads.Asked,
@@ -90,119 +103,36 @@ mark-use-value-requires : (t : ℕ) → mark-use-lts.Need-value-requires (
   ready.Post,
   mark-row-reads.Asked,
   mark-row-reads.Learnt,
-) (mark-use-at t) mark-use.Post
-mark-use-value-requires t c κs = search needs
+)
 
-mark-use-wide-requires : (t : ℕ) → mark-use-lts.Need-wide-requires (
-  value-reads.Asked,
-  value-reads.Learnt,
-  wide-reads.Asked,
-  wide-reads.Learnt,
-  joins-of-reads.Asked,
-  joins-of-reads.Learnt,
-  place-reads.Asked,
-  place-reads.Learnt,
-  ready-below t,
-  ready.Post,
-  mark-row-reads.Asked,
-  mark-row-reads.Learnt,
-) (mark-use-at t) mark-use.Post
-mark-use-wide-requires t c κs = search needs
+abbrev mark-uses-claims : ℕ → mark-uses-lts.Claims
+mark-uses-claims t = (entry-reads.Asked, entry-reads.Learnt, mark-use-below t, mark-use.Post)
 
-mark-use-joins-of-requires : (t : ℕ) → mark-use-lts.Need-joins-of-requires (
-  value-reads.Asked,
-  value-reads.Learnt,
-  wide-reads.Asked,
-  wide-reads.Learnt,
-  joins-of-reads.Asked,
-  joins-of-reads.Learnt,
-  place-reads.Asked,
-  place-reads.Learnt,
-  ready-below t,
-  ready.Post,
-  mark-row-reads.Asked,
-  mark-row-reads.Learnt,
-) (mark-use-at t) mark-use.Post
-mark-use-joins-of-requires t c κs = search needs
+abbrev marks-of-claims : ℕ → marks-of-lts.Claims
+marks-of-claims t = (
+  entry-reads.Asked,
+  entry-reads.Learnt,
+  own-of-reads.Asked,
+  own-of-reads.Learnt,
+  mark-links-reads.Asked,
+  mark-links-reads.Learnt,
+  mark-uses-below t,
+  mark-uses.Post,
+)
 
-mark-use-place-requires : (t : ℕ) → mark-use-lts.Need-place-requires (
-  value-reads.Asked,
-  value-reads.Learnt,
-  wide-reads.Asked,
-  wide-reads.Learnt,
-  joins-of-reads.Asked,
-  joins-of-reads.Learnt,
-  place-reads.Asked,
-  place-reads.Learnt,
-  ready-below t,
-  ready.Post,
-  mark-row-reads.Asked,
-  mark-row-reads.Learnt,
-) (mark-use-at t) mark-use.Post
-mark-use-place-requires t c κs = search needs
+abbrev ready-claims : ℕ → ready-lts.Claims
+ready-claims t = (
+  own-of-reads.Asked,
+  own-of-reads.Learnt,
+  marks-of-below t,
+  marks-of.Post,
+  copy-record-reads.Asked,
+  copy-record-reads.Learnt,
+  settled-reads.Asked,
+  settled-reads.Learnt,
+)
 
-mark-use-mul-at : (t : ℕ) → mark-use-lts.Need-mul-at (
-  value-reads.Asked,
-  value-reads.Learnt,
-  wide-reads.Asked,
-  wide-reads.Learnt,
-  joins-of-reads.Asked,
-  joins-of-reads.Learnt,
-  place-reads.Asked,
-  place-reads.Learnt,
-  ready-below t,
-  ready.Post,
-  mark-row-reads.Asked,
-  mark-row-reads.Learnt,
-) (mark-use-at t) mark-use.Post
-mark-use-mul-at t c = search needs
-
-mark-use-mul-at-2 : (t : ℕ) → mark-use-lts.Need-mul-at-2 (
-  value-reads.Asked,
-  value-reads.Learnt,
-  wide-reads.Asked,
-  wide-reads.Learnt,
-  joins-of-reads.Asked,
-  joins-of-reads.Learnt,
-  place-reads.Asked,
-  place-reads.Learnt,
-  ready-below t,
-  ready.Post,
-  mark-row-reads.Asked,
-  mark-row-reads.Learnt,
-) (mark-use-at t) mark-use.Post
-mark-use-mul-at-2 t c = search needs
-
-mark-use-add-at : (t : ℕ) → mark-use-lts.Need-add-at (
-  value-reads.Asked,
-  value-reads.Learnt,
-  wide-reads.Asked,
-  wide-reads.Learnt,
-  joins-of-reads.Asked,
-  joins-of-reads.Learnt,
-  place-reads.Asked,
-  place-reads.Learnt,
-  ready-below t,
-  ready.Post,
-  mark-row-reads.Asked,
-  mark-row-reads.Learnt,
-) (mark-use-at t) mark-use.Post
-mark-use-add-at t c = search needs
-
-mark-use-ready-requires : (t : ℕ) → mark-use-lts.Need-ready-requires (
-  value-reads.Asked,
-  value-reads.Learnt,
-  wide-reads.Asked,
-  wide-reads.Learnt,
-  joins-of-reads.Asked,
-  joins-of-reads.Learnt,
-  place-reads.Asked,
-  place-reads.Learnt,
-  ready-below t,
-  ready.Post,
-  mark-row-reads.Asked,
-  mark-row-reads.Learnt,
-) (mark-use-at t) mark-use.Post
+mark-use-ready-requires : (t : ℕ) → mark-use-lts.Need-ready-requires (mark-use-claims t) (mark-use-at t) mark-use.Post
 mark-use-ready-requires t c κs =
     let pre = c .before .before .before .before .before .before .before .before .pre .1 in
     let y₁ = c .before .before .before .before .before .value .ensures in
@@ -220,20 +150,7 @@ mark-use-ready-requires t c κs =
       ),
     )
 
-mark-use-mark-row-requires : (t : ℕ) → mark-use-lts.Need-mark-row-requires (
-  value-reads.Asked,
-  value-reads.Learnt,
-  wide-reads.Asked,
-  wide-reads.Learnt,
-  joins-of-reads.Asked,
-  joins-of-reads.Learnt,
-  place-reads.Asked,
-  place-reads.Learnt,
-  ready-below t,
-  ready.Post,
-  mark-row-reads.Asked,
-  mark-row-reads.Learnt,
-) (mark-use-at t) mark-use.Post
+mark-use-mark-row-requires : (t : ℕ) → mark-use-lts.Need-mark-row-requires (mark-use-claims t) (mark-use-at t) mark-use.Post
 mark-use-mark-row-requires t c κs =
     let pre = c .before .before .before .before .before .before .before .before .before .before .before .before .before .pre .1 in
     let y₁ = c .before .before .before .before .before .before .before .before .before .before .value .ensures in
@@ -248,36 +165,7 @@ mark-use-mark-row-requires t c κs =
       pre .4,
     )
 
-mark-use-add-flag : (t : ℕ) → mark-use-lts.Need-add-flag (
-  value-reads.Asked,
-  value-reads.Learnt,
-  wide-reads.Asked,
-  wide-reads.Learnt,
-  joins-of-reads.Asked,
-  joins-of-reads.Learnt,
-  place-reads.Asked,
-  place-reads.Learnt,
-  ready-below t,
-  ready.Post,
-  mark-row-reads.Asked,
-  mark-row-reads.Learnt,
-) (mark-use-at t) mark-use.Post
-mark-use-add-flag t c = search needs
-
-mark-use-slice-read-flag : (t : ℕ) → mark-use-lts.Need-slice-read-flag (
-  value-reads.Asked,
-  value-reads.Learnt,
-  wide-reads.Asked,
-  wide-reads.Learnt,
-  joins-of-reads.Asked,
-  joins-of-reads.Learnt,
-  place-reads.Asked,
-  place-reads.Learnt,
-  ready-below t,
-  ready.Post,
-  mark-row-reads.Asked,
-  mark-row-reads.Learnt,
-) (mark-use-at t) mark-use.Post
+mark-use-slice-read-flag : (t : ℕ) → mark-use-lts.Need-slice-read-flag (mark-use-claims t) (mark-use-at t) mark-use.Post
 mark-use-slice-read-flag t c =
     let pre = c .before .before .before .before .before .before .before .before .before .before .before .before .before .before .before .pre .1 in
     let y₁ = c .before .before .before .before .before .before .before .before .before .before .before .before .value .ensures in
@@ -285,52 +173,7 @@ mark-use-slice-read-flag t c =
     let joins = c .before .before .before .before .before .before .before .before .before .before .joins-of .ensures in
     omega (arith, c .before .before .before .before .before .before .before .before .if1 .taken, joins .1, y₁, y₂, pre .1 .lower, pre .2, c .before .before .before .before .before .before .ready .kept)
 
-mark-use-element-write-s : (t : ℕ) → mark-use-lts.Need-element-write-s (
-  value-reads.Asked,
-  value-reads.Learnt,
-  wide-reads.Asked,
-  wide-reads.Learnt,
-  joins-of-reads.Asked,
-  joins-of-reads.Learnt,
-  place-reads.Asked,
-  place-reads.Learnt,
-  ready-below t,
-  ready.Post,
-  mark-row-reads.Asked,
-  mark-row-reads.Learnt,
-) (mark-use-at t) mark-use.Post
-mark-use-element-write-s t c = search needs
-
-mark-use-same-length : (t : ℕ) → mark-use-lts.Need-same-length (
-  value-reads.Asked,
-  value-reads.Learnt,
-  wide-reads.Asked,
-  wide-reads.Learnt,
-  joins-of-reads.Asked,
-  joins-of-reads.Learnt,
-  place-reads.Asked,
-  place-reads.Learnt,
-  ready-below t,
-  ready.Post,
-  mark-row-reads.Asked,
-  mark-row-reads.Learnt,
-) (mark-use-at t) mark-use.Post
-mark-use-same-length t c = search needs
-
-mark-use-returns : (t : ℕ) → mark-use-lts.Need-returns (
-  value-reads.Asked,
-  value-reads.Learnt,
-  wide-reads.Asked,
-  wide-reads.Learnt,
-  joins-of-reads.Asked,
-  joins-of-reads.Learnt,
-  place-reads.Asked,
-  place-reads.Learnt,
-  ready-below t,
-  ready.Post,
-  mark-row-reads.Asked,
-  mark-row-reads.Learnt,
-) (mark-use-at t) mark-use.Post
+mark-use-returns : (t : ℕ) → mark-use-lts.Need-returns (mark-use-claims t) (mark-use-at t) mark-use.Post
 mark-use-returns t c =
     let pre = c .before .before .before .before .before .before .before .before .before .before .before .before .before .before .before .before .pre .1 in
     let y₁ = c .before .before .before .before .before .before .before .before .before .before .before .before .before .value .ensures in
@@ -341,36 +184,7 @@ mark-use-returns t c =
     step-made _ _ _ _ _ (pre .0) _ _ _ _ _ _ _ _ (pre .1) y₁ y₂ (joins .0) (joins .1) place _ _ h (c .before .before .before .before .before .before .before .ready .ensures)
     (use-inside _ _ _ (pre .0) _ _ _ _ _ _ _ _ (pre .1) y₁ y₂ (joins .0) (joins .1) place _ _ (pre .3) h (c .before .before .mark-row .ensures))
 
-mark-use-same-length-2 : (t : ℕ) → mark-use-lts.Need-same-length-2 (
-  value-reads.Asked,
-  value-reads.Learnt,
-  wide-reads.Asked,
-  wide-reads.Learnt,
-  joins-of-reads.Asked,
-  joins-of-reads.Learnt,
-  place-reads.Asked,
-  place-reads.Learnt,
-  ready-below t,
-  ready.Post,
-  mark-row-reads.Asked,
-  mark-row-reads.Learnt,
-) (mark-use-at t) mark-use.Post
-mark-use-same-length-2 t c = search needs
-
-mark-use-returns-2 : (t : ℕ) → mark-use-lts.Need-returns-2 (
-  value-reads.Asked,
-  value-reads.Learnt,
-  wide-reads.Asked,
-  wide-reads.Learnt,
-  joins-of-reads.Asked,
-  joins-of-reads.Learnt,
-  place-reads.Asked,
-  place-reads.Learnt,
-  ready-below t,
-  ready.Post,
-  mark-row-reads.Asked,
-  mark-row-reads.Learnt,
-) (mark-use-at t) mark-use.Post
+mark-use-returns-2 : (t : ℕ) → mark-use-lts.Need-returns-2 (mark-use-claims t) (mark-use-at t) mark-use.Post
 mark-use-returns-2 t c =
     let pre = c .before .before .before .before .before .before .before .before .before .before .before .before .before .before .before .before .pre .1 in
     let y₁ = c .before .before .before .before .before .before .before .before .before .before .before .before .before .value .ensures in
@@ -381,20 +195,7 @@ mark-use-returns-2 t c =
     step-made _ _ _ _ _ (pre .0) _ _ _ _ _ _ _ _ (pre .1) y₁ y₂ (joins .0) (joins .1) place _ _ h (c .before .before .before .before .before .before .before .ready .ensures)
     (use-quiet _ _ _ (pre .0) _ _ _ _ _ _ _ _ (pre .1) y₁ y₂ (joins .0) (joins .1) place _ _ h (c .before .before .mark-row .ensures) (c .if2 .left))
 
-mark-use-returns-3 : (t : ℕ) → mark-use-lts.Need-returns-3 (
-  value-reads.Asked,
-  value-reads.Learnt,
-  wide-reads.Asked,
-  wide-reads.Learnt,
-  joins-of-reads.Asked,
-  joins-of-reads.Learnt,
-  place-reads.Asked,
-  place-reads.Learnt,
-  ready-below t,
-  ready.Post,
-  mark-row-reads.Asked,
-  mark-row-reads.Learnt,
-) (mark-use-at t) mark-use.Post
+mark-use-returns-3 : (t : ℕ) → mark-use-lts.Need-returns-3 (mark-use-claims t) (mark-use-at t) mark-use.Post
 mark-use-returns-3 t c =
     let pre = c .before .before .before .before .before .before .before .pre .1 in
     let y₁ = c .before .before .before .before .value .ensures in
@@ -409,40 +210,14 @@ mark-uses-Inv-loop xs t q m₀ k own c s₀ a e r₀ m s r =
 abbrev mark-uses-μ-loop : mark-uses-lts.MeasureT-loop
 mark-uses-μ-loop xs t q m₀ k own c s₀ a e r₀ m s r = e - r
 
-mark-uses-entry-requires : (t : ℕ) → mark-uses-lts.Need-entry-requires (
-  entry-reads.Asked,
-  entry-reads.Learnt,
-  mark-use-below t,
-  mark-use.Post,
-) (mark-uses-at t) mark-uses.Post mark-uses-Inv-loop mark-uses-μ-loop
-mark-uses-entry-requires t c κs = search needs
-
-mark-uses-entry-requires-2 : (t : ℕ) → mark-uses-lts.Need-entry-requires-2 (
-  entry-reads.Asked,
-  entry-reads.Learnt,
-  mark-use-below t,
-  mark-use.Post,
-) (mark-uses-at t) mark-uses.Post mark-uses-Inv-loop mark-uses-μ-loop
-mark-uses-entry-requires-2 t c κs = search needs
-
-mark-uses-loop-holds : (t : ℕ) → mark-uses-lts.Need-loop-holds (
-  entry-reads.Asked,
-  entry-reads.Learnt,
-  mark-use-below t,
-  mark-use.Post,
-) (mark-uses-at t) mark-uses.Post mark-uses-Inv-loop mark-uses-μ-loop
+mark-uses-loop-holds : (t : ℕ) → mark-uses-lts.Need-loop-holds (mark-uses-claims t) (mark-uses-at t) mark-uses.Post mark-uses-Inv-loop mark-uses-μ-loop
 mark-uses-loop-holds t c =
     let pre = c .before .before .before .before .pre .1 in
     let y₁ = c .before .entry .ensures .0 in
     let y₂ = c .entry2 .ensures .0 in
     (omega arith, rows-order _ _ _ _ _ (pre .0) (pre .1) y₁ y₂, pre .3, refl, steps-begin _ _ _ _ _ _ _ (pre .5))
 
-mark-uses-mark-use-requires : (t : ℕ) → mark-uses-lts.Need-mark-use-requires (
-  entry-reads.Asked,
-  entry-reads.Learnt,
-  mark-use-below t,
-  mark-use.Post,
-) (mark-uses-at t) mark-uses.Post mark-uses-Inv-loop mark-uses-μ-loop
+mark-uses-mark-use-requires : (t : ℕ) → mark-uses-lts.Need-mark-use-requires (mark-uses-claims t) (mark-uses-at t) mark-uses.Post mark-uses-Inv-loop mark-uses-μ-loop
 mark-uses-mark-use-requires t c κs =
     let pre = c .before .before .before .before .before .before .before .before .pre .1 in
     let y₁ = c .before .before .before .before .before .entry .ensures .0 in
@@ -459,28 +234,7 @@ mark-uses-mark-use-requires t c κs =
       ),
     )
 
-mark-uses-add-r : (t : ℕ) → mark-uses-lts.Need-add-r (
-  entry-reads.Asked,
-  entry-reads.Learnt,
-  mark-use-below t,
-  mark-use.Post,
-) (mark-uses-at t) mark-uses.Post mark-uses-Inv-loop mark-uses-μ-loop
-mark-uses-add-r t c = search needs
-
-mark-uses-loop-less : (t : ℕ) → mark-uses-lts.Need-loop-less (
-  entry-reads.Asked,
-  entry-reads.Learnt,
-  mark-use-below t,
-  mark-use.Post,
-) (mark-uses-at t) mark-uses.Post mark-uses-Inv-loop mark-uses-μ-loop
-mark-uses-loop-less t c = search needs
-
-mark-uses-loop-again : (t : ℕ) → mark-uses-lts.Need-loop-again (
-  entry-reads.Asked,
-  entry-reads.Learnt,
-  mark-use-below t,
-  mark-use.Post,
-) (mark-uses-at t) mark-uses.Post mark-uses-Inv-loop mark-uses-μ-loop
+mark-uses-loop-again : (t : ℕ) → mark-uses-lts.Need-loop-again (mark-uses-claims t) (mark-uses-at t) mark-uses.Post mark-uses-Inv-loop mark-uses-μ-loop
 mark-uses-loop-again t c =
     let inv = c .before .before .before .before .before .before .loop .inv in
     let step = c .before .before .mark-use in (
@@ -491,20 +245,7 @@ mark-uses-loop-again t c =
       steps-on _ _ _ _ _ _ _ _ _ _ _ _ (inv .0) (inv .4) (step .ensures),
     )
 
-mark-uses-same-length : (t : ℕ) → mark-uses-lts.Need-same-length (
-  entry-reads.Asked,
-  entry-reads.Learnt,
-  mark-use-below t,
-  mark-use.Post,
-) (mark-uses-at t) mark-uses.Post mark-uses-Inv-loop mark-uses-μ-loop
-mark-uses-same-length t c = search needs
-
-mark-uses-returns : (t : ℕ) → mark-uses-lts.Need-returns (
-  entry-reads.Asked,
-  entry-reads.Learnt,
-  mark-use-below t,
-  mark-use.Post,
-) (mark-uses-at t) mark-uses.Post mark-uses-Inv-loop mark-uses-μ-loop
+mark-uses-returns : (t : ℕ) → mark-uses-lts.Need-returns (mark-uses-claims t) (mark-uses-at t) mark-uses.Post mark-uses-Inv-loop mark-uses-μ-loop
 mark-uses-returns t c =
     let pre = c .before .before .before .before .before .before .pre .1 in
     let y₁ = c .before .before .before .entry .ensures .0 in
@@ -512,76 +253,10 @@ mark-uses-returns t c =
     let inv = c .before .loop .inv in
     steps-end _ _ _ _ _ _ _ _ _ _ _ _ _ (pre .0) (pre .1) y₁ y₂ (inv .1) (c .loop-test .left) (inv .4)
 
-marks-of-entry-requires : (t : ℕ) → marks-of-lts.Need-entry-requires (
-  entry-reads.Asked,
-  entry-reads.Learnt,
-  own-of-reads.Asked,
-  own-of-reads.Learnt,
-  mark-links-reads.Asked,
-  mark-links-reads.Learnt,
-  mark-uses-below t,
-  mark-uses.Post,
-) (marks-of-at t) marks-of.Post
-marks-of-entry-requires t c κs = search needs
-
-marks-of-entry-requires-2 : (t : ℕ) → marks-of-lts.Need-entry-requires-2 (
-  entry-reads.Asked,
-  entry-reads.Learnt,
-  own-of-reads.Asked,
-  own-of-reads.Learnt,
-  mark-links-reads.Asked,
-  mark-links-reads.Learnt,
-  mark-uses-below t,
-  mark-uses.Post,
-) (marks-of-at t) marks-of.Post
-marks-of-entry-requires-2 t c κs = search needs
-
-marks-of-own-of-requires : (t : ℕ) → marks-of-lts.Need-own-of-requires (
-  entry-reads.Asked,
-  entry-reads.Learnt,
-  own-of-reads.Asked,
-  own-of-reads.Learnt,
-  mark-links-reads.Asked,
-  mark-links-reads.Learnt,
-  mark-uses-below t,
-  mark-uses.Post,
-) (marks-of-at t) marks-of.Post
-marks-of-own-of-requires t c κs = search needs
-
-marks-of-add-mark-links : (t : ℕ) → marks-of-lts.Need-add-mark-links (
-  entry-reads.Asked,
-  entry-reads.Learnt,
-  own-of-reads.Asked,
-  own-of-reads.Learnt,
-  mark-links-reads.Asked,
-  mark-links-reads.Learnt,
-  mark-uses-below t,
-  mark-uses.Post,
-) (marks-of-at t) marks-of.Post
-marks-of-add-mark-links t c = search needs
-
-marks-of-mark-links-requires : (t : ℕ) → marks-of-lts.Need-mark-links-requires (
-  entry-reads.Asked,
-  entry-reads.Learnt,
-  own-of-reads.Asked,
-  own-of-reads.Learnt,
-  mark-links-reads.Asked,
-  mark-links-reads.Learnt,
-  mark-uses-below t,
-  mark-uses.Post,
-) (marks-of-at t) marks-of.Post
+marks-of-mark-links-requires : (t : ℕ) → marks-of-lts.Need-mark-links-requires (marks-of-claims t) (marks-of-at t) marks-of.Post
 marks-of-mark-links-requires t c κs = search (links-order, zero-long, needs) fits 20000
 
-marks-of-mark-uses-requires : (t : ℕ) → marks-of-lts.Need-mark-uses-requires (
-  entry-reads.Asked,
-  entry-reads.Learnt,
-  own-of-reads.Asked,
-  own-of-reads.Learnt,
-  mark-links-reads.Asked,
-  mark-links-reads.Learnt,
-  mark-uses-below t,
-  mark-uses.Post,
-) (marks-of-at t) marks-of.Post
+marks-of-mark-uses-requires : (t : ℕ) → marks-of-lts.Need-mark-uses-requires (marks-of-claims t) (marks-of-at t) marks-of.Post
 marks-of-mark-uses-requires t c κs =
     let pre = c .before .before .before .before .before .before .before .before .before .pre .1 in (
       omega (arith, c .before .before .before .before .before .before .before .before .before .pre .0),
@@ -595,256 +270,37 @@ marks-of-mark-uses-requires t c κs =
       ),
     )
 
-marks-of-same-length : (t : ℕ) → marks-of-lts.Need-same-length (
-  entry-reads.Asked,
-  entry-reads.Learnt,
-  own-of-reads.Asked,
-  own-of-reads.Learnt,
-  mark-links-reads.Asked,
-  mark-links-reads.Learnt,
-  mark-uses-below t,
-  mark-uses.Post,
-) (marks-of-at t) marks-of.Post
-marks-of-same-length t c = search needs
-
-marks-of-returns : (t : ℕ) → marks-of-lts.Need-returns (
-  entry-reads.Asked,
-  entry-reads.Learnt,
-  own-of-reads.Asked,
-  own-of-reads.Learnt,
-  mark-links-reads.Asked,
-  mark-links-reads.Learnt,
-  mark-uses-below t,
-  mark-uses.Post,
-) (marks-of-at t) marks-of.Post
+marks-of-returns : (t : ℕ) → marks-of-lts.Need-returns (marks-of-claims t) (marks-of-at t) marks-of.Post
 marks-of-returns t c =
     let pre = c .before .before .before .before .before .before .before .before .before .before .before .before .pre .1 in
     let own = c .before .before .before .before .before .before .before .own-of .ensures in
     marks-step _ _ _ _ _ _ _ _ _ _ _ _ _ (pre .4) (pre .0) (pre .1) (c .before .before .before .before .before .before .before .before .before .entry .ensures .0) (c .before .before .before .before .before .before .before .before .entry2 .ensures .0) (own .0) (own .1)
     (c .before .before .before .before .before .mark-links .ensures) (c .before .before .mark-uses .ensures)
 
-ready-mul-at : (t : ℕ) → ready-lts.Need-mul-at (
-  own-of-reads.Asked,
-  own-of-reads.Learnt,
-  marks-of-below t,
-  marks-of.Post,
-  copy-record-reads.Asked,
-  copy-record-reads.Learnt,
-  settled-reads.Asked,
-  settled-reads.Learnt,
-) (ready-at t) ready.Post
-ready-mul-at t c = search needs
-
-ready-mul-at-2 : (t : ℕ) → ready-lts.Need-mul-at-2 (
-  own-of-reads.Asked,
-  own-of-reads.Learnt,
-  marks-of-below t,
-  marks-of.Post,
-  copy-record-reads.Asked,
-  copy-record-reads.Learnt,
-  settled-reads.Asked,
-  settled-reads.Learnt,
-) (ready-at t) ready.Post
-ready-mul-at-2 t c = search needs
-
-ready-add-at : (t : ℕ) → ready-lts.Need-add-at (
-  own-of-reads.Asked,
-  own-of-reads.Learnt,
-  marks-of-below t,
-  marks-of.Post,
-  copy-record-reads.Asked,
-  copy-record-reads.Learnt,
-  settled-reads.Asked,
-  settled-reads.Learnt,
-) (ready-at t) ready.Post
-ready-add-at t c = search needs
-
-ready-add-known : (t : ℕ) → ready-lts.Need-add-known (
-  own-of-reads.Asked,
-  own-of-reads.Learnt,
-  marks-of-below t,
-  marks-of.Post,
-  copy-record-reads.Asked,
-  copy-record-reads.Learnt,
-  settled-reads.Asked,
-  settled-reads.Learnt,
-) (ready-at t) ready.Post
-ready-add-known t c = search needs
-
-ready-slice-read-known : (t : ℕ) → ready-lts.Need-slice-read-known (
-  own-of-reads.Asked,
-  own-of-reads.Learnt,
-  marks-of-below t,
-  marks-of.Post,
-  copy-record-reads.Asked,
-  copy-record-reads.Learnt,
-  settled-reads.Asked,
-  settled-reads.Learnt,
-) (ready-at t) ready.Post
-ready-slice-read-known t c = search needs
-
-ready-returns : (t : ℕ) → ready-lts.Need-returns (
-  own-of-reads.Asked,
-  own-of-reads.Learnt,
-  marks-of-below t,
-  marks-of.Post,
-  copy-record-reads.Asked,
-  copy-record-reads.Learnt,
-  settled-reads.Asked,
-  settled-reads.Learnt,
-) (ready-at t) ready.Post
+ready-returns : (t : ℕ) → ready-lts.Need-returns (ready-claims t) (ready-at t) ready.Post
 ready-returns t c =
     made-before _ _ _ _ _ _ (c .before .before .before .before .pre .1 .5) refl (c .if1 .taken)
 
-ready-own-of-requires : (t : ℕ) → ready-lts.Need-own-of-requires (
-  own-of-reads.Asked,
-  own-of-reads.Learnt,
-  marks-of-below t,
-  marks-of.Post,
-  copy-record-reads.Asked,
-  copy-record-reads.Learnt,
-  settled-reads.Asked,
-  settled-reads.Learnt,
-) (ready-at t) ready.Post
-ready-own-of-requires t c κs = search needs
-
-ready-add-c : (t : ℕ) → ready-lts.Need-add-c (
-  own-of-reads.Asked,
-  own-of-reads.Learnt,
-  marks-of-below t,
-  marks-of.Post,
-  copy-record-reads.Asked,
-  copy-record-reads.Learnt,
-  settled-reads.Asked,
-  settled-reads.Learnt,
-) (ready-at t) ready.Post
-ready-add-c t c = search needs
-
-ready-cast-c : (t : ℕ) → ready-lts.Need-cast-c (
-  own-of-reads.Asked,
-  own-of-reads.Learnt,
-  marks-of-below t,
-  marks-of.Post,
-  copy-record-reads.Asked,
-  copy-record-reads.Learnt,
-  settled-reads.Asked,
-  settled-reads.Learnt,
-) (ready-at t) ready.Post
-ready-cast-c t c = search needs
-
-ready-add-c-2 : (t : ℕ) → ready-lts.Need-add-c-2 (
-  own-of-reads.Asked,
-  own-of-reads.Learnt,
-  marks-of-below t,
-  marks-of.Post,
-  copy-record-reads.Asked,
-  copy-record-reads.Learnt,
-  settled-reads.Asked,
-  settled-reads.Learnt,
-) (ready-at t) ready.Post
-ready-add-c-2 t c = search needs
-
-ready-marks-of-requires : (t : ℕ) → ready-lts.Need-marks-of-requires (
-  own-of-reads.Asked,
-  own-of-reads.Learnt,
-  marks-of-below t,
-  marks-of.Post,
-  copy-record-reads.Asked,
-  copy-record-reads.Learnt,
-  settled-reads.Asked,
-  settled-reads.Learnt,
-) (ready-at t) ready.Post
+ready-marks-of-requires : (t : ℕ) → ready-lts.Need-marks-of-requires (ready-claims t) (ready-at t) ready.Post
 ready-marks-of-requires t c κs =
     let pre = c .before .before .before .before .before .before .before .pre .1 in
     (omega (arith, c .before .before .before .before .before .before .before .pre .0), (pre .0, pre .1, pre .2, pre .5, refl))
 
-ready-copy-record-requires : (t : ℕ) → ready-lts.Need-copy-record-requires (
-  own-of-reads.Asked,
-  own-of-reads.Learnt,
-  marks-of-below t,
-  marks-of.Post,
-  copy-record-reads.Asked,
-  copy-record-reads.Learnt,
-  settled-reads.Asked,
-  settled-reads.Learnt,
-) (ready-at t) ready.Post
+ready-copy-record-requires : (t : ℕ) → ready-lts.Need-copy-record-requires (ready-claims t) (ready-at t) ready.Post
 ready-copy-record-requires t c κs =
     let pre = c .before .before .before .before .before .before .before .before .before .before .before .before .pre .1 in
     let marks = c .before .before .before .before .marks-of in
     (omega (arith, pre .2, pre .4, marks .kept), marks .ensures .marks .long)
 
-ready-array-read-settled : (t : ℕ) → ready-lts.Need-array-read-settled (
-  own-of-reads.Asked,
-  own-of-reads.Learnt,
-  marks-of-below t,
-  marks-of.Post,
-  copy-record-reads.Asked,
-  copy-record-reads.Learnt,
-  settled-reads.Asked,
-  settled-reads.Learnt,
-) (ready-at t) ready.Post
-ready-array-read-settled t c = search needs
-
-ready-settled-requires : (t : ℕ) → ready-lts.Need-settled-requires (
-  own-of-reads.Asked,
-  own-of-reads.Learnt,
-  marks-of-below t,
-  marks-of.Post,
-  copy-record-reads.Asked,
-  copy-record-reads.Learnt,
-  settled-reads.Asked,
-  settled-reads.Learnt,
-) (ready-at t) ready.Post
-ready-settled-requires t c κs = search needs
-
-ready-add-m : (t : ℕ) → ready-lts.Need-add-m (
-  own-of-reads.Asked,
-  own-of-reads.Learnt,
-  marks-of-below t,
-  marks-of.Post,
-  copy-record-reads.Asked,
-  copy-record-reads.Learnt,
-  settled-reads.Asked,
-  settled-reads.Learnt,
-) (ready-at t) ready.Post
-ready-add-m t c = search needs
-
-ready-slice-write-m : (t : ℕ) → ready-lts.Need-slice-write-m (
-  own-of-reads.Asked,
-  own-of-reads.Learnt,
-  marks-of-below t,
-  marks-of.Post,
-  copy-record-reads.Asked,
-  copy-record-reads.Learnt,
-  settled-reads.Asked,
-  settled-reads.Learnt,
-) (ready-at t) ready.Post
+ready-slice-write-m : (t : ℕ) → ready-lts.Need-slice-write-m (ready-claims t) (ready-at t) ready.Post
 ready-slice-write-m t c =
     let pre = c .before .before .before .before .before .before .before .before .before .before .before .before .before .before .before .before .pre .1 in
     omega (arith, pre .2, pre .4, c .before .before .before .before .before .before .before .before .marks-of .kept, c .before .before .before .copy-record .kept)
 
-ready-same-length : (t : ℕ) → ready-lts.Need-same-length (
-  own-of-reads.Asked,
-  own-of-reads.Learnt,
-  marks-of-below t,
-  marks-of.Post,
-  copy-record-reads.Asked,
-  copy-record-reads.Learnt,
-  settled-reads.Asked,
-  settled-reads.Learnt,
-) (ready-at t) ready.Post
+ready-same-length : (t : ℕ) → ready-lts.Need-same-length (ready-claims t) (ready-at t) ready.Post
 ready-same-length t c = written-long _ _ _ _ (c .before .before .before .before .before .before .before .before .before .before .before .before .before .before .before .before .args .m .now) _ _ (c .before .before .before .copy-record .ensures) (omega (arith, c .before .before .before .before .before .before .before .before .marks-of .kept))
 
-ready-returns-2 : (t : ℕ) → ready-lts.Need-returns-2 (
-  own-of-reads.Asked,
-  own-of-reads.Learnt,
-  marks-of-below t,
-  marks-of.Post,
-  copy-record-reads.Asked,
-  copy-record-reads.Learnt,
-  settled-reads.Asked,
-  settled-reads.Learnt,
-) (ready-at t) ready.Post
+ready-returns-2 : (t : ℕ) → ready-lts.Need-returns-2 (ready-claims t) (ready-at t) ready.Post
 ready-returns-2 t c =
     let pre = c .before .before .before .before .before .before .before .before .before .before .before .before .before .before .before .before .pre .1 in
     let own = c .before .before .before .before .before .before .before .before .before .before .before .own-of in
@@ -854,105 +310,16 @@ ready-returns-2 t c =
 
 pub +mark-use+mark-uses+marks-of+ready-spec : {M : Type 1} → statement M
 +mark-use+mark-uses+marks-of+ready-spec =
-    close μ-mark-use μ-mark-uses μ-marks-of μ-ready (λ t. mark-use-lts.spec (
-      value-reads.Asked,
-      value-reads.Learnt,
-      wide-reads.Asked,
-      wide-reads.Learnt,
-      joins-of-reads.Asked,
-      joins-of-reads.Learnt,
-      place-reads.Asked,
-      place-reads.Learnt,
-      ready-below t,
-      ready.Post,
-      mark-row-reads.Asked,
-      mark-row-reads.Learnt,
-    )
-    (mark-use-at t)
-    mark-use.Post
-    (mark-use-value-requires t)
-    (mark-use-wide-requires t)
-    (mark-use-joins-of-requires t)
-    (mark-use-place-requires t)
-    (mark-use-mul-at t)
-    (mark-use-mul-at-2 t)
-    (mark-use-add-at t)
-    (mark-use-ready-requires t)
-    (mark-use-mark-row-requires t)
-    (mark-use-add-flag t)
-    (mark-use-slice-read-flag t)
-    (mark-use-element-write-s t)
-    (mark-use-same-length t)
-    (mark-use-returns t)
-    (mark-use-same-length-2 t)
-    (mark-use-returns-2 t)
-    (mark-use-returns-3 t))
-    (λ t. mark-uses-lts.spec (
-      entry-reads.Asked,
-      entry-reads.Learnt,
-      mark-use-below t,
-      mark-use.Post,
-    )
-    (mark-uses-at t)
-    mark-uses.Post
-    mark-uses-Inv-loop
-    mark-uses-μ-loop
-    (mark-uses-entry-requires t)
-    (mark-uses-entry-requires-2 t)
-    (mark-uses-loop-holds t)
-    (mark-uses-mark-use-requires t)
-    (mark-uses-add-r t)
-    (mark-uses-loop-less t)
-    (mark-uses-loop-again t)
-    (mark-uses-same-length t)
-    (mark-uses-returns t))
-    (λ t. marks-of-lts.spec (
-      entry-reads.Asked,
-      entry-reads.Learnt,
-      own-of-reads.Asked,
-      own-of-reads.Learnt,
-      mark-links-reads.Asked,
-      mark-links-reads.Learnt,
-      mark-uses-below t,
-      mark-uses.Post,
-    )
-    (marks-of-at t)
-    marks-of.Post
-    (marks-of-entry-requires t)
-    (marks-of-entry-requires-2 t)
-    (marks-of-own-of-requires t)
-    (marks-of-add-mark-links t)
-    (marks-of-mark-links-requires t)
-    (marks-of-mark-uses-requires t)
-    (marks-of-same-length t)
-    (marks-of-returns t))
-    λ t. ready-lts.spec (
-      own-of-reads.Asked,
-      own-of-reads.Learnt,
-      marks-of-below t,
-      marks-of.Post,
-      copy-record-reads.Asked,
-      copy-record-reads.Learnt,
-      settled-reads.Asked,
-      settled-reads.Learnt,
-    )
-    (ready-at t)
-    ready.Post
-    (ready-mul-at t)
-    (ready-mul-at-2 t)
-    (ready-add-at t)
-    (ready-add-known t)
-    (ready-slice-read-known t)
-    (ready-returns t)
-    (ready-own-of-requires t)
-    (ready-add-c t)
-    (ready-cast-c t)
-    (ready-add-c-2 t)
-    (ready-marks-of-requires t)
-    (ready-copy-record-requires t)
-    (ready-array-read-settled t)
-    (ready-settled-requires t)
-    (ready-add-m t)
-    (ready-slice-write-m t)
-    (ready-same-length t)
-    (ready-returns-2 t)
+    close μ-mark-use μ-mark-uses μ-marks-of μ-ready (λ t. mark-use-lts.spec (mark-use-claims t) (mark-use-at t) mark-use.Post (λ c κs. search needs)
+    (λ c κs. search needs) (λ c κs. search needs) (λ c κs. search needs) (λ c. search needs) (λ c. search needs) (λ c. search needs)
+    (mark-use-ready-requires t) (mark-use-mark-row-requires t) (λ c. search needs) (mark-use-slice-read-flag t) (λ c. search needs)
+    (λ c. search needs) (mark-use-returns t) (λ c. search needs) (mark-use-returns-2 t) (mark-use-returns-3 t))
+    (λ t. mark-uses-lts.spec (mark-uses-claims t) (mark-uses-at t) mark-uses.Post mark-uses-Inv-loop mark-uses-μ-loop (λ c κs. search needs)
+    (λ c κs. search needs) (mark-uses-loop-holds t) (mark-uses-mark-use-requires t) (λ c. search needs) (λ c. search needs) (mark-uses-loop-again t)
+    (λ c. search needs) (mark-uses-returns t))
+    (λ t. marks-of-lts.spec (marks-of-claims t) (marks-of-at t) marks-of.Post (λ c κs. search needs) (λ c κs. search needs) (λ c κs. search needs)
+    (λ c. search needs) (marks-of-mark-links-requires t) (marks-of-mark-uses-requires t) (λ c. search needs) (marks-of-returns t))
+    λ t. ready-lts.spec (ready-claims t) (ready-at t) ready.Post (λ c. search needs) (λ c. search needs) (λ c. search needs) (λ c. search needs)
+    (λ c. search needs) (ready-returns t) (λ c κs. search needs) (λ c. search needs) (λ c. search needs) (λ c. search needs)
+    (ready-marks-of-requires t) (ready-copy-record-requires t) (λ c. search needs) (λ c κs. search needs) (λ c. search needs) (ready-slice-write-m t)
+    (ready-same-length t) (ready-returns-2 t)

@@ -5,20 +5,10 @@ use native.Mathlib.Omega.{arith}
 use Rattle.links.proofs.answer_any.Statement.{statement}
 use Rattle.links.proofs.answer_any.Tie as tie
 
-slice-aggregate-answer-by : tie.Need-slice-aggregate-answer-by
-slice-aggregate-answer-by c = search needs
-
 answer-by-requires : tie.Need-answer-by-requires
 answer-by-requires c κs =
     let pre = c .before .before .before .before .pre in
     (pre .0, pre .1, omega (arith, pre .0 .show .blocks, pre .1 .known), table-begin _ _ 41984)
 
-same-length : tie.Need-same-length
-same-length c = search needs
-
-returns : tie.Need-returns
-returns c = search needs
-
 pub answer-any-spec : {M : Type 1} → statement M
-answer-any-spec =
-    tie.close (tie.spec slice-aggregate-answer-by answer-by-requires same-length returns)
+answer-any-spec = tie.close (tie.spec (λ c. search needs) answer-by-requires (λ c. search needs) (λ c. search needs))

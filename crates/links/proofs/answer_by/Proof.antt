@@ -8,18 +8,6 @@ use native.Mathlib.Omega.{arith}
 use Rattle.links.proofs.answer_by.Statement.{statement}
 use Rattle.links.proofs.answer_by.Tie as tie
 
-joins-of-requires : tie.Need-joins-of-requires
-joins-of-requires c κs = search needs
-
-marks-of-requires : tie.Need-marks-of-requires
-marks-of-requires c κs = search needs
-
-give-joins-requires : tie.Need-give-joins-requires
-give-joins-requires c κs = search needs
-
-slice-aggregate-give-block : tie.Need-slice-aggregate-give-block
-slice-aggregate-give-block c = search needs
-
 give-block-requires : tie.Need-give-block-requires
 give-block-requires c κs =
     let pre = c .before .before .before .before .before .before .before .before .before .before .before .before .before .before .before .before .before .pre in
@@ -43,12 +31,6 @@ walk-requires c κs =
       may-begin _ _ _ _ _ _ _ _ (pre .1) (given .long ∙ joins .long) (given .bound),
     )
 
-same-length : tie.Need-same-length
-same-length c = search needs
-
-same-length-2 : tie.Need-same-length-2
-same-length-2 c = search needs
-
 returns : tie.Need-returns
 returns c =
     let marks = c .before .before .before .before .before .before .before .before .before .before .before .before .before .before .before .before .before .marks-of .ensures in
@@ -58,13 +40,5 @@ returns c =
 pub answer-by-spec : {M : Type 1} → statement M
 answer-by-spec =
     tie.close
-    (tie.spec
-    joins-of-requires
-    marks-of-requires
-    give-joins-requires
-    slice-aggregate-give-block
-    give-block-requires
-    walk-requires
-    same-length
-    same-length-2
-    returns)
+    (tie.spec (λ c κs. search needs) (λ c κs. search needs) (λ c κs. search needs) (λ c. search needs) give-block-requires walk-requires
+    (λ c. search needs) (λ c. search needs) returns)

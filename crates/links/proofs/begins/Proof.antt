@@ -17,15 +17,6 @@ Inv-loop xs t k r base a b₀ i₀ b i = (a ≤ i) × (i ≤ r) × (b ≡ base +
 abbrev μ-loop : tie.MeasureT-loop
 μ-loop xs t k r base a b₀ i₀ b i = r - i
 
-entry-requires : tie.Need-entry-requires Inv-loop μ-loop
-entry-requires c κs = search needs
-
-own-of-requires : tie.Need-own-of-requires Inv-loop μ-loop
-own-of-requires c κs = search needs
-
-add-b : tie.Need-add-b Inv-loop μ-loop
-add-b c = search needs
-
 loop-holds : tie.Need-loop-holds Inv-loop μ-loop
 loop-holds c =
     let pre = c .before .before .before .pre in
@@ -46,12 +37,6 @@ add-b-2 c =
           (c .before .before .loop .inv .2) (c .size-of .ensures),
     )
 
-add-i : tie.Need-add-i Inv-loop μ-loop
-add-i c = search needs
-
-loop-less : tie.Need-loop-less Inv-loop μ-loop
-loop-less c = search needs
-
 loop-again : tie.Need-loop-again Inv-loop μ-loop
 loop-again c =
     let pre = c .before .before .before .before .before .before .pre in (
@@ -69,16 +54,5 @@ returns c =
 pub begins-spec : {M : Type 1} → statement M
 begins-spec =
     tie.close
-    (tie.spec
-    Inv-loop
-    μ-loop
-    entry-requires
-    own-of-requires
-    add-b
-    loop-holds
-    size-of-requires
-    add-b-2
-    add-i
-    loop-less
-    loop-again
-    returns)
+    (tie.spec Inv-loop μ-loop (λ c κs. search needs) (λ c κs. search needs) (λ c. search needs) loop-holds size-of-requires add-b-2
+    (λ c. search needs) (λ c. search needs) loop-again returns)

@@ -14,29 +14,11 @@ Inv-loop xs t blocks path depth z₀ i₀ z i = (i ≤ depth) × Standing (block
 abbrev μ-loop : tie.MeasureT-loop
 μ-loop xs t blocks path depth z₀ i₀ z i = depth - i
 
-sub-wide : tie.Need-sub-wide Inv-loop μ-loop
-sub-wide c = search needs
-
-wide-requires : tie.Need-wide-requires Inv-loop μ-loop
-wide-requires c κs = search needs
-
 loop-holds : tie.Need-loop-holds Inv-loop μ-loop
 loop-holds c = search (stand-begin, needs) fits 20000
 
-mul-p : tie.Need-mul-p Inv-loop μ-loop
-mul-p c = search needs
-
-shared-slice-read-p : tie.Need-shared-slice-read-p Inv-loop μ-loop
-shared-slice-read-p c = search needs
-
 step-requires : tie.Need-step-requires Inv-loop μ-loop
 step-requires c κs = search (may-step, needs) fits 20000
-
-add-i : tie.Need-add-i Inv-loop μ-loop
-add-i c = search needs
-
-loop-less : tie.Need-loop-less Inv-loop μ-loop
-loop-less c = search needs
 
 loop-again : tie.Need-loop-again Inv-loop μ-loop
 loop-again c = search (stand-on, needs) fits 20000
@@ -47,16 +29,5 @@ returns c = search (stand-end, needs) fits 20000
 pub descend-spec : {M : Type 1} → statement M
 descend-spec =
     tie.close
-    (tie.spec
-    Inv-loop
-    μ-loop
-    sub-wide
-    wide-requires
-    loop-holds
-    mul-p
-    shared-slice-read-p
-    step-requires
-    add-i
-    loop-less
-    loop-again
-    returns)
+    (tie.spec Inv-loop μ-loop (λ c. search needs) (λ c κs. search needs) loop-holds (λ c. search needs) (λ c. search needs) step-requires
+    (λ c. search needs) (λ c. search needs) loop-again returns)

@@ -4,12 +4,6 @@ use Rattle.links.proofs.Filled.{step-yes, step-low, step-no}
 use Rattle.links.proofs.give_if.Statement.{statement}
 use Rattle.links.proofs.give_if.Tie as tie
 
-give-requires : tie.Need-give-requires
-give-requires c κs = search needs
-
-same-length : tie.Need-same-length
-same-length c = search needs
-
 returns : tie.Need-returns
 returns c = search (step-yes, needs)
 
@@ -20,4 +14,4 @@ returns-3 : tie.Need-returns-3
 returns-3 c = search (step-no, needs)
 
 pub give-if-spec : {M : Type 1} → statement M
-give-if-spec = tie.close (tie.spec give-requires same-length returns returns-2 returns-3)
+give-if-spec = tie.close (tie.spec (λ c κs. search needs) (λ c. search needs) returns returns-2 returns-3)

@@ -17,17 +17,8 @@ abbrev μ-loop : tie.MeasureT-loop
 loop-holds : tie.Need-loop-holds Inv-loop μ-loop
 loop-holds c = search (joins-begin, needs)
 
-next-join-requires : tie.Need-next-join-requires Inv-loop μ-loop
-next-join-requires c κs = search needs
-
-same-length : tie.Need-same-length Inv-loop μ-loop
-same-length c = search needs
-
 returns : tie.Need-returns Inv-loop μ-loop
 returns c = search (joins-end, needs) fits 20000
-
-give-requires : tie.Need-give-requires Inv-loop μ-loop
-give-requires c κs = search needs
 
 loop-less : tie.Need-loop-less Inv-loop μ-loop
 loop-less c = search (next-falls, needs)
@@ -38,13 +29,4 @@ loop-again c = search (joins-on, needs) fits 20000
 pub give-joins-spec : {M : Type 1} → statement M
 give-joins-spec =
     tie.close
-    (tie.spec
-    Inv-loop
-    μ-loop
-    loop-holds
-    next-join-requires
-    same-length
-    returns
-    give-requires
-    loop-less
-    loop-again)
+    (tie.spec Inv-loop μ-loop loop-holds (λ c κs. search needs) (λ c. search needs) returns (λ c κs. search needs) loop-less loop-again)

@@ -4,19 +4,10 @@ use Rattle.links.proofs.Ground.{joins-read}
 use Rattle.links.proofs.joins_of.Statement.{statement}
 use Rattle.links.proofs.joins_of.Tie as tie
 
-entry-requires : tie.Need-entry-requires
-entry-requires c κs = search needs
-
-value-requires : tie.Need-value-requires
-value-requires c κs = search needs
-
-wide-requires : tie.Need-wide-requires
-wide-requires c κs = search needs
-
 returns : tie.Need-returns
 returns c =
     let p = c .before .before .before .before .pre in
     joins-read _ _ _ _ _ _ (p .0) (p .1) (c .before .before .entry .ensures .0) (c .before .value .ensures) (c .wide .ensures .0)
 
 pub joins-of-spec : {M : Type 1} → statement M
-joins-of-spec = tie.close (tie.spec entry-requires value-requires wide-requires returns)
+joins-of-spec = tie.close (tie.spec (λ c κs. search needs) (λ c κs. search needs) (λ c κs. search needs) returns)

@@ -4,9 +4,6 @@ use Rattle.links.proofs.Whole.{ground, trail, may-answer, listed-more, 
 use Rattle.links.proofs.list.Statement.{statement}
 use Rattle.links.proofs.list.Tie as tie
 
-room-of-requires : tie.Need-room-of-requires
-room-of-requires c κs = search needs
-
 descend-requires : tie.Need-descend-requires
 descend-requires c κs =
     let pre = c .before .before .before .before .pre in
@@ -25,12 +22,6 @@ answer-from-requires c κs =
     let has = pre .1 .1 in
     (ground _ _ _ _ _ ok index long has, may-answer _ _ _ _ _ ok index long has _ _ _ (c .before .descend .ensures) _ _ _ _ (c .before .before .room-of .ensures))
 
-cast-t18 : tie.Need-cast-t18
-cast-t18 c = search needs
-
-same-length : tie.Need-same-length
-same-length c = search needs
-
 returns : tie.Need-returns
 returns c =
     let pre = c .before .before .before .before .before .before .before .before .before .before .pre in
@@ -39,12 +30,6 @@ returns c =
     let long = pre .1 .0 in
     let has = pre .1 .1 in
     listed-more _ _ _ _ _ ok index long has _ _ _ (c .before .before .before .before .before .descend .ensures) _ _ _ _ (c .before .before .before .before .before .before .room-of .ensures) _ _ (c .before .before .before .answer-from .ensures) (c .if1 .taken)
-
-cast-t19 : tie.Need-cast-t19
-cast-t19 c = search needs
-
-same-length-2 : tie.Need-same-length-2
-same-length-2 c = search needs
 
 returns-2 : tie.Need-returns-2
 returns-2 c =
@@ -58,13 +43,5 @@ returns-2 c =
 pub list-spec : {M : Type 1} → statement M
 list-spec =
     tie.close
-    (tie.spec
-    room-of-requires
-    descend-requires
-    answer-from-requires
-    cast-t18
-    same-length
-    returns
-    cast-t19
-    same-length-2
-    returns-2)
+    (tie.spec (λ c κs. search needs) descend-requires answer-from-requires (λ c. search needs) (λ c. search needs) returns (λ c. search needs)
+    (λ c. search needs) returns-2)

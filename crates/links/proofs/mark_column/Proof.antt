@@ -4,15 +4,6 @@ use Rattle.links.proofs.Marks.{column-yes, column-no}
 use Rattle.links.proofs.mark_column.Statement.{statement}
 use Rattle.links.proofs.mark_column.Tie as tie
 
-add-value : tie.Need-add-value
-add-value c = search needs
-
-value-requires : tie.Need-value-requires
-value-requires c κs = search needs
-
-mark-requires : tie.Need-mark-requires
-mark-requires c κs = search needs
-
 returns : tie.Need-returns
 returns c = search (column-yes, needs) fits 20000
 
@@ -20,4 +11,4 @@ returns-2 : tie.Need-returns-2
 returns-2 c = search (column-no, needs)
 
 pub mark-column-spec : {M : Type 1} → statement M
-mark-column-spec = tie.close (tie.spec add-value value-requires mark-requires returns returns-2)
+mark-column-spec = tie.close (tie.spec (λ c. search needs) (λ c κs. search needs) (λ c κs. search needs) returns returns-2)

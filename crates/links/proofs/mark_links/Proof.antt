@@ -19,15 +19,6 @@ abbrev μ-loop : tie.MeasureT-loop
 loop-holds : tie.Need-loop-holds Inv-loop μ-loop
 loop-holds c = search (links-begin, needs)
 
-mark-link-requires : tie.Need-mark-link-requires Inv-loop μ-loop
-mark-link-requires c κs = search needs
-
-add-r : tie.Need-add-r Inv-loop μ-loop
-add-r c = search needs
-
-loop-less : tie.Need-loop-less Inv-loop μ-loop
-loop-less c = search needs
-
 loop-again : tie.Need-loop-again Inv-loop μ-loop
 loop-again c = search (links-on, added-long, needs)
 
@@ -35,6 +26,4 @@ returns : tie.Need-returns Inv-loop μ-loop
 returns c = search (links-end, needs)
 
 pub mark-links-spec : {M : Type 1} → statement M
-mark-links-spec =
-    tie.close
-    (tie.spec Inv-loop μ-loop loop-holds mark-link-requires add-r loop-less loop-again returns)
+mark-links-spec = tie.close (tie.spec Inv-loop μ-loop loop-holds (λ c κs. search needs) (λ c. search needs) (λ c. search needs) loop-again returns)

@@ -18,21 +18,6 @@ abbrev μ-loop : tie.MeasureT-loop
 loop-holds : tie.Need-loop-holds Inv-loop μ-loop
 loop-holds c = search (row-begin, needs)
 
-add-flag : tie.Need-add-flag Inv-loop μ-loop
-add-flag c = search needs
-
-shared-slice-read-flag : tie.Need-shared-slice-read-flag Inv-loop μ-loop
-shared-slice-read-flag c = search needs
-
-mark-column-requires : tie.Need-mark-column-requires Inv-loop μ-loop
-mark-column-requires c κs = search needs
-
-add-j : tie.Need-add-j Inv-loop μ-loop
-add-j c = search needs
-
-loop-less : tie.Need-loop-less Inv-loop μ-loop
-loop-less c = search needs
-
 loop-again : tie.Need-loop-again Inv-loop μ-loop
 loop-again c = search (row-on, added-long, needs)
 
@@ -42,14 +27,5 @@ returns c = search (row-end, needs)
 pub mark-row-spec : {M : Type 1} → statement M
 mark-row-spec =
     tie.close
-    (tie.spec
-    Inv-loop
-    μ-loop
-    loop-holds
-    add-flag
-    shared-slice-read-flag
-    mark-column-requires
-    add-j
-    loop-less
-    loop-again
-    returns)
+    (tie.spec Inv-loop μ-loop loop-holds (λ c. search needs) (λ c. search needs) (λ c κs. search needs) (λ c. search needs) (λ c. search needs)
+    loop-again returns)

@@ -4,16 +4,10 @@ use Rattle.links.proofs.Ground.{own-read}
 use Rattle.links.proofs.own_of.Statement.{statement}
 use Rattle.links.proofs.own_of.Tie as tie
 
-entry-requires : tie.Need-entry-requires
-entry-requires c κs = search needs
-
-value-requires : tie.Need-value-requires
-value-requires c κs = search needs
-
 returns : tie.Need-returns
 returns c =
     let p = c .before .before .before .pre in
     own-read _ _ _ _ _ (p .0) (p .1) (c .before .entry .ensures .0) (c .value .ensures)
 
 pub own-of-spec : {M : Type 1} → statement M
-own-of-spec = tie.close (tie.spec entry-requires value-requires returns)
+own-of-spec = tie.close (tie.spec (λ c κs. search needs) (λ c κs. search needs) returns)

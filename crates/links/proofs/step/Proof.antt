@@ -7,21 +7,6 @@ use Rattle.links.proofs.Ground.{block-known}
 use Rattle.links.proofs.step.Statement.{statement}
 use Rattle.links.proofs.step.Tie as tie
 
-own-of-requires : tie.Need-own-of-requires
-own-of-requires c κs = search needs
-
-entry-requires : tie.Need-entry-requires
-entry-requires c κs = search needs
-
-sub-wide : tie.Need-sub-wide
-sub-wide c = search needs
-
-wide-requires : tie.Need-wide-requires
-wide-requires c κs = search needs
-
-add-r : tie.Need-add-r
-add-r c = search needs
-
 begins-requires : tie.Need-begins-requires
 begins-requires c κs =
     let pre = c .before .before .before .before .before .pre in
@@ -36,9 +21,6 @@ value-requires c κs =
     let z = c .before .wide .ensures .0 in
     let row = step-row _ _ (pre .0) _ _ _ _ _ (pre .1) y z in
     (omega (arith, row .row), omega arith)
-
-wide-requires-2 : tie.Need-wide-requires-2
-wide-requires-2 c κs = search needs
 
 joins-of-requires : tie.Need-joins-of-requires
 joins-of-requires c κs =
@@ -70,15 +52,5 @@ returns c =
 pub step-spec : {M : Type 1} → statement M
 step-spec =
     tie.close
-    (tie.spec
-    own-of-requires
-    entry-requires
-    sub-wide
-    wide-requires
-    add-r
-    begins-requires
-    value-requires
-    wide-requires-2
-    joins-of-requires
-    meet-requires
-    returns)
+    (tie.spec (λ c κs. search needs) (λ c κs. search needs) (λ c. search needs) (λ c κs. search needs) (λ c. search needs) begins-requires
+    value-requires (λ c κs. search needs) joins-of-requires meet-requires returns)

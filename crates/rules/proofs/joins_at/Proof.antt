@@ -1,46 +1,9 @@
+-- `rules::joins_at` meets its contract.
 use borrow.Author.Needs.{needs}
-use native.Mathlib.Omega.{arith}
 use Rattle.rules.specs.Passing.{joinsAt}
 use Rattle.rules.proofs.joins_at.Statement.{statement}
 use Rattle.rules.proofs.joins_at.Tie as tie
-use Rattle.rules.proofs.joins_at.Reads as reads
-use Rattle.rules.proofs.joins_at.Lts as lts
-use Rattle.rules.proofs.get.Reads as get-reads
-use Rattle.rules.proofs.wide.Reads as wide-reads
 
--- src/lib.rt:90:25
-wide-requires : tie.Need-wide-requires
-wide-requires c κs = search needs
-
--- src/lib.rt:90:25
-mul-get : tie.Need-mul-get
-mul-get c = search needs
-
--- src/lib.rt:90:18
-get-requires : tie.Need-get-requires
-get-requires c κs = search needs
-
--- src/lib.rt:90:9
-wide-requires-2 : tie.Need-wide-requires-2
-wide-requires-2 c κs = search needs
-
--- src/lib.rt:91:18
-mul-get-2 : tie.Need-mul-get-2
-mul-get-2 c = search needs
-
--- src/lib.rt:91:18
-add-get : tie.Need-add-get
-add-get c = search needs
-
--- src/lib.rt:91:10
-get-requires-2 : tie.Need-get-requires-2
-get-requires-2 c κs = search needs
-
--- src/lib.rt:91:5
-wide-requires-3 : tie.Need-wide-requires-3
-wide-requires-3 c κs = search needs
-
--- src/lib.rt:87:1
 returns : tie.Need-returns
 unfolding joinsAt
 returns c = cc
@@ -48,13 +11,5 @@ returns c = cc
 pub joins-at-spec : {M : Type 1} → statement M
 joins-at-spec =
     tie.close
-    (tie.spec
-    wide-requires
-    mul-get
-    get-requires
-    wide-requires-2
-    mul-get-2
-    add-get
-    get-requires-2
-    wide-requires-3
-    returns)
+    (tie.spec (λ c κs. search needs) (λ c. search needs) (λ c κs. search needs) (λ c κs. search needs) (λ c. search needs) (λ c. search needs)
+    (λ c κs. search needs) (λ c κs. search needs) returns)

@@ -1,13 +1,9 @@
-use borrow.Author.Needs.{needs}
-use native.Mathlib.Omega.{arith}
+-- `rules::refuse` meets its contract.
 use Rattle.model.specs.Verdicts.{refused, refusal}
 use mathlib.Core.Path.{refl}
 use Rattle.rules.proofs.refuse.Statement.{statement}
 use Rattle.rules.proofs.refuse.Tie as tie
-use Rattle.rules.proofs.refuse.Reads as reads
-use Rattle.rules.proofs.refuse.Lts as lts
 
--- src/lib.rt:311:1
 returns : tie.Need-returns
 unfolding refused refusal
 returns c = refl

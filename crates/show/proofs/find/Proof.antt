@@ -1,19 +1,14 @@
+-- `show::find` meets its contract.
 use borrow.Author.Needs.{needs}
-use native.Mathlib.Omega.{arith}
 use Rattle.show.proofs.Linked.{room-for-all, leads-back}
 use Rattle.show.proofs.find.Statement.{statement}
 use Rattle.show.proofs.find.Tie as tie
-use Rattle.show.proofs.find.Reads as reads
-use Rattle.show.proofs.find.Lts as lts
-use Rattle.cues.proofs.locate.Reads as locate-reads
 
--- src/lib.rt:244:5
 locate-requires : tie.Need-locate-requires
 locate-requires c κs =
     let h = c .before .before .pre in
     (h .accepted, (h .table, (h .many, (h .low, (h .high, room-for-all _ (search needs))))))
 
--- src/lib.rt:240:1
 returns : tie.Need-returns
 returns c = leads-back _ _ _ _ (c .before .before .before .pre) _ _ _ (search needs) (c .locate .ensures .0) (c .locate .ensures .1)
 

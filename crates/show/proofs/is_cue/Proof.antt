@@ -1,24 +1,19 @@
-use borrow.Author.Needs.{needs}
+-- `show::is_cue` meets its contract.
 use mathlib.Core.Path.{refl}
 use native.Mathlib.Omega.{arith}
 use Rattle.theory.proofs.Choices.{lt-yes, lt-no}
 use Rattle.model.specs.Rules.{isCue}
 use Rattle.show.proofs.is_cue.Statement.{statement}
 use Rattle.show.proofs.is_cue.Tie as tie
-use Rattle.show.proofs.is_cue.Reads as reads
-use Rattle.show.proofs.is_cue.Lts as lts
 
--- src/lib.rt:225:9
 returns : tie.Need-returns
 unfolding isCue
 returns c = lt-yes _ _ _ _ _ (omega arith) refl
 
--- src/lib.rt:228:9
 returns-2 : tie.Need-returns-2
 unfolding isCue
 returns-2 c = lt-no _ _ _ _ _ (omega arith) (lt-yes _ _ _ _ _ (omega arith) refl)
 
--- src/lib.rt:221:1
 returns-3 : tie.Need-returns-3
 unfolding isCue
 returns-3 c = lt-no _ _ _ _ _ (omega arith) (lt-no _ _ _ _ _ (omega arith) refl)

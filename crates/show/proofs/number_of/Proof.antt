@@ -1,16 +1,12 @@
+-- `show::number_of` meets its contract.
 use borrow.Author.Needs.{needs}
-use native.Mathlib.Omega.{arith}
 use Rattle.show.proofs.Laws.{number-none, number-some}
 use Rattle.show.proofs.number_of.Statement.{statement}
 use Rattle.show.proofs.number_of.Tie as tie
-use Rattle.show.proofs.number_of.Reads as reads
-use Rattle.show.proofs.number_of.Lts as lts
 
--- src/lib.rt:80:9
 returns : tie.Need-returns
 returns c = search (number-none, needs)
 
--- src/lib.rt:76:1
 returns-2 : tie.Need-returns-2
 returns-2 c = search (number-some, needs)
 

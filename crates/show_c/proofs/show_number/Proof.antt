@@ -1,37 +1,11 @@
+-- `show_c::show_number` meets its contract.
 use borrow.Author.Needs.{needs}
 use Rattle.show_c.proofs.Laws.{number-refused, number-value, rows-short}
 use Rattle.show_c.proofs.show_number.Statement.{statement}
 use Rattle.show_c.proofs.show_number.Tie as tie
-use Rattle.show_c.proofs.show_number.Reads as reads
-use Rattle.show_c.proofs.show_number.Lts as lts
-use Rattle.show.proofs.number.Reads as number-reads
-use Rattle.show_c.proofs.put_1.Reads as put-1-reads
-use Rattle.show_c.proofs.refused.Reads as refused-reads
-use Rattle.show_c.proofs.short_rows.Reads as short-rows-reads
-
-short-rows-requires : tie.Need-short-rows-requires
-short-rows-requires c κs = search needs
 
 returns : tie.Need-returns
 returns c = rows-short _ _ _ _ (search needs) (search needs)
-
-number-requires : tie.Need-number-requires
-number-requires c κs = search needs
-
-enum-known-n : tie.Need-enum-known-n
-enum-known-n c = search needs
-
-put-1-requires : tie.Need-put-1-requires
-put-1-requires c κs = search needs
-
-enum-known-r : tie.Need-enum-known-r
-enum-known-r c = search needs
-
-refused-requires : tie.Need-refused-requires
-refused-requires c κs = search needs
-
-same-length : tie.Need-same-length
-same-length c = search needs
 
 returns-2 : tie.Need-returns-2
 returns-2 c = number-value _ _ _ _ _ (c .before .before .before .before .before .before .before .number .result) _ _ (search needs) (search needs) (c .before .before .before .before .before .before .before .number .ensures) (c .before .before .put-1 .ensures) (search needs)
@@ -42,14 +16,5 @@ returns-3 c = number-refused _ _ _ _ _ (c .before .before .before .before .numbe
 pub show-number-spec : {M : Type 1} → statement M
 show-number-spec =
     tie.close
-    (tie.spec
-    short-rows-requires
-    returns
-    number-requires
-    enum-known-n
-    put-1-requires
-    enum-known-r
-    refused-requires
-    same-length
-    returns-2
-    returns-3)
+    (tie.spec (λ c κs. search needs) returns (λ c κs. search needs) (λ c. search needs) (λ c κs. search needs) (λ c. search needs)
+    (λ c κs. search needs) (λ c. search needs) returns-2 returns-3)
