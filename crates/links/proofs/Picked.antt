@@ -12,6 +12,7 @@ use Rattle.model.specs.Unfolding.{renamed}
 use Rattle.model.specs.Lists.{isLinked, range, keep, cuesAfter, isOut, isInto}
 use Rattle.theory.proofs.Choices.{eq-then, eq-else, true-then, true-else, lt-then, lt-else}
 use Rattle.theory.proofs.Members.{range-bounds}
+use Rattle.theory.proofs.Keeping.{keep-yes, keep-append, keep-none, keep-same, range-append}
 use Rattle.links.specs.declared.Ask.{Ask}
 use Rattle.links.specs.Picks.{nearEnd, here, there, fits, picks, Picked, wants, wanted}
 
@@ -139,43 +140,6 @@ module _ (q : Ask) (v u : ℕ) where
   pub wants-hit : (E : List Link) → q .after < u → Picked q E v u → wants q E v u ≡ true
   unfolding wants
   wants-hit E h p = lt-then _ _ _ _ h ∙ picked E .1 p
-
--- What a test keeps.
-module _ (test : ℕ → Bool) where
-  pub keep-yes : (x : ℕ) (xs : List ℕ) → test x ≡ true → keep test (x ∷ xs) ≡ x ∷ keep test xs
-  unfolding keep ifTrue
-  keep-yes x xs e = rw e
-
-  pub keep-no : (x : ℕ) (xs : List ℕ) → test x ≡ false → keep test (x ∷ xs) ≡ keep test xs
-  unfolding keep ifTrue
-  keep-no x xs e = rw e
-
-  pub keep-append : (xs ys : List ℕ) → keep test (xs ++ ys) ≡ keep test xs ++ keep test ys
-  unfolding keep
-  keep-append [] ys = refl
-  keep-append (x ∷ xs) ys = go (keep-append xs ys) (test x) refl
-    where
-      go : keep test (xs ++ ys) ≡ keep test xs ++ keep test ys → (b : Bool) → test x ≡ b → keep test ((x ∷ xs) ++ ys) ≡ keep test (x ∷ xs) ++ keep test ys
-      go below true e = keep-yes x (xs ++ ys) e ∙ ap (λ zs. x ∷ zs) below ∙ sym (ap (λ zs. zs ++ keep test ys) (keep-yes x xs e))
-      go below false e = keep-no x (xs ++ ys) e ∙ below ∙ sym (ap (λ zs. zs ++ keep test ys) (keep-no x xs e))
-
-  pub keep-none : (a many : ℕ) → ((u : ℕ) → a ≤ u → u < a + many → test u ≡ false) → keep test (range a many) ≡ []
-  unfolding keep range
-  keep-none a zero h = refl
-  keep-none a (suc many) h = keep-no a (range (suc a) many) (h a (omega arith) (omega arith)) ∙ keep-none (suc a) many (λ u x y. h u (omega arith) (omega arith))
-
-pub keep-same : (f g : ℕ → Bool) (a many : ℕ) → ((u : ℕ) → a ≤ u → u < a + many → f u ≡ g u) → keep f (range a many) ≡ keep g (range a many)
-unfolding keep range
-keep-same f g a zero h = refl
-keep-same f g a (suc many) h = ap₂ (λ t zs. ifTrue t (a ∷ zs) zs) (h a (omega arith) (omega arith)) (keep-same f g (suc a) many (λ u x y. h u (omega arith) (omega arith)))
-
-pub range-append : (a m n : ℕ) → range a (m + n) ≡ range a m ++ range (a + m) n
-unfolding range
-range-append a zero n = let e : a + 0 ≡ a = omega arith in let f : 0 + n ≡ n = omega arith in rw (e, f) refl
-range-append a (suc m) n =
-    let e : a + suc m ≡ suc a + m = omega arith in
-    let f : suc m + n ≡ suc (m + n) = omega arith in
-    rw (e, f) (ap (λ zs. a ∷ zs) (range-append (suc a) m n))
 
 -- The cues asked for in two ranges that follow each other; in one where none is picked or all are too low; of links that pick alike there.
 module _ (q : Ask) (v : ℕ) where

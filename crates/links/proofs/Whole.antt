@@ -38,8 +38,9 @@ use Rattle.links.specs.Picks.{nearEnd, here, there, fits, picks, Picked,
 use Rattle.links.specs.Ground.{Ground}
 use Rattle.links.specs.Pages.{Filled, puts, Gives}
 use Rattle.links.specs.Stands.{Standing, Trail}
-use Rattle.links.specs.Answer.{cueOf, linkedCues, IsListed, MayAnswer, Answered}
-use Rattle.links.proofs.Picked.{both-ends, ends-here, picked, keep-same, wanted-append, wanted-none, wanted-low, wanted-same}
+use Rattle.links.specs.Answer.{cueOf, linkedCues, labelledCues, IsListed, MayAnswer, Answered}
+use Rattle.theory.proofs.Keeping.{keep-short, keep-same}
+use Rattle.links.proofs.Picked.{both-ends, ends-here, picked, wanted-append, wanted-none, wanted-low, wanted-same}
 use Rattle.links.proofs.Filled.{puts-all}
 use Rattle.links.proofs.Near.{picked-in}
 
@@ -202,40 +203,44 @@ module _ (bs : List Block) (good : Good bs) (closed : joinsOf bs (lastBlock bs) 
         ∙ append-nil (wanted q (showLinks bs) v 0 (base + total bs k))
         ∙ wanted-same q v (showLinks bs) (links bs k base met) 0 (base + total bs k) (λ u x y p. down u p) (λ u x y p. up u p))
 
-    pub copy-cues : AllLabels q → wanted q (links bs k base met) (number z c) 0 (base + total bs k) ≡ linkedCues (q .inward) bs (cueOf bs path c) (q .after)
-    unfolding linkedCues showLinks
-    copy-cues all = copy-list ∙ ap (λ v. wanted q (showLinks bs) v 0 (count bs)) copy-number ∙ go (q .inward) refl
-      where
-        v : ℕ
-        v = cueOf bs path c
+    pub copy-cues : wanted q (links bs k base met) (number z c) 0 (base + total bs k) ≡ wanted q (showLinks bs) (cueOf bs path c) 0 (count bs)
+    copy-cues = copy-list ∙ ap (λ v. wanted q (showLinks bs) v 0 (count bs)) copy-number
 
-        fit : (l : Link) → List·Memᴰ l (showLinks bs) → Labelled l
-        fit l i = labels bs good (lastBlock bs) 0 [] l i
+-- With all labels the cues asked for are the list of the model.
+pub all-cues : (q : Ask) → AllLabels q → (bs : List Block) → Good bs → (v : ℕ) → wanted q (showLinks bs) v 0 (count bs) ≡ linkedCues (q .inward) bs v (q .after)
+unfolding linkedCues showLinks
+all-cues q all bs good v = go (q .inward) refl
+  where
+    fit : (l : Link) → List·Memᴰ l (showLinks bs) → Labelled l
+    fit l i = labels bs good (lastBlock bs) 0 [] l i
 
-        go : (b : Bool) → q .inward ≡ b → wanted q (showLinks bs) v 0 (count bs) ≡ linkedCues (q .inward) bs v (q .after)
-        go true e =
-            wanted-after q (showLinks bs) v (count bs) (isInto (showLinks bs) v) (λ u. picks-in q all (showLinks bs) fit v u e) ∙ sym (true-then (q .inward) _ _ e)
-        go false e =
-            wanted-after q (showLinks bs) v (count bs) (isOut (showLinks bs) v) (λ u. picks-out q all (showLinks bs) fit v u e) ∙ sym (true-else (q .inward) _ _ e)
+    go : (b : Bool) → q .inward ≡ b → wanted q (showLinks bs) v 0 (count bs) ≡ linkedCues (q .inward) bs v (q .after)
+    go true e =
+        wanted-after q (showLinks bs) v (count bs) (isInto (showLinks bs) v) (λ u. picks-in q all (showLinks bs) fit v u e) ∙ sym (true-then (q .inward) _ _ e)
+    go false e =
+        wanted-after q (showLinks bs) v (count bs) (isOut (showLinks bs) v) (λ u. picks-out q all (showLinks bs) fit v u e) ∙ sym (true-else (q .inward) _ _ e)
+
+-- The room does not matter to what is asked for.
+module _ (inward : Bool) (lo hi n r s : ℕ) where
+  abbrev one : Ask
+  one = record { inward = inward; lo = lo; hi = hi; after = n; room = r }
+
+  abbrev other : Ask
+  other = record { inward = inward; lo = lo; hi = hi; after = n; room = s }
+
+  picks-alike : (E : List Link) (v u : ℕ) → picks one E v u ≡ picks other E v u
+  unfolding picks fits nearEnd
+  picks-alike [] v u = refl
+  picks-alike (l ∷ E) v u = rw (picks-alike E v u)
+
+  pub room-alike : (E : List Link) (v size : ℕ) → wanted one E v 0 size ≡ wanted other E v 0 size
+  unfolding wanted wants
+  room-alike E v size = keep-same (wants one E v) (wants other E v) 1 size (λ u x y. rw (picks-alike E v u))
 
 -- How long a list is.
-keep-short : (test : ℕ → Bool) (xs : List ℕ) → length (keep test xs) ≤ length xs
-unfolding keep ifTrue
-keep-short test [] = omega arith
-keep-short test (x ∷ xs) = go (keep-short test xs) (test x) refl
-  where
-    go : length (keep test xs) ≤ length xs → (b : Bool) → test x ≡ b → length (keep test (x ∷ xs)) ≤ suc (length xs)
-    go h true e = rw (e, keep) (omega arith)
-    go h false e = rw (e, keep) (omega arith)
-
-after-short : (test : ℕ → Bool) (cues n : ℕ) → length (cuesAfter test cues n) ≤ cues
-unfolding cuesAfter
-after-short test cues n = omega (arith, keep-short test (range (suc n) (cues - n)), range-length (suc n) (cues - n))
-
-pub linked-short : (inward : Bool) (bs : List Block) (v n : ℕ) → length (linkedCues inward bs v n) ≤ count bs
-unfolding linkedCues ifTrue
-linked-short true bs v n = after-short (isInto (showLinks bs) v) (count bs) n
-linked-short false bs v n = after-short (isOut (showLinks bs) v) (count bs) n
+wanted-short : (q : Ask) (E : List Link) (v size : ℕ) → length (wanted q E v 0 size) ≤ size
+unfolding wanted
+wanted-short q E v size = omega (arith, keep-short (wants q E v) (range 1 size), range-length 1 size)
 
 -- The page that was filled.
 module _ (room g : ℕ) (cues page after : List ℕ) (x : Gives room page 0 cues after g) (cap : room ≡ min (length page) 2147483647) (few : length cues ≤ 2147483647) where
@@ -271,9 +276,6 @@ module _ (room g : ℕ) (cues page after : List ℕ) (x : Gives room page 0 cues
           }
 
 -- What the question starts from, and what it comes to.
-abbrev pub ask : Bool → ℕ → ℕ → Ask
-ask inward n room = record { inward = inward; lo = 1; hi = 255; after = n; room = room }
-
 module _ (xs t path : List ℕ) (depth c : ℕ) (ok : verdict xs ≡ Accepted) (index : Indexed xs t) (long : depth ≤ length path)
     (has : cueOf (blocksOf xs) (take depth path) c ≢ 0) where
   abbrev bs : List Block
@@ -288,9 +290,9 @@ module _ (xs t path : List ℕ) (depth c : ℕ) (ok : verdict xs ≡ Accepted) (
   pub trail : Trail bs path depth
   trail = record { long = long; steps = steps-after bs (show .good) (lastBlock bs) 0 [] (take depth path) c has .0 }
 
-  module _ (k base : ℕ) (met : List ℕ) (s : Standing bs (take depth path) k base met) (inward : Bool) (n room : ℕ) (page : List ℕ)
-      (cap : room ≡ min (length page) 2147483647) where
-    pub may-answer : MayAnswer (ask inward n room) bs k base c page
+  module _ (k base : ℕ) (met : List ℕ) (s : Standing bs (take depth path) k base met) (q : Ask) (page : List ℕ)
+      (cap : q .room ≡ min (length page) 2147483647) where
+    pub may-answer : MayAnswer q bs k base c page
     may-answer =
         let own : (1 ≤ c) × (c ≤ blockAt bs k .own) = copy-own bs (show .good) (show .no-joins) (take depth path) c has k base (take (joinsOf bs k) met) (s .at) in
         record {
@@ -302,22 +304,35 @@ module _ (xs t path : List ℕ) (depth c : ℕ) (ok : verdict xs ≡ Accepted) (
           fits = omega arith;
         }
 
-    module _ (after : List ℕ) (g : ℕ) (answer : Answered (ask inward n room) bs k base met c page after g) where
+    module _ (after : List ℕ) (g : ℕ) (answer : Answered q bs k base met c page after g) where
       abbrev cues : List ℕ
-      cues = linkedCues inward bs (cueOf bs (take depth path) c) n
+      cues = wanted q (showLinks bs) (cueOf bs (take depth path) c) 0 (count bs)
 
-      given : Gives room page 0 cues after g
+      given : Gives (q .room) page 0 cues after g
       given =
-          rw (copy-cues bs (show .good) (show .no-joins) (take depth path) c has k base (take (joinsOf bs k) met) (s .at) (ask inward n room) (record { lo = refl; hi = refl })) at
+          rw (copy-cues bs (show .good) (show .no-joins) (take depth path) c has k base (take (joinsOf bs k) met) (s .at) q) at
           (answer .gives (copy-sound bs (show .good) (show .no-joins) (take depth path) c has k base (take (joinsOf bs k) met) (s .at))
           (copy-low bs (show .good) (show .no-joins) (take depth path) c has k base (take (joinsOf bs k) met) (s .at)))
 
       few : length cues ≤ 2147483647
       unfolding count
-      few = omega (arith, linked-short inward bs (cueOf bs (take depth path) c) n, show .totals (lastBlock bs))
+      few = omega (arith, wanted-short q (showLinks bs) (cueOf bs (take depth path) c) (count bs), show .totals (lastBlock bs))
 
-      pub listed-more : room < g → IsListed cues page after (record { written = room; more = true })
-      listed-more h = list-more room g cues page after given cap few h
+      pub listed-more : (room : ℕ) → room ≡ q .room → room < g → IsListed cues page after (record { written = room; more = true })
+      listed-more room e h = rw e (list-more (q .room) g cues page after given cap few (omega arith))
 
-      pub listed-end : g ≤ room → IsListed cues page after (record { written = g; more = false })
-      listed-end h = list-end room g cues page after given cap few h
+      pub listed-end : (room : ℕ) → room ≡ q .room → g ≤ room → IsListed cues page after (record { written = g; more = false })
+      listed-end room e h = list-end (q .room) g cues page after given cap few (omega arith)
+
+-- The two questions: with all labels, and with some of them.
+pub listed-all : (xs : List ℕ) (inward : Bool) (n room v : ℕ) (page after : List ℕ) (r : Listed) → verdict xs ≡ Accepted
+    → IsListed (wanted (record { inward = inward; lo = 1; hi = 255; after = n; room = room }) (showLinks (blocksOf xs)) v 0 (count (blocksOf xs))) page after r
+    → IsListed (linkedCues inward (blocksOf xs) v n) page after r
+listed-all xs inward n room v page after r ok l =
+    rw (all-cues (record { inward = inward; lo = 1; hi = 255; after = n; room = room }) (record { lo = refl; hi = refl }) (blocksOf xs) (accepted-show xs ok .good) v) at l
+
+pub listed-some : (bs : List Block) (lo hi room v : ℕ) (page after : List ℕ) (r : Listed)
+    → IsListed (wanted (record { inward = false; lo = lo; hi = hi; after = 0; room = room }) (showLinks bs) v 0 (count bs)) page after r
+    → IsListed (labelledCues lo hi bs v) page after r
+unfolding labelledCues
+listed-some bs lo hi room v page after r l = rw (room-alike false lo hi 0 room 0 (showLinks bs) v (count bs)) at l

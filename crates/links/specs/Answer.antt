@@ -1,7 +1,7 @@
 -- The list of a cue, in the model's words, and what the walk from its copy gives.
 use Prim.Native.Nat.{ℕ, zero, suc, _+_, _≤_, _<_, min}
 use mathlib.Core.Path.{_≡_}
-use mathlib.Core.Bool.{Bool}
+use mathlib.Core.Bool.{Bool, false}
 use mathlib.Core.List.{List, [], _∷_}
 use lib.ListN.{length, getD, take}
 use lib.Dec.{ltb}
@@ -25,6 +25,10 @@ cueOf bs path own = numberIn bs (lastBlock bs) 0 path own
 -- "List out, or in, of cue v after n".
 unfoldable pub linkedCues : Bool → List Block → ℕ → ℕ → List ℕ
 linkedCues inward bs v n = ifTrue inward (cuesAfter (isInto (showLinks bs) v) (count bs) n) (cuesAfter (isOut (showLinks bs) v) (count bs) n)
+
+-- The cues that links with labels lo to hi lead to from cue v.
+unfoldable pub labelledCues : ℕ → ℕ → List Block → ℕ → List ℕ
+labelledCues lo hi bs v = wanted (record { inward = false; lo = lo; hi = hi; after = 0; room = 0 }) (showLinks bs) v 0 (count bs)
 
 -- "as many as fit, the rest unchanged; how many were written; "more" exactly if a further one exists".
 pub record IsListed (cues page : List ℕ) (after : List ℕ) (r : Listed) : Type 0 where

@@ -5,18 +5,18 @@ ghost use mathlib.Core.List.{List, [], _∷_};
 ghost use Prim.Native.Nat.{ℕ, _+_, _*_, _-_, _≤_, _<_, _/_, min};
 ghost use lib.ListN.{length, getD, take, set, replicate};
 ghost use Rattle.model.specs.Rows.{cell};
-ghost use Rattle.model.specs.Unfolding.{cueAt};
-ghost use Rattle.model.specs.Blocks.{blockAt, joinsOf, ownOf, sumOver, total, blocksOf};
+ghost use Rattle.model.specs.Unfolding.{cueAt, showLinks};
+ghost use Rattle.model.specs.Blocks.{blockAt, joinsOf, ownOf, sumOver, total, count, blocksOf};
 ghost use Rattle.model.specs.Verdicts.{verdict};
 ghost use Rattle.model.specs.declared.Verdict.the-variants.{Accepted};
 ghost use Rattle.rules.specs.Index.{Indexed, linksFrom, linkAt, useAt};
-ghost use Rattle.links.specs.Picks.{nearEnd, fits, IsLink, Picked};
+ghost use Rattle.links.specs.Picks.{nearEnd, fits, IsLink, Picked, wanted};
 ghost use Rattle.links.specs.Near.{IsColumn, ByRow, Known, Copied, Settled, Table, Ready, RecordMade, UseStep, UsesStep, MarksStep};
 ghost use Rattle.links.specs.Pages.{Gives};
 ghost use Rattle.links.specs.Walks.{stepList, ownList, May, MayDoor, Walked, UsesWalked, Entered, Door};
 ghost use Rattle.links.specs.Joins.{lesser, Next, JoinsDone};
 ghost use Rattle.links.specs.Stands.{Standing, MayStep, Stepped, ColumnsFit, MeetIs, Trail};
-ghost use Rattle.links.specs.Answer.{cueOf, linkedCues, IsListed, MayAnswer, Answered};
+ghost use Rattle.links.specs.Answer.{cueOf, linkedCues, labelledCues, IsListed, MayAnswer, Answered};
 ghost use Rattle.links.specs.Ground.{Ground, UseRow, UseIn, HasRecord, HasBlock, bitAt, setBit, IsCue, Added, PlaceIs};
 
 // The values of a row.
@@ -732,8 +732,38 @@ fn room_of(size: usize) -> usize
     size
 }
 
-// Lists the cues greater than n that links lead to from a cue of accepted rows, or inward from which they lead to it: as many as the page
-// has room for. The cue is given by its path and its own cue; t is the index of the rows.
+// Lists the cues asked for of a cue of accepted rows, as many as the page has room for. The cue is given by its path and its own cue; t is
+// the index of the rows.
+fn list_by(
+    xs: &[u32],
+    t: &[u32; INDEX],
+    blocks: u32,
+    q: Ask,
+    path: &[u32],
+    depth: usize,
+    own: u32,
+    page: &mut [u32],
+) -> Listed
+    requires { ⌜ (verdict (now xs) ≡ Accepted) × Indexed (now xs) (now t) × (blocks ≡ length (blocksOf (now xs))) × (q .room ≡ min (length (now page)) 2147483647) ⌝ }
+    requires { ⌜ (depth ≤ length (now path)) × (cueOf (blocksOf (now xs)) (take depth (now path)) own ≢ 0) ⌝ }
+    ensures { λ r. ⌜ IsListed (wanted q (showLinks (blocksOf (now (xs .entry)))) (cueOf (blocksOf (now (xs .entry))) (take depth (now (path .entry))) own) 0 (count (blocksOf (now (xs .entry))))) (now (page .entry)) (now (page .exit)) r ⌝ }
+{
+    let room = q.room;
+    let z = descend(xs, t, blocks, path, depth);
+    let g = answer_from(xs, t, q, z, own, page);
+    if room < g {
+        return Listed {
+            written: room as u32,
+            more: true,
+        };
+    }
+    Listed {
+        written: g as u32,
+        more: false,
+    }
+}
+
+// Lists the cues greater than n that links lead to from a cue, or inward from which they lead to it.
 pub fn list(
     xs: &[u32],
     t: &[u32; INDEX],
@@ -757,16 +787,32 @@ pub fn list(
         after: n,
         room: room,
     };
-    let z = descend(xs, t, blocks, path, depth);
-    let g = answer_from(xs, t, q, z, own, page);
-    if room < g {
-        return Listed {
-            written: room as u32,
-            more: true,
-        };
-    }
-    Listed {
-        written: g as u32,
-        more: false,
-    }
+    list_by(xs, t, blocks, q, path, depth, own, page)
+}
+
+// Lists the cues that links with labels lo to hi lead to from a cue.
+pub fn list_labels(
+    xs: &[u32],
+    t: &[u32; INDEX],
+    blocks: u32,
+    lo: u32,
+    hi: u32,
+    path: &[u32],
+    depth: usize,
+    own: u32,
+    page: &mut [u32],
+) -> Listed
+    requires { ⌜ (verdict (now xs) ≡ Accepted) × Indexed (now xs) (now t) × (blocks ≡ length (blocksOf (now xs))) ⌝ }
+    requires { ⌜ (depth ≤ length (now path)) × (cueOf (blocksOf (now xs)) (take depth (now path)) own ≢ 0) ⌝ }
+    ensures { λ r. ⌜ IsListed (labelledCues lo hi (blocksOf (now (xs .entry))) (cueOf (blocksOf (now (xs .entry))) (take depth (now (path .entry))) own)) (now (page .entry)) (now (page .exit)) r ⌝ }
+{
+    let room = room_of(page.len());
+    let q = Ask {
+        inward: false,
+        lo: lo,
+        hi: hi,
+        after: 0,
+        room: room,
+    };
+    list_by(xs, t, blocks, q, path, depth, own, page)
 }

@@ -9,6 +9,7 @@ pub mod Accepted
 -- the unfolding, numbers, lists
 pub mod Replacement
 pub mod Numbering
+pub mod Keeping
 pub mod Lists
 -- files
 pub mod Every

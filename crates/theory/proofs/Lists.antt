@@ -19,6 +19,7 @@ use Rattle.model.specs.Questions.{Outcome, answer, listed}
 use Rattle.theory.specs.Lists.{Leads, Rising, none, more, IsPage, GoesOn, pages}
 use Rattle.theory.proofs.Members.{getD-mem, range-bounds, range-mem}
 use Rattle.theory.proofs.Choices.{eq-then, eq-else}
+use Rattle.theory.proofs.Keeping.{keep-yes, keep-no, kept}
 
 -- The test of a link finds just the links.
 pub linked : (E : List Link) (u v : ℕ) → (isLinked E u v ≡ true) ↔ Leads E u v
@@ -46,41 +47,6 @@ linked (l ∷ E) u v = go (linked E u v) (ℕ-discrete (l .from) u) (ℕ-discret
 
 -- Those of some numbers that pass a test.
 module _ (test : ℕ → Bool) where
-  -- A number that passes, and one that does not.
-  keep-yes : (x : ℕ) (xs : List ℕ) → test x ≡ true → keep test (x ∷ xs) ≡ x ∷ keep test xs
-  unfolding keep ifTrue
-  keep-yes x xs e = rw e
-
-  keep-no : (x : ℕ) (xs : List ℕ) → test x ≡ false → keep test (x ∷ xs) ≡ keep test xs
-  unfolding keep ifTrue
-  keep-no x xs e = rw e
-
-  -- What passes is kept, and what is kept was there and passes.
-  kept : (xs : List ℕ) (t : ℕ) → List·Memᴰ t (keep test xs) ↔ (List·Memᴰ t xs × (test t ≡ true))
-  unfolding keep
-  kept [] t = (λ i. absurd (List·Memᴰ·not-nil i), λ p. p .0)
-  kept (x ∷ xs) t = go (kept xs t) (test x) refl
-    where
-      tail : List·Memᴰ t xs × (test t ≡ true) → List·Memᴰ t (x ∷ xs) × (test t ≡ true)
-      tail (i, h) = (List·Memᴰ·tail i, h)
-
-      go : List·Memᴰ t (keep test xs) ↔ (List·Memᴰ t xs × (test t ≡ true)) → (b : Bool) → test x ≡ b
-          → List·Memᴰ t (keep test (x ∷ xs)) ↔ (List·Memᴰ t (x ∷ xs) × (test t ≡ true))
-      go below true e = rw (keep-yes x xs e) (λ i. to (List·Memᴰ·cases-cons i), λ p. from (p .1) (List·Memᴰ·cases-cons (p .0)))
-        where
-          to : (t ≡ x) ⊎ List·Memᴰ t (keep test xs) → List·Memᴰ t (x ∷ xs) × (test t ≡ true)
-          to (inl p) = (List·Memᴰ·head p, ap test p ∙ e)
-          to (inr j) = tail (below .0 j)
-
-          from : test t ≡ true → (t ≡ x) ⊎ List·Memᴰ t xs → List·Memᴰ t (x ∷ keep test xs)
-          from h (inl p) = List·Memᴰ·head p
-          from h (inr j) = List·Memᴰ·tail (below .1 (j, h))
-      go below false e = rw (keep-no x xs e) (λ i. tail (below .0 i), λ p. from (p .1) (List·Memᴰ·cases-cons (p .0)))
-        where
-          from : test t ≡ true → (t ≡ x) ⊎ List·Memᴰ t xs → List·Memᴰ t (keep test xs)
-          from h (inl p) = absurd (let z : _≡_ {A = ℕ} 0 1 = cc (sym h ∙ ap test p ∙ e) in omega arith)
-          from h (inr j) = below .1 (j, h)
-
   -- Leaving numbers out keeps a list rising.
   keep-rising : {xs : List ℕ} → Rising xs → Rising (keep test xs)
   unfolding keep
@@ -88,8 +54,8 @@ module _ (test : ℕ → Bool) where
   keep-rising (more {x} {xs} low r) = go (keep-rising r) (test x) refl
     where
       go : Rising (keep test xs) → (b : Bool) → test x ≡ b → Rising (keep test (x ∷ xs))
-      go below true e = rw (keep-yes x xs e) (more (λ y i. low y (kept xs y .0 i .0)) below)
-      go below false e = rw (keep-no x xs e) below
+      go below true e = rw (keep-yes test x xs e) (more (λ y i. low y (kept test xs y .0 i .0)) below)
+      go below false e = rw (keep-no test x xs e) below
 
 -- The numbers of a range.
 in-range : (a many t : ℕ) → List·Memᴰ t (range a many) ↔ ((a ≤ t) × (t < a + many))
