@@ -1,0 +1,1 @@
+-- Filling a buffer with the lines of marked places.
