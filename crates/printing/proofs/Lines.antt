@@ -42,18 +42,21 @@ module _ (n at i : ℕ) (o p : List ℕ) where
   unfolding endedText valuesText
   puts-values m j ns q s t = puts-as (sym (append-assoc (numberText 10 n) (44 ∷ []) (valuesText (m ∷ ns)))) (puts-both s t)
 
--- A line of three values takes at most 33 bytes.
-values-one : (n : ℕ) → length (valuesText (n ∷ [])) ≤ 11
+-- A line takes at most 11 bytes for each value.
+pub value-long : (n : ℕ) → length (valuesText (n ∷ [])) ≤ 11
 unfolding endedText valuesText
-values-one n = ended-long n 10
+value-long n = ended-long n 10
 
-values-more : (n m k : ℕ) (ns : List ℕ) → length (valuesText (m ∷ ns)) ≤ k → length (valuesText (n ∷ m ∷ ns)) ≤ k + 11
+values-long : (n m k : ℕ) (ns : List ℕ) → length (valuesText (m ∷ ns)) ≤ k → length (valuesText (n ∷ m ∷ ns)) ≤ k + 11
 unfolding valuesText
-values-more n m k ns h = omega (arith, number-long 10 n, length-append (numberText 10 n) (44 ∷ valuesText (m ∷ ns)))
+values-long n m k ns h = omega (arith, number-long 10 n, length-append (numberText 10 n) (44 ∷ valuesText (m ∷ ns)))
+
+pub pair-long : (n m : ℕ) → length (valuesText (n ∷ m ∷ [])) ≤ 22
+pair-long n m = values-long n m 11 [] (value-long m)
 
 pub line-long : (u p : ℕ) → length (lineOf u p) ≤ 33
 unfolding lineOf
-line-long u p = values-more u _ 22 _ (values-more (p / 256) _ 11 [] (values-one (p % 256)))
+line-long u p = values-long u _ 22 _ (pair-long (p / 256) (p % 256))
 
 -- A text that is stored from the start on stands there.
 pub begins : (w o p : List ℕ) (r : ℕ) → r ≤ length o → Puts w o 0 r p → Begins w r p
@@ -64,3 +67,8 @@ begins w o p r h s =
       fits = omega (arith, puts-long s);
       text = rw (puts-over w o p r (omega arith) s) (take-at w (drop (length w) o) r l);
     }
+
+-- So does one behind a title.
+pub titled : (t b o p q : List ℕ) (at r k : ℕ) → length b ≤ k → length t + k ≤ length o → Puts t o 0 at p → Puts b p at r q
+    → Begins (t ++ b) r q
+titled t b o p q at r k h l s z = begins (t ++ b) o q r (omega (arith, s .place, z .place)) (puts-both s z)
