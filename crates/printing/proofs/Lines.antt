@@ -58,17 +58,16 @@ pub line-long : (u p : ℕ) → length (lineOf u p) ≤ 33
 unfolding lineOf
 line-long u p = values-long u _ 22 _ (pair-long (p / 256) (p % 256))
 
--- A text that is stored from the start on stands there.
-pub begins : (w o p : List ℕ) (r : ℕ) → r ≤ length o → Puts w o 0 r p → Begins w r p
+-- A text that is stored from the start on stands there; and so does one with another behind it.
+pub begins : (w o p : List ℕ) (r : ℕ) → Puts w o 0 r p → length w ≤ length o → Begins w r p
 unfolding overwrite
-begins w o p r h s =
+begins w o p r s h =
     let l : length w ≡ r = omega (arith, s .place) in
     record {
       fits = omega (arith, puts-long s);
-      text = rw (puts-over w o p r (omega arith) s) (take-at w (drop (length w) o) r l);
+      text = rw (puts-over w o p r h s) (take-at w (drop (length w) o) r l);
     }
 
--- So does one behind a title.
-pub titled : (t b o p q : List ℕ) (at r k : ℕ) → length b ≤ k → length t + k ≤ length o → Puts t o 0 at p → Puts b p at r q
+pub titled : (t b o p q : List ℕ) (at r k : ℕ) → Puts t o 0 at p → Puts b p at r q → length b ≤ k → length t + k ≤ length o
     → Begins (t ++ b) r q
-titled t b o p q at r k h l s z = begins (t ++ b) o q r (omega (arith, s .place, z .place)) (puts-both s z)
+titled t b o p q at r k s z h l = begins (t ++ b) o q r (puts-both s z) (omega (arith, length-append t b))

@@ -7,7 +7,7 @@ use Rattle.printing.proofs.put_count.Tie as tie
 
 returns : tie.Need-returns
 unfolding cuesTitle
-returns c = search (titled, value-long, needs)
+returns c = titled cuesTitle _ _ _ _ _ _ 11 (c .before .before .put-bytes .ensures) (c .put-one .ensures) (value-long _) (search needs)
 
 pub put-count-spec : {M : Type 1} → statement M
 put-count-spec = tie.close (tie.spec (λ c. search needs) (λ c κs. search needs) (λ c κs. search needs) returns)

@@ -7,7 +7,7 @@ use Rattle.printing.proofs.put_links_title.Tie as tie
 
 returns : tie.Need-returns
 unfolding linksTitle
-returns c = search (begins, needs)
+returns c = begins linksTitle _ _ _ (c .put-bytes .ensures) (search needs)
 
 pub put-links-title-spec : {M : Type 1} → statement M
 put-links-title-spec = tie.close (tie.spec (λ c. search needs) (λ c κs. search needs) returns)

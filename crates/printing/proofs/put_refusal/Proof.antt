@@ -7,7 +7,7 @@ use Rattle.printing.proofs.put_refusal.Tie as tie
 
 returns : tie.Need-returns
 unfolding refusalTitle refusalText
-returns c = search (titled, pair-long, needs)
+returns c = titled refusalTitle _ _ _ _ _ _ 22 (c .before .before .put-bytes .ensures) (c .put-pair .ensures) (pair-long _ _) (search needs)
 
 pub put-refusal-spec : {M : Type 1} → statement M
 put-refusal-spec = tie.close (tie.spec (λ c. search needs) (λ c κs. search needs) (λ c κs. search needs) returns)
