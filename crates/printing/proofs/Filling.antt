@@ -66,8 +66,8 @@ module _ (m : List ℕ) (u p e : ℕ) (o : List ℕ) where
           fits = s .fits;
           long = long;
           text =
-          sym (s .stored .split)
-          ∙ ap (λ (w : List ℕ). w ++ linesFrom m u place e) (sym (begins (s .stored .done) o q used (s .stored .puts) (omega (arith, s .fits, s .stored .puts .place)) .text));
+              sym (s .stored .split)
+              ∙ ap (λ (w : List ℕ). w ++ linesFrom m u place e) (sym (begins (s .stored .done) o q used (s .stored .puts) (omega (arith, s .fits, s .stored .puts .place)) .text));
           gets-on = on;
         }
 

@@ -3,3 +3,5 @@ pub mod Numbers
 pub mod Lines
 pub mod Marks
 pub mod Filling
+pub mod Texts
+pub mod Triples

@@ -13,11 +13,11 @@ use Rattle.printing.specs.Stream.{marked, marksFrom, FirstMark}
 
 module _ (m : List ℕ) where
   -- A place that is marked, and one that is not.
-  is-marked : (i : ℕ) → getD m i 0 ≡ 1 → marked m i ≡ true
+  pub is-marked : (i : ℕ) → getD m i 0 ≡ 1 → marked m i ≡ true
   unfolding marked
   is-marked i h = eq-then _ _ _ _ h
 
-  not-marked : (i : ℕ) → (getD m i 0 ≡ 1 → ⊥) → marked m i ≡ false
+  pub not-marked : (i : ℕ) → (getD m i 0 ≡ 1 → ⊥) → marked m i ≡ false
   unfolding marked
   not-marked i h = eq-else _ _ _ _ h
 
