@@ -1,7 +1,7 @@
 -- Lines of values, stored value by value; and a text that stands at the start of a buffer.
 use Prim.Native.Nat.{ℕ, _+_, _≤_, _<_, _/_, _%_}
 use native.Mathlib.Omega.{arith}
-use mathlib.Core.Path.{_≡_, refl, sym, ap}
+use mathlib.Core.Path.{_≡_, sym}
 use mathlib.Core.List.{List, [], _∷_, _++_, append-assoc}
 use lib.ListN.{length, set, drop, length-append}
 use lib.Seq.{take-at}

@@ -5,7 +5,6 @@ use mathlib.Core.Path.{_≡_, refl, sym, _∙_, ap, ap₂}
 use mathlib.Core.Bool.{Bool, true, false}
 use mathlib.Core.List.{List, [], _∷_, _++_, flatMap}
 use lib.ListN.{getD}
-use Rattle.model.specs.Choice.{ifTrue}
 use Rattle.model.specs.Answers.{flag}
 use Rattle.model.specs.Blocks.{Link, Block, count}
 use Rattle.model.specs.Unfolding.{showLinks}
