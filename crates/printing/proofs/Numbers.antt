@@ -20,7 +20,7 @@ number-more : (d n : ℕ) → 10 ≤ n → numberText (suc d) n ≡ numberText d
 unfolding numberText
 number-more d n h = rw (le-ltb n 10 h, numberText)
 
--- It has at most as many digits as it may have, and it has one.
+-- It has at most as many digits as it may have.
 pub number-long : (d n : ℕ) → length (numberText d n) ≤ d
 unfolding numberText
 number-long zero n = omega arith

@@ -9,10 +9,10 @@ use Rattle.model.specs.Answers.{flag}
 use Rattle.model.specs.Blocks.{Link, Block, count}
 use Rattle.model.specs.Unfolding.{showLinks}
 use Rattle.model.specs.Lists.{range, keep}
-use Rattle.model.specs.Printed.{isTriple, triplesOf, triples, valuesText}
-use Rattle.theory.proofs.Choices.{true-else}
+use Rattle.model.specs.Printed.{isTriple, triplesOf, triples, valuesText, linksTitle, cuesTitle, showText}
+use Rattle.theory.proofs.Choices.{lt-then, lt-else, true-else}
 use Rattle.triples.specs.Marks.{Marked}
-use Rattle.printing.specs.Stream.{linkLine, lineOf, marked, marksFrom, linesFrom}
+use Rattle.printing.specs.Stream.{linkLine, cueLines, lineOf, marked, marksFrom, linesFrom}
 use Rattle.printing.proofs.Marks.{is-marked, not-marked}
 use Rattle.printing.proofs.Texts.{flat-same, flat-map, flat-flat, flat-keep, flat-parts, range-first}
 
@@ -62,13 +62,15 @@ module _ (E : List Link) (u n : ℕ) (m : List ℕ) (w : Marked E u n m) where
         ∙ flat-keep (lineOf u) (marked m) (256 * v) (range (suc (256 * v)) 255)
         ∙ (rw (true-else _ (lineOf u (256 * v)) [] (zero-mark m _ (w .none v low high)))))
 
-  -- The lines of the links to a cue, and to the k cues from v on.
+  -- The lines of the links to a cue.
   toCue : ℕ → List ℕ
   toCue v = flatMap linkLine (triplesOf E u v)
 
+  -- The lines of the marks among k places from p on.
   places : ℕ → ℕ → List ℕ
   places p k = flatMap (lineOf u) (keep (marked m) (range p k))
 
+  -- So the lines of the links to k cues from v on are those of 256 places for each.
   no-lines : (v : ℕ) → flatMap toCue (range v 0) ≡ places (256 * v) (256 * 0)
   unfolding range keep flatMap places
   no-lines v = refl
@@ -93,16 +95,24 @@ module _ (E : List Link) (u n : ℕ) (m : List ℕ) (w : Marked E u n m) where
       ∙ sym (more-places (256 * v) k)
 
   -- The lines of the links from a cue are those of its marked places.
-  pub marked-lines : flatMap (λ v. flatMap linkLine (triplesOf E u v)) (range 1 n) ≡ linesFrom m u 256 (256 * n + 256)
+  pub marked-lines : cueLines E u n ≡ linesFrom m u 256 (256 * n + 256)
   unfolding linesFrom marksFrom places toCue
   marked-lines =
       let s : 256 * n + 256 - 256 ≡ 256 * n = omega arith in
       rw s (cues-lines 1 n (omega arith) (omega arith))
 
 -- The lines of a show's links, cue by cue.
-pub triples-lines : (bs : List Block)
-    → flatMap linkLine (triples bs)
-    ≡ flatMap (λ u. flatMap (λ v. flatMap linkLine (triplesOf (showLinks bs) u v)) (range 1 (count bs))) (range 1 (count bs))
+pub triples-lines : (bs : List Block) → flatMap linkLine (triples bs) ≡ flatMap (λ u. cueLines (showLinks bs) u (count bs)) (range 1 (count bs))
 unfolding triples
 triples-lines bs =
     flat-flat linkLine _ (range 1 (count bs)) ∙ flat-same _ _ (λ u. flat-flat linkLine _ (range 1 (count bs))) (range 1 (count bs))
+
+-- So that is what is printed of a show with at most 1,000 cues, and of any other only the count.
+pub show-lines : (bs : List Block) → count bs ≤ 1000
+    → showText bs ≡ linksTitle ++ flatMap (λ u. cueLines (showLinks bs) u (count bs)) (range 1 (count bs))
+unfolding showText
+show-lines bs h = lt-else _ _ _ _ h ∙ ap (λ (w : List ℕ). linksTitle ++ w) (triples-lines bs)
+
+pub show-count : (bs : List Block) → 1000 < count bs → showText bs ≡ cuesTitle ++ valuesText (count bs ∷ [])
+unfolding showText
+show-count bs h = lt-then _ _ _ _ h

@@ -7,7 +7,7 @@ use lib.ListN.{length, getD, take}
 use Rattle.model.specs.Choice.{ifLt, ifEq}
 use Rattle.model.specs.Blocks.{Link}
 use Rattle.model.specs.Lists.{range, keep}
-use Rattle.model.specs.Printed.{numberText, valuesText}
+use Rattle.model.specs.Printed.{numberText, valuesText, triplesOf}
 
 -- A number and the byte behind it.
 unfoldable pub endedText : ℕ → ℕ → List ℕ
@@ -16,6 +16,10 @@ endedText n end = numberText 10 n ++ (end ∷ [])
 -- The line of a link.
 abbrev pub linkLine : Link → List ℕ
 linkLine l = valuesText (l .from ∷ l .to ∷ l .label ∷ [])
+
+-- The lines of the links from cue u, of n cues.
+abbrev pub cueLines : List Link → ℕ → ℕ → List ℕ
+cueLines E u n = flatMap (λ v. flatMap linkLine (triplesOf E u v)) (range 1 n)
 
 -- The line of the link from cue u that place p stands for: it leads to cue p / 256 with label p % 256.
 unfoldable pub lineOf : ℕ → ℕ → List ℕ
