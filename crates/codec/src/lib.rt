@@ -405,7 +405,7 @@ fn put_row(xs: &[u32], r: usize, texts: &[u8], out: &mut [u8], from: usize) -> u
 }
 
 // Writes bytes to the start of a list.
-fn put_bytes(bytes: &[u8], out: &mut [u8]) -> usize
+pub fn put_bytes(bytes: &[u8], out: &mut [u8]) -> usize
     requires { ⌜ length (now bytes) ≤ length (now out) ⌝ }
     ensures { λ r. ⌜ Puts (now (bytes .entry)) (now (out .entry)) 0 r (now (out .exit)) ⌝ }
 {
