@@ -6,12 +6,18 @@ use mathlib.Core.Path.{_≡_, refl, sym, _∙_, ap}
 use mathlib.Core.Bool.{Bool, true, false}
 use mathlib.Core.Logic.{_⊎_, inl, inr}
 use mathlib.Core.List.{List, [], _∷_}
+use lib.Dec.{leb}
 use lib.ListN.{length, getD, set, List·getD-eq-default}
 use lib.Seq.{getD-set-same, getD-set-other}
+use borrow.Author.Tests.{leb-true}
 use Rattle.labels.specs.Rounds.{orb, sum, One, Lowered, none, more, Still, Round, quiet, moved, Fell, same, less}
 
 pub past : (xs : List ℕ) (i : ℕ) → length xs ≤ i → 0 ≡ getD xs i 0
 past xs i h = sym (List·getD-eq-default xs 0 h)
+
+-- A place before n, where all places before n are there.
+pub all-there : (n l i : ℕ) → i < n → leb n l ≡ true → i < l
+all-there n l i h known = let k : n ≤ l = leb-true n l known in omega arith
 
 pub or-yes : (a b : Bool) → a ≡ true → true ≡ orb a b
 unfolding orb

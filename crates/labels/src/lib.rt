@@ -39,18 +39,21 @@ pub fn place(xs: &[u32], i: usize) -> usize
     get(xs, i) as usize
 }
 
-fn size(x: u32) -> usize
+pub fn size(x: u32) -> usize
     ensures { λ r. ⌜ (r ≡ x) × (r ≤ 4294967295) ⌝ }
 {
     x as usize
 }
 
-// The number at a place before the end, as an index.
-pub fn there(xs: &[u32], i: usize) -> usize
-    requires { ⌜ i < length (now xs) ⌝ }
+// The number at a place, as an index. Where it is known to be there, no test is made.
+pub fn there(xs: &[u32], i: usize, known: bool) -> usize
+    requires { ⌜ (known ≡ true → i < length (now xs)) ⌝ }
     ensures { λ r. ⌜ (r ≡ getD (now (xs .entry)) i 0) × (r ≤ 4294967295) ⌝ }
 {
-    size(xs[i])
+    if known {
+        return size(xs[i]);
+    }
+    place(xs, i)
 }
 
 // The label of a cue.
@@ -127,39 +130,16 @@ pub fn put_met(xs: &[u32], p: usize, kept: &[u32], q: usize, m: usize, d: &mut [
     fell
 }
 
-// The labels of m cues that stand from place p on, all before the end, into the first m of e.
-fn gather_there(xs: &[u32], p: usize, d: &[u32], m: usize, e: &mut [u32])
-    requires { ⌜ (p + m < 1099511627776) × (m ≤ length (now e)) × (p + m ≤ length (now xs)) ⌝ }
-    ensures { λ _. ⌜ Gathered (now (xs .entry)) p (now (d .entry)) m (now (e .entry)) (now (e .exit)) ⌝ }
-{
-    let mut i = 0;
-    while i < m {
-        e[i] = get(d, there(xs, p + i));
-        i += 1;
-    }
-}
-
-// The same of any cues.
-fn gather_or_none(xs: &[u32], p: usize, d: &[u32], m: usize, e: &mut [u32])
-    requires { ⌜ (p + m < 1099511627776) × (m ≤ length (now e)) ⌝ }
-    ensures { λ _. ⌜ Gathered (now (xs .entry)) p (now (d .entry)) m (now (e .entry)) (now (e .exit)) ⌝ }
-{
-    let mut i = 0;
-    while i < m {
-        e[i] = get(d, place(xs, p + i));
-        i += 1;
-    }
-}
-
 // The labels of m cues that stand from place p on, into the first m of e.
 pub fn gather(xs: &[u32], p: usize, d: &[u32], m: usize, e: &mut [u32])
     requires { ⌜ (p + m < 1099511627776) × (m ≤ length (now e)) ⌝ }
     ensures { λ _. ⌜ Gathered (now (xs .entry)) p (now (d .entry)) m (now (e .entry)) (now (e .exit)) ⌝ }
 {
-    if p + m <= xs.len() {
-        gather_there(xs, p, d, m, e);
-    } else {
-        gather_or_none(xs, p, d, m, e);
+    let known = p + m <= xs.len();
+    let mut i = 0;
+    while i < m {
+        e[i] = get(d, there(xs, p + i, known));
+        i += 1;
     }
 }
 

@@ -8,6 +8,7 @@ use labels::improve;
 use labels::place;
 use labels::put;
 use labels::put_met;
+use labels::size;
 use labels::there;
 ghost use mathlib.Core.Path.{_≡_};
 ghost use Prim.Native.Nat.{_+_, _*_, _≤_, _<_};
@@ -154,45 +155,20 @@ fn relax_many(xs: &[u32], work: &[u32], p: usize, q: usize, m: usize, d: &mut [u
     false
 }
 
-// The edges of a use that names two cues, from one to the other: cues and weights are there.
-fn pair_there(xs: &[u32], work: &[u32], p: usize, q: usize, d: &mut [u32]) -> bool
+// The edges of a use that names two cues, from one to the other.
+fn relax_pair(xs: &[u32], work: &[u32], p: usize, q: usize, d: &mut [u32]) -> bool
     requires { ⌜ (p < 1099511627776) × (q < 1099511627776) × (p + 1 < length (now xs)) × (q + 8 < length (now work)) ⌝ }
     ensures { λ r. ⌜ Round (Mesh (now (xs .entry)) (now (work .entry)) p q 2 2) (now (d .entry)) r (now (d .exit)) ⌝ }
 {
-    let a = there(xs, p);
-    let b = there(xs, p + 1);
+    let a = size(xs[p]);
+    let b = size(xs[p + 1]);
     let c = improve(d, a, b, work[q + 1]);
     let e = improve(d, b, a, work[q + JOINS]);
     either(c, e)
 }
 
-// The same of any cues and weights.
-fn pair_or_none(xs: &[u32], work: &[u32], p: usize, q: usize, d: &mut [u32]) -> bool
-    requires { ⌜ (p < 1099511627776) × (q < 1099511627776) ⌝ }
-    ensures { λ r. ⌜ Round (Mesh (now (xs .entry)) (now (work .entry)) p q 2 2) (now (d .entry)) r (now (d .exit)) ⌝ }
-{
-    let a = place(xs, p);
-    let b = place(xs, p + 1);
-    let c = improve(d, a, b, get(work, q + 1));
-    let e = improve(d, b, a, get(work, q + JOINS));
-    either(c, e)
-}
-
-// The edges of a use that names two cues, from one to the other.
-fn relax_pair(xs: &[u32], work: &[u32], p: usize, q: usize, d: &mut [u32]) -> bool
-    requires { ⌜ (p < 1099511627776) × (q < 1099511627776) ⌝ }
-    ensures { λ r. ⌜ Round (Mesh (now (xs .entry)) (now (work .entry)) p q 2 2) (now (d .entry)) r (now (d .exit)) ⌝ }
-{
-    if p + 1 < xs.len() {
-        if q + JOINS < work.len() {
-            return pair_there(xs, work, p, q, d);
-        }
-    }
-    pair_or_none(xs, work, p, q, d)
-}
-
-// The edges of a use that names m cues; a cue's edge to itself improves nothing. In accepted rows m is at most 8 and the weights are there,
-// so that the last line is for other rows only.
+// The edges of a use that names m cues; a cue's edge to itself improves nothing. In accepted rows m is at most 8, and cues and weights are
+// there, so that the last line is for other rows only.
 fn relax_use(xs: &[u32], work: &[u32], p: usize, q: usize, m: usize, d: &mut [u32]) -> bool
     requires { ⌜ (p + m < 1099511627776) × (q + 9 * m < 1099511627776) ⌝ }
     ensures { λ r. ⌜ Round (Mesh (now (xs .entry)) (now (work .entry)) p q m m) (now (d .entry)) r (now (d .exit)) ⌝ }
@@ -200,12 +176,14 @@ fn relax_use(xs: &[u32], work: &[u32], p: usize, q: usize, m: usize, d: &mut [u3
     if m < 2 {
         return false;
     }
-    if m == 2 {
-        return relax_pair(xs, work, p, q, d);
-    }
-    if m <= JOINS {
+    if p + m <= xs.len() {
         if q + SUMMARY <= work.len() {
-            return relax_many(xs, work, p, q, m, d);
+            if m == 2 {
+                return relax_pair(xs, work, p, q, d);
+            }
+            if m <= JOINS {
+                return relax_many(xs, work, p, q, m, d);
+            }
         }
     }
     relax_each(xs, work, p, q, m, d)
@@ -227,45 +205,22 @@ pub fn own_of(xs: &[u32], t: &[u32], b: usize) -> usize
     place(xs, place(t, ENTRY * b) * ROW + 3)
 }
 
-// The link rows a and on, before e, which are all there.
-fn links_there(xs: &[u32], a: usize, e: usize, d: &mut [u32]) -> bool
-    requires { ⌜ (a ≤ e) × (e ≤ 4294967295) × (e * 11 ≤ length (now xs)) ⌝ }
-    ensures { λ r. ⌜ Round (Span (LinkEdge (now (xs .entry))) a e) (now (d .entry)) r (now (d .exit)) ⌝ }
-{
-    let mut changed = false;
-    let mut r = a;
-    while r < e {
-        let c = improve(d, there(xs, r * ROW + 3), there(xs, r * ROW + 4), 1);
-        changed = either(changed, c);
-        r += 1;
-    }
-    changed
-}
-
-// The same of any rows.
-fn links_or_none(xs: &[u32], a: usize, e: usize, d: &mut [u32]) -> bool
-    requires { ⌜ (a ≤ e) × (e ≤ 4294967295) ⌝ }
-    ensures { λ r. ⌜ Round (Span (LinkEdge (now (xs .entry))) a e) (now (d .entry)) r (now (d .exit)) ⌝ }
-{
-    let mut changed = false;
-    let mut r = a;
-    while r < e {
-        let c = improve(d, place(xs, r * ROW + 3), place(xs, r * ROW + 4), 1);
-        changed = either(changed, c);
-        r += 1;
-    }
-    changed
-}
-
 // The link rows a and on, before e. In accepted rows they are all there: one test of that in place of two for each row.
 fn relax_links(xs: &[u32], a: usize, e: usize, d: &mut [u32]) -> bool
     requires { ⌜ (a ≤ e) × (e ≤ 4294967295) ⌝ }
     ensures { λ r. ⌜ Round (Span (LinkEdge (now (xs .entry))) a e) (now (d .entry)) r (now (d .exit)) ⌝ }
 {
-    if e * ROW <= xs.len() {
-        return links_there(xs, a, e, d);
+    let known = e * ROW <= xs.len();
+    let mut changed = false;
+    let mut r = a;
+    while r < e {
+        let u = there(xs, r * ROW + 3, known);
+        let v = there(xs, r * ROW + 4, known);
+        let c = improve(d, u, v, 1);
+        changed = either(changed, c);
+        r += 1;
     }
-    links_or_none(xs, a, e, d)
+    changed
 }
 
 // The use rows a and on, before e.
