@@ -90,6 +90,7 @@ fn fill(part: &mut [u32], v: [u32; SUMMARY])
     }
 }
 
+// Zeros in a part of the work area.
 fn wipe(part: &mut [u32])
     ensures { λ _. ⌜ now (part .exit) ≡ replicate (length (now (part .entry))) 0 ⌝ }
 {
@@ -113,6 +114,7 @@ fn summarise_block(xs: &[u32], t: &[u32], k: usize, d: &mut [u32], work: &mut [u
     fill(&mut work[a..e], v);
 }
 
+// The summaries of every block.
 fn summarise_blocks(xs: &[u32], t: &[u32], blocks: usize, work: &mut [u32])
     requires { ⌜ (verdict (now xs) ≡ Accepted) × Indexed (now xs) (now t) × (blocks ≡ length (blocksOf (now xs)))
         × (16384 ≤ length (now work)) ⌝ }
@@ -138,7 +140,7 @@ pub fn summarise(xs: &[u32], t: &[u32; 512], blocks: usize, work: &mut [u32])
     wipe(&mut work[a..WORK]);
 }
 
-// And at m cues from p on.
+// Labels to begin with at m cues from p on.
 fn put_joins(p: usize, e: &[u32], m: usize, d: &mut [u32])
     requires { ⌜ p + m < 1099511627776 ⌝ }
     ensures { λ _. ⌜ Merged (JoinsAt p (now (e .entry)) m) (now (d .entry)) (now (d .exit)) ⌝ }

@@ -12,6 +12,7 @@ use lib.Seq.{getD-set-same, getD-set-other}
 use borrow.Author.Tests.{leb-true}
 use Rattle.labels.specs.Rounds.{orb, sum, One, Lowered, none, more, Still, Round, quiet, moved, Fell, same, less}
 
+-- Past the end stands 0.
 pub past : (xs : List ℕ) (i : ℕ) → length xs ≤ i → 0 ≡ getD xs i 0
 past xs i h = sym (List·getD-eq-default xs 0 h)
 
@@ -19,6 +20,7 @@ past xs i h = sym (List·getD-eq-default xs 0 h)
 pub all-there : (n l i : ℕ) → i < n → leb n l ≡ true → i < l
 all-there n l i h known = let k : n ≤ l = leb-true n l known in omega arith
 
+-- Either of two tests.
 pub or-yes : (a b : Bool) → a ≡ true → true ≡ orb a b
 unfolding orb
 or-yes a b e = rw e

@@ -12,6 +12,7 @@ unfoldable pub orb : Bool → Bool → Bool
 orb true t = true
 orb false t = t
 
+-- The sum of some labels.
 unfoldable pub sum : List ℕ → ℕ
 sum [] = 0
 sum (x ∷ xs) = x + sum xs

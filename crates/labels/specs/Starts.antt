@@ -10,10 +10,10 @@ use Rattle.model.specs.Limits.{noChain}
 abbrev pub Begun : Type 1
 Begun = ℕ → ℕ → Type 0
 
+-- At no cue; with y at v; with one or the other; with each of the first n.
 abbrev pub Nowhere : Begun
 Nowhere a x = ⊥
 
--- With y at v; with one or the other; with each of the first n.
 abbrev pub Cell : ℕ → ℕ → Begun
 Cell v y a x = (a ≡ v) × (x ≡ y)
 

@@ -1,5 +1,4 @@
 // Labels of cues: read, put in, and lowered by one edge.
-
 ghost use mathlib.Core.Path.{_≡_};
 ghost use Prim.Native.Nat.{_+_, _≤_, _<_};
 ghost use mathlib.Core.Logic.{_⊎_};
@@ -11,12 +10,14 @@ ghost use Rattle.labels.specs.Starts.{Nowhere, Cell, MetAt, Started, Mer
 // No label, and no chain between two joins.
 pub const NO_CHAIN: u32 = 4294967295;
 
+// Either of two tests.
 pub fn either(a: bool, b: bool) -> bool
     ensures { λ r. ⌜ r ≡ orb a b ⌝ }
 {
     if a { true } else { b }
 }
 
+// A number, wide enough for sums.
 fn wide(x: u32) -> u64
     ensures { λ r. ⌜ (r ≡ x) × (r ≤ 4294967295) ⌝ }
 {
@@ -33,12 +34,14 @@ pub fn get(xs: &[u32], i: usize) -> u32
     0
 }
 
+// The same, as an index.
 pub fn place(xs: &[u32], i: usize) -> usize
     ensures { λ r. ⌜ (r ≡ getD (now (xs .entry)) i 0) × (r ≤ 4294967295) ⌝ }
 {
     get(xs, i) as usize
 }
 
+// A number as an index.
 pub fn size(x: u32) -> usize
     ensures { λ r. ⌜ (r ≡ x) × (r ≤ 4294967295) ⌝ }
 {

@@ -68,6 +68,7 @@ fn relax_each(xs: &[u32], work: &[u32], p: usize, q: usize, m: usize, d: &mut [u
     changed
 }
 
+// The lesser of two numbers.
 fn least(a: u32, b: u32) -> u32
     ensures { λ r. ⌜ (r ≤ a) × (r ≤ b) × ((r ≡ a) ⊎ ((r ≡ b) × (b < a))) ⌝ }
 {
@@ -116,6 +117,7 @@ fn lower_lines(work: &[u32], q: usize, g: &[u32], e: &mut [u32])
     }
 }
 
+// Whether two labels differ.
 fn unlike(a: u32, b: u32) -> bool
     ensures { λ r. ⌜ (r ≡ false → a ≡ b) ⌝ }
 {
