@@ -13,7 +13,6 @@ use Rattle.model.specs.declared.Verdict.the-variants.{Accepted}
 use Rattle.theory.specs.Accepted.{Show}
 use Rattle.theory.proofs.Accepted.{accepted-show}
 use Rattle.theory.proofs.AtBlock.{joins-small}
-use Rattle.theory.proofs.Ranges.{number}
 use Rattle.theory.proofs.Locality.{show-spot}
 use Rattle.theory.proofs.Trails.{after, after-under, steps-after, number-after}
 use Rattle.theory.proofs.Summing.{distance, distance-far, distance-none}

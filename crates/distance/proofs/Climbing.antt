@@ -19,8 +19,9 @@ use Rattle.theory.proofs.Locality.{Sound, Part, Numbered, part-spot, part-total
 use Rattle.theory.proofs.Chains.{each-one}
 use Rattle.theory.proofs.Detours.{Begins}
 use Rattle.theory.proofs.Trails.{part-at, after}
-use Rattle.distance.specs.Rounds.{joinsBy, ownBy, BlockEdge}
-use Rattle.distance.specs.Starts.{Only, Either, PassedOn, Spread, RowKept}
+use Rattle.labels.specs.Starts.{Either}
+use Rattle.relax.specs.Blocks.{joinsBy, ownBy, BlockEdge, Only, Spread}
+use Rattle.distance.specs.Starts.{PassedOn, RowKept}
 use Rattle.distance.specs.Copies.{stepRow, blockOn, Fits, cuesBy, FromRow, Source, heldOn, copyAt, Inside, Whole, Kept, Ready, Goes, source, KeptFrom, Risen}
 use Rattle.distance.proofs.Filling.{Known, known}
 use Rattle.distance.proofs.Levels.{held-yes, held-other, held-end, held-not}

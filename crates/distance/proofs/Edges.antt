@@ -22,7 +22,8 @@ use Rattle.theory.proofs.Closure.{Join, met-by, Local, by-link, by-use, Stable,
 use Rattle.theory.proofs.Summing.{Listed}
 use Rattle.theory.proofs.Relaxing.{Going, going-done, stable-over}
 use Rattle.rules.specs.Index.{linkAt, linksFrom, useAt, usesFrom, blockFrom, IndexedBlock}
-use Rattle.distance.specs.Rounds.{Edges, LinkEdge, Fan, Mesh, joinsBy, UseEdge, BlockEdge, Lowered, Runs, none, more, Still, Settled}
+use Rattle.labels.specs.Rounds.{Edges, Lowered, Runs, none, more, Still}
+use Rattle.relax.specs.Blocks.{LinkEdge, Fan, Mesh, joinsBy, UseEdge, BlockEdge, Settled}
 
 -- The number in the work area for joins i and j of block k.
 abbrev pub numbers : List ℕ → ℕ → ℕ → ℕ → ℕ

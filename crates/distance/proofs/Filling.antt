@@ -10,7 +10,7 @@ use lib.Seq.{getD-append-add, ext-getD}
 use Rattle.model.specs.Limits.{noChain, summarySize, summaryWidth}
 use Rattle.model.specs.Blocks.{Block, blockAt, joinsOf, blocksOf}
 use Rattle.model.specs.Verdicts.{verdict}
-use Rattle.model.specs.Summaries.{summary, summaryOf, summaries}
+use Rattle.model.specs.Summaries.{summary, summaryOf}
 use Rattle.model.specs.declared.Verdict.the-variants.{Accepted}
 use Rattle.theory.specs.WellFormed.{Good}
 use Rattle.theory.specs.Accepted.{Show}
@@ -18,13 +18,15 @@ use Rattle.theory.proofs.Accepted.{accepted-show}
 use Rattle.theory.proofs.BlockAt.{joinsOf-at, good-at}
 use Rattle.theory.proofs.Walks.{stop}
 use Rattle.theory.proofs.Fewest.{summary-lacks}
-use Rattle.theory.proofs.Closure.{Labels, At}
+use Rattle.theory.proofs.Closure.{At}
 use Rattle.theory.proofs.Summing.{labels-summary}
 use Rattle.theory.proofs.Relaxing.{Going}
 use Rattle.theory.proofs.Places.{summaryOf-length, summariesTo, summariesTo-next, summariesTo-length, summariesTo-at}
 use Rattle.rules.specs.Index.{blockFrom, IndexedBlock, Indexed}
-use Rattle.distance.specs.Rounds.{Edges, joinsBy, ownBy, BlockEdge}
-use Rattle.distance.specs.Starts.{Begun, Only, Started, Spread, RowKept, Filled, Below}
+use Rattle.labels.specs.Rounds.{Edges}
+use Rattle.labels.specs.Starts.{Begun, Started}
+use Rattle.relax.specs.Blocks.{joinsBy, ownBy, BlockEdge, Only, Spread}
+use Rattle.distance.specs.Starts.{RowKept, Filled, Below}
 use Rattle.distance.proofs.Edges.{numbers, labels, joins-at, settled-labels}
 
 -- What labels begin with is what they have on the way.

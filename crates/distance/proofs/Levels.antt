@@ -1,5 +1,5 @@
 -- What labels begin with from one level of a path to the next, as the rows and the table say it.
-use Prim.Native.Nat.{ℕ, _+_, _*_, _-_, _≤_, _<_}
+use Prim.Native.Nat.{ℕ, _+_, _*_, _≤_, _<_}
 use native.Mathlib.Omega.{arith}
 use mathlib.Core.Path.{_≡_, refl, sym, _∙_}
 use mathlib.Core.Bool.{Bool, true, false}
@@ -8,11 +8,14 @@ use mathlib.Core.List.{List}
 use lib.ListN.{getD}
 use Rattle.model.specs.Rows.{cell}
 use Rattle.theory.proofs.Choices.{lt-yes, lt-no, eq-yes, eq-no, true-yes, true-no}
-use Rattle.distance.specs.Rounds.{Edges, joinsBy, ownBy, Settled}
-use Rattle.distance.specs.Starts.{Begun, Nowhere, Cell, Either, MetAt, JoinsAt, PassedOn, Started, Merged, Spread, RowKept}
-use Rattle.distance.specs.Copies.{stepRow, Gathered, cuesBy, FromRow, Source, inner, here, heldOn}
-use Rattle.distance.proofs.Laws.{true-not-false}
-use Rattle.distance.proofs.Beginning.{merged-none, started-first, started-merged, started-same, spread-first}
+use Rattle.labels.specs.Rounds.{Edges}
+use Rattle.labels.specs.Starts.{Begun, Nowhere, Cell, Either, MetAt, Started, Merged, Gathered}
+use Rattle.relax.specs.Blocks.{joinsBy, ownBy, Settled, Spread}
+use Rattle.distance.specs.Starts.{JoinsAt, PassedOn, RowKept}
+use Rattle.distance.specs.Copies.{stepRow, cuesBy, FromRow, Source, inner, here, heldOn}
+use Rattle.labels.proofs.Laws.{true-not-false}
+use Rattle.labels.proofs.Beginning.{merged-none, started-first, started-merged, started-same}
+use Rattle.relax.proofs.Laws.{spread-first}
 
 pub row-same : (v d e : List ℕ) (l own m o j : ℕ) → own ≡ o → m ≡ j → RowKept v l d (own + 1) m e → RowKept v l d (o + 1) j e
 row-same v d e l own m o j eo em r = rw (eo, em) at r

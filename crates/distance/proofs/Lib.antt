@@ -1,7 +1,5 @@
 -- Laws of labels under relaxation, of what they begin with, of the rows' edges, and of the work area.
-pub mod Laws
 pub mod Beginning
-pub mod Lines
 pub mod Edges
 pub mod Filling
 pub mod Area

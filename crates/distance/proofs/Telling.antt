@@ -15,7 +15,7 @@ use Rattle.theory.specs.WellFormed.{Cue, GoodUse}
 use Rattle.theory.specs.Accepted.{Show}
 use Rattle.theory.proofs.Accepted.{accepted-show}
 use Rattle.theory.proofs.Members.{getD-mem}
-use Rattle.theory.proofs.Ranges.{Copy, Spot, number, meets, part-use}
+use Rattle.theory.proofs.Ranges.{Copy, Spot, number, part-use}
 use Rattle.theory.proofs.BlockAt.{spot, joinsOf-at, Lower}
 use Rattle.theory.proofs.Locality.{Sound, Part, Numbered, part-spot, sound-lower, Under, under-sound, part-of, show-spot}
 use Rattle.theory.proofs.Chains.{each-one}
@@ -24,10 +24,11 @@ use Rattle.theory.proofs.Summing.{Listed, summary-exact}
 use Rattle.theory.proofs.Detours.{part-join, FromPart, PartTold, up-told, Begins, begins-nowhere, begins-at, begins-part, FromJoins, JoinsTold, down-told}
 use Rattle.theory.proofs.Trails.{useAt as useOf, part-at, part-at-part}
 use Rattle.rules.specs.Index.{useAt, Indexed}
-use Rattle.distance.specs.Rounds.{joinsBy, ownBy, BlockEdge}
-use Rattle.distance.specs.Starts.{Begun, Only, Either, MetAt, PassedOn, Spread, Below}
+use Rattle.labels.specs.Starts.{Begun, Either, MetAt}
+use Rattle.relax.specs.Blocks.{joinsBy, ownBy, BlockEdge, Only, Spread}
+use Rattle.distance.specs.Starts.{PassedOn, Below}
 use Rattle.distance.specs.Copies.{stepRow, cuesBy, FromRow, Source, inner, here, Inside, Whole, Kept}
-use Rattle.distance.proofs.Beginning.{started-same}
+use Rattle.labels.proofs.Beginning.{started-same}
 use Rattle.distance.proofs.Edges.{numbers, labels, settled-labels, met-at, use-joins}
 use Rattle.distance.proofs.Filling.{Known, known, started-going}
 use Rattle.distance.proofs.Ways.{whole, row-in, use-row, use-block}

@@ -1,5 +1,5 @@
 -- The blocks along a path, found one after the other.
-use Prim.Native.Nat.{ℕ, zero, suc, _+_, _*_, _-_, _<_}
+use Prim.Native.Nat.{ℕ, zero, suc, _+_, _*_, _<_}
 use native.Mathlib.Omega.{arith}
 use native.Mathlib.Numerals.{add-one}
 use mathlib.Core.Path.{_≡_}
@@ -8,7 +8,7 @@ use lib.ListN.{length, getD, set}
 use lib.Seq.{getD-set-same}
 use Rattle.model.specs.Rows.{cell}
 use Rattle.distance.specs.Copies.{stepRow, blockOn, Traced}
-use Rattle.distance.proofs.Beginning.{agree-more}
+use Rattle.labels.proofs.Beginning.{agree-more}
 
 module _ (xs t path : List ℕ) (k : ℕ) where
   pub traced-none : (ks : List ℕ) → 0 < length ks → Traced xs t path k 0 (set ks 0 k)

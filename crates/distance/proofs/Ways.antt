@@ -14,7 +14,7 @@ use Rattle.model.specs.declared.Verdict.the-variants.{Accepted}
 use Rattle.theory.specs.Accepted.{Show}
 use Rattle.theory.proofs.Accepted.{accepted-show}
 use Rattle.theory.proofs.Members.{range-length, range-at}
-use Rattle.theory.proofs.Ranges.{Copy, Spot, number, meets, part-use}
+use Rattle.theory.proofs.Ranges.{Copy, Spot, meets, part-use}
 use Rattle.theory.proofs.BlockAt.{spot}
 use Rattle.theory.proofs.Locality.{Sound, Part, Numbered, part-spot, part-total, part-numbered, Under, itself, part-of, under-sound, show-spot, show-sound}
 use Rattle.theory.proofs.Trails.{useAt as useOf, part-at, part-at-part, after, Steps, ends, goes, after-snoc}

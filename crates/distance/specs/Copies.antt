@@ -18,8 +18,9 @@ use Rattle.theory.proofs.Chains.{each-one}
 use Rattle.theory.proofs.Closure.{Told}
 use Rattle.theory.proofs.Trails.{after, Steps}
 use Rattle.rules.specs.Index.{Indexed}
-use Rattle.distance.specs.Rounds.{joinsBy, ownBy}
-use Rattle.distance.specs.Starts.{Begun, Cell, MetAt, Below}
+use Rattle.labels.specs.Starts.{Begun, Cell, MetAt}
+use Rattle.relax.specs.Blocks.{joinsBy, ownBy}
+use Rattle.distance.specs.Starts.{Below}
 
 -- The row of step p of block k.
 abbrev pub stepRow : List ℕ → ℕ → ℕ → ℕ
@@ -29,11 +30,6 @@ stepRow t k p = getD t (4 * k + 1) 0 + p - 1
 unfoldable pub blockOn : List ℕ → List ℕ → List ℕ → ℕ → ℕ → ℕ
 blockOn xs t path k zero = k
 blockOn xs t path k (suc l) = cell xs (stepRow t (blockOn xs t path k l) (getD path l 0)) 2
-
--- Numbers of some cues, read off labels; the others are as they were.
-pub record Gathered (xs : List ℕ) (p : ℕ) (d : List ℕ) (m : ℕ) (e₀ e : List ℕ) : Type 0 where
-  pub at : (i : ℕ) → i < m → getD e i 0 ≡ getD d (getD xs (p + i) 0) 0
-  pub else : (i : ℕ) → m ≤ i → getD e i 0 ≡ getD e₀ i 0
 
 -- The blocks along a path.
 abbrev pub Traced : List ℕ → List ℕ → List ℕ → ℕ → ℕ → List ℕ → Type 0

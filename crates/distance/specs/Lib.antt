@@ -1,5 +1,4 @@
 -- What the contracts of this crate are stated with.
-pub mod Rounds
 pub mod Starts
 pub mod Copies
 pub mod Answers

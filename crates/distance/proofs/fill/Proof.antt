@@ -4,7 +4,8 @@ use native.Mathlib.Omega.{arith}
 use mathlib.Core.Path.{_≡_}
 use lib.ListN.{length, getD}
 use borrow.Author.Needs.{needs}
-use Rattle.distance.proofs.Beginning.{agree-more, agree-all}
+use Rattle.labels.proofs.Beginning.{agree-more}
+use Rattle.distance.proofs.Beginning.{agree-all}
 use Rattle.distance.proofs.fill.Statement.{statement}
 use Rattle.distance.proofs.fill.Tie as tie
 

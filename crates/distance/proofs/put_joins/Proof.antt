@@ -4,7 +4,8 @@ use native.Mathlib.Omega.{arith}
 use mathlib.Core.Path.{_≡_}
 use lib.ListN.{length}
 use borrow.Author.Needs.{needs}
-use Rattle.distance.specs.Starts.{JoinsAt, Merged}
+use Rattle.labels.specs.Starts.{Merged}
+use Rattle.distance.specs.Starts.{JoinsAt}
 use Rattle.distance.proofs.Beginning.{joins-none, joins-more}
 use Rattle.distance.proofs.put_joins.Statement.{statement}
 use Rattle.distance.proofs.put_joins.Tie as tie

@@ -1,0 +1,11 @@
+-- `relax::from_cue` meets its contract.
+use borrow.Author.Needs.{needs}
+use Rattle.relax.proofs.Laws.{spread-first}
+use Rattle.relax.proofs.from_cue.Statement.{statement}
+use Rattle.relax.proofs.from_cue.Tie as tie
+
+returns : tie.Need-returns
+returns c = search (spread-first, needs)
+
+pub from-cue-spec : {M : Type 1} → statement M
+from-cue-spec = tie.close (tie.spec (λ c κs. search needs) (λ c κs. search needs) (λ c κs. search needs) (λ c. search needs) returns)
