@@ -1,0 +1,37 @@
+-- `answers::least` meets its contract.
+use borrow.Author.Needs.{needs}
+use Rattle.cues.proofs.Finding.{leads-same}
+use Rattle.answers.proofs.Linked.{sum-asks, search-asks, search-done}
+use Rattle.answers.proofs.least.Statement.{statement}
+use Rattle.answers.proofs.least.Tie as tie
+
+find-requires : tie.Need-find-requires
+find-requires c κs =
+    c .before .before .before .pre .0
+
+find-requires-2 : tie.Need-find-requires-2
+find-requires-2 c κs =
+    c .before .before .before .before .before .pre .1
+
+summarise-requires : tie.Need-summarise-requires
+summarise-requires c κs =
+    sum-asks _ _ _ _ _ _ (c .before .before .before .before .before .before .before .before .pre .0) (c .before .wide .ensures .0) (c .before .before .before .before .before .before .before .before .pre .2)
+
+fewest-requires : tie.Need-fewest-requires
+fewest-requires c κs =
+    search-asks _ _ _ _ _ (c .before .before .before .before .before .before .before .before .before .before .before .before .before .before .before .before .pre .0) (c .before .before .before .before .before .before .before .before .before .before .before .before .before .before .before .before .pre .1) _ (c .before .before .before .before .before .before .before .before .before .wide .ensures .0) _ _ _ _ _ _ _ _ (c .before .before .before .before .before .before .before .summarise .ensures)
+    (leads-same _ _ _ _ _ _ (c .before .before .before .before .before .before .before .before .before .before .before .before .find .ensures) (c .before .before .before .before .wide2 .ensures .0))
+    (leads-same _ _ _ _ _ _ (c .before .before .before .before .before .before .before .before .before .before .find2 .ensures) (c .before .before .before .wide3 .ensures .0))
+
+returns : tie.Need-returns
+returns c =
+    search-done _ _ _ _ _ (c .before .before .before .before .before .before .before .before .before .before .before .before .before .before .before .before .before .before .pre .0) (c .before .before .before .before .before .before .before .before .before .before .before .before .before .before .before .before .before .before .pre .1) _ (c .before .before .before .before .before .before .before .before .before .before .before .wide .ensures .0) _ _ _ _ _ _ _ _ _ _ (c .before .before .before .before .before .before .before .before .before .summarise .ensures)
+    (leads-same _ _ _ _ _ _ (c .before .before .before .before .before .before .before .before .before .before .before .before .before .before .find .ensures) (c .before .before .before .before .before .before .wide2 .ensures .0))
+    (leads-same _ _ _ _ _ _ (c .before .before .before .before .before .before .before .before .before .before .before .before .find2 .ensures) (c .before .before .before .before .before .wide3 .ensures .0))
+    (c .before .fewest .ensures) (c .told .ensures)
+
+pub least-spec : {M : Type 1} → statement M
+least-spec =
+    tie.close
+    (tie.spec find-requires find-requires-2 (λ c κs. search needs) summarise-requires (λ c κs. search needs) (λ c κs. search needs)
+    (λ c. search needs) (λ c. search needs) fewest-requires (λ c κs. search needs) (λ c. search needs) returns)
