@@ -62,28 +62,32 @@ fn flag_of(yes: bool) -> u32
     0
 }
 
-fn put_1(given: &mut [u32], a: u32)
+// Values told: they stand first in `given`, and 0 is returned.
+fn tell_1(given: &mut [u32], a: u32) -> u64
     requires { ⌜ 3 ≤ length (now given) ⌝ }
-    ensures { λ _. ⌜ now (given .exit) ≡ overwrite (a ∷ []) (now (given .entry)) ⌝ }
+    ensures { λ r. ⌜ (r ≡ 0) × (now (given .exit) ≡ overwrite (a ∷ []) (now (given .entry))) ⌝ }
 {
     given[0] = a;
+    0
 }
 
-fn put_2(given: &mut [u32], a: u32, b: u32)
+fn tell_2(given: &mut [u32], a: u32, b: u32) -> u64
     requires { ⌜ 3 ≤ length (now given) ⌝ }
-    ensures { λ _. ⌜ now (given .exit) ≡ overwrite (a ∷ b ∷ []) (now (given .entry)) ⌝ }
+    ensures { λ r. ⌜ (r ≡ 0) × (now (given .exit) ≡ overwrite (a ∷ b ∷ []) (now (given .entry))) ⌝ }
 {
     given[0] = a;
     given[1] = b;
+    0
 }
 
-fn put_3(given: &mut [u32], a: u32, b: u32, c: u32)
+fn tell_3(given: &mut [u32], a: u32, b: u32, c: u32) -> u64
     requires { ⌜ 3 ≤ length (now given) ⌝ }
-    ensures { λ _. ⌜ now (given .exit) ≡ overwrite (a ∷ b ∷ c ∷ []) (now (given .entry)) ⌝ }
+    ensures { λ r. ⌜ (r ≡ 0) × (now (given .exit) ≡ overwrite (a ∷ b ∷ c ∷ []) (now (given .entry))) ⌝ }
 {
     given[0] = a;
     given[1] = b;
     given[2] = c;
+    0
 }
 
 // What is told of a list: cues written, whether there are more (0 or 1).
@@ -92,10 +96,7 @@ fn tell_page(answer: ListAnswer, given: &mut [u32]) -> u64
     ensures { λ c. ⌜ Told c (now (given .entry)) (now (given .exit)) (ofList answer) ⌝ }
 {
     match answer {
-        ListAnswer::Page(written, more) => {
-            put_2(given, written, flag_of(more));
-            0
-        }
+        ListAnswer::Page(written, more) => tell_2(given, written, flag_of(more)),
         ListAnswer::Refused(r) => refused(r),
     }
 }
@@ -109,10 +110,7 @@ pub extern "C" fn show_count(rows: &[u32], given: &mut [u32]) -> u64
         return short_rows(rows);
     }
     match show::count(rows) {
-        CountAnswer::Cues(n) => {
-            put_1(given, n);
-            0
-        }
+        CountAnswer::Cues(n) => tell_1(given, n),
         CountAnswer::Refused(r) => refused(r),
     }
 }
@@ -126,10 +124,7 @@ pub extern "C" fn show_number(rows: &[u32], path: &[u32], own: u32, given: &mut 
         return short_rows(rows);
     }
     match show::number(rows, path, own) {
-        NumberAnswer::Number(n) => {
-            put_1(given, n);
-            0
-        }
+        NumberAnswer::Number(n) => tell_1(given, n),
         NumberAnswer::Refused(r) => refused(r),
     }
 }
@@ -143,10 +138,7 @@ pub extern "C" fn show_locate(rows: &[u32], n: u32, path: &mut [u32], given: &mu
         return short_rows(rows);
     }
     match show::locate(rows, n, path) {
-        LocateAnswer::Found(depth, block, own) => {
-            put_3(given, depth, block, own);
-            0
-        }
+        LocateAnswer::Found(depth, block, own) => tell_3(given, depth, block, own),
         LocateAnswer::Refused(r) => refused(r),
     }
 }
@@ -160,10 +152,7 @@ pub extern "C" fn show_write(rows: &[u32], out: &mut [u8], given: &mut [u32]) ->
         return short_rows(rows);
     }
     match show::write(rows, out) {
-        WriteAnswer::Written(n) => {
-            put_1(given, n);
-            0
-        }
+        WriteAnswer::Written(n) => tell_1(given, n),
         WriteAnswer::Refused(r) => refused(r),
     }
 }
@@ -177,10 +166,7 @@ pub extern "C" fn show_read(file: &[u8], rows: &mut [u32], given: &mut [u32]) ->
         return short_file(file);
     }
     match show::read(file, rows) {
-        ReadAnswer::Read(many, blocks, cues) => {
-            put_3(given, many, blocks, cues);
-            0
-        }
+        ReadAnswer::Read(many, blocks, cues) => tell_3(given, many, blocks, cues),
         ReadAnswer::Refused(r) => refused(r),
     }
 }
@@ -234,14 +220,8 @@ pub extern "C" fn show_fewest(
         return short_rows(rows);
     }
     match show::fewest(rows, s, t, work) {
-        FewestAnswer::Steps(n) => {
-            put_2(given, 1, n);
-            0
-        }
-        FewestAnswer::None => {
-            put_2(given, 0, 0);
-            0
-        }
+        FewestAnswer::Steps(n) => tell_2(given, 1, n),
+        FewestAnswer::None => tell_2(given, 0, 0),
         FewestAnswer::Refused(r) => refused(r),
     }
 }

@@ -13,17 +13,26 @@ returns-2 : tie.Need-returns-2
 returns-2 c =
     fewest-from _ _ _ (c .before .before .before .before .before .before .pre) _ _ _ _ _ (c .before .is-cue .ensures) (c .before .before .cues .ensures) (omega arith) (not-true _ (c .if2 .taken))
 
+-- e is the place behind the first test.
 returns-3 : tie.Need-returns-3
 returns-3 c =
-    fewest-to _ _ _ (c .before .before .before .before .before .before .before .before .pre) _ _ _ _ _ (c .before .before .before .is-cue .ensures) (c .before .before .before .before .cues .ensures) (omega arith) _ (not-false _ (c .before .before .if2 .left)) (c .before .is-cue2 .ensures) (not-true _ (c .if3 .taken))
+    let e = c .before .before in
+    fewest-to _ _ _ (e .before .before .before .before .before .before .pre) _ _ _ _ _ (e .before .is-cue .ensures) (e .before .before .cues .ensures) (omega arith) _
+    (not-false _ (e .if2 .left)) (c .before .is-cue2 .ensures) (not-true _ (c .if3 .taken))
 
 least-requires : tie.Need-least-requires
 least-requires c κs =
-    (holds _ _ _ (c .before .before .before .before .before .before .before .before .before .pre) _ _ _ (c .before .before .before .before .is-cue .ensures) (c .before .before .before .before .before .cues .ensures) (not-false _ (c .before .before .before .if2 .left)), holds _ _ _ (c .before .before .before .before .before .before .before .before .before .pre) _ _ _ (c .before .before .is-cue2 .ensures) (c .before .before .before .before .before .cues .ensures) (not-false _ (c .before .if3 .left)), omega arith)
+    let e = c .before .before .before in (
+      holds _ _ _ (e .before .before .before .before .before .before .pre) _ _ _ (e .before .is-cue .ensures) (e .before .before .cues .ensures) (not-false _ (e .if2 .left)),
+      holds _ _ _ (e .before .before .before .before .before .before .pre) _ _ _ (c .before .before .is-cue2 .ensures) (e .before .before .cues .ensures) (not-false _ (c .before .if3 .left)),
+      omega arith,
+    )
 
 returns-4 : tie.Need-returns-4
 returns-4 c =
-    fewest-done _ _ _ (c .before .before .before .before .before .before .before .before .before .before .before .before .pre) _ _ _ _ _ (c .before .before .before .before .before .before .before .is-cue .ensures) (c .before .before .before .before .before .before .before .before .cues .ensures) (omega arith) _ _ (not-false _ (c .before .before .before .before .before .before .if2 .left)) (c .before .before .before .before .before .is-cue2 .ensures) (not-false _ (c .before .before .before .before .if3 .left)) (c .before .before .least .ensures)
+    let e = c .before .before .before .before .before .before in
+    fewest-done _ _ _ (e .before .before .before .before .before .before .pre) _ _ _ _ _ (e .before .is-cue .ensures) (e .before .before .cues .ensures) (omega arith) _ _
+    (not-false _ (e .if2 .left)) (c .before .before .before .before .before .is-cue2 .ensures) (not-false _ (c .before .before .before .before .if3 .left)) (c .before .before .least .ensures)
 
 pub fewest-in-spec : {M : Type 1} → statement M
 fewest-in-spec =

@@ -15,20 +15,27 @@ find-requires-2 c κs =
 
 summarise-requires : tie.Need-summarise-requires
 summarise-requires c κs =
-    sum-asks _ _ _ _ _ _ (c .before .before .before .before .before .before .before .before .pre .0) (c .before .wide .ensures .0) (c .before .before .before .before .before .before .before .before .pre .2)
+    let pre = c .before .before .before .before .before .before .before .before .pre in
+    sum-asks _ _ _ _ _ _ (pre .0) (c .before .wide .ensures .0) (pre .2)
 
+-- e is the place behind the last depth, m the one behind the summaries.
 fewest-requires : tie.Need-fewest-requires
 fewest-requires c κs =
-    search-asks _ _ _ _ _ (c .before .before .before .before .before .before .before .before .before .before .before .before .before .before .before .before .pre .0) (c .before .before .before .before .before .before .before .before .before .before .before .before .before .before .before .before .pre .1) _ (c .before .before .before .before .before .before .before .before .before .wide .ensures .0) _ _ _ _ _ _ _ _ (c .before .before .before .before .before .before .before .summarise .ensures)
-    (leads-same _ _ _ _ _ _ (c .before .before .before .before .before .before .before .before .before .before .before .before .find .ensures) (c .before .before .before .before .wide2 .ensures .0))
-    (leads-same _ _ _ _ _ _ (c .before .before .before .before .before .before .before .before .before .before .find2 .ensures) (c .before .before .before .wide3 .ensures .0))
+    let e = c .before .before .before in
+    let m = e .before .before .before .before in
+    let pre = m .before .before .before .before .before .before .before .before .before .pre in
+    search-asks _ _ _ _ _ (pre .0) (pre .1) _ (m .before .before .wide .ensures .0) _ _ _ _ _ _ _ _ (m .summarise .ensures)
+    (leads-same _ _ _ _ _ _ (m .before .before .before .before .before .find .ensures) (e .before .wide2 .ensures .0))
+    (leads-same _ _ _ _ _ _ (m .before .before .before .find2 .ensures) (e .wide3 .ensures .0))
 
 returns : tie.Need-returns
 returns c =
-    search-done _ _ _ _ _ (c .before .before .before .before .before .before .before .before .before .before .before .before .before .before .before .before .before .before .pre .0) (c .before .before .before .before .before .before .before .before .before .before .before .before .before .before .before .before .before .before .pre .1) _ (c .before .before .before .before .before .before .before .before .before .before .before .wide .ensures .0) _ _ _ _ _ _ _ _ _ _ (c .before .before .before .before .before .before .before .before .before .summarise .ensures)
-    (leads-same _ _ _ _ _ _ (c .before .before .before .before .before .before .before .before .before .before .before .before .before .before .find .ensures) (c .before .before .before .before .before .before .wide2 .ensures .0))
-    (leads-same _ _ _ _ _ _ (c .before .before .before .before .before .before .before .before .before .before .before .before .find2 .ensures) (c .before .before .before .before .before .wide3 .ensures .0))
-    (c .before .fewest .ensures) (c .told .ensures)
+    let e = c .before .before .before .before .before in
+    let m = e .before .before .before .before in
+    let pre = m .before .before .before .before .before .before .before .before .before .pre in
+    search-done _ _ _ _ _ (pre .0) (pre .1) _ (m .before .before .wide .ensures .0) _ _ _ _ _ _ _ _ _ _ (m .summarise .ensures)
+    (leads-same _ _ _ _ _ _ (m .before .before .before .before .before .find .ensures) (e .before .wide2 .ensures .0))
+    (leads-same _ _ _ _ _ _ (m .before .before .before .find2 .ensures) (e .wide3 .ensures .0)) (c .before .fewest .ensures) (c .told .ensures)
 
 pub least-spec : {M : Type 1} → statement M
 least-spec =

@@ -13,14 +13,17 @@ returns c = tell-short _ _ _ _ (search needs) (search needs)
 returns-2 : tie.Need-returns-2
 unfolding ofCount
 returns-2 c =
-    tell _ _ _ _ _ _ (search needs) (c .before .before .before .before .before .before .before .count .ensures)
-    (told-value ofCount (c .before .before .before .before .before .before .before .count .result) (Cues _) _ _ _ _ (search needs) (c .before .before .put-1 .ensures) refl (search needs))
+    let asked = c .before .before .before .before .before .before .before .count in
+    let put = c .before .before .tell-1 .ensures in
+    tell _ _ _ _ _ _ (search needs) (asked .ensures)
+    (told-value ofCount (asked .result) (Cues _) _ _ _ _ (put .0) (put .1) refl (search needs))
 
 returns-3 : tie.Need-returns-3
 unfolding ofCount
 returns-3 c =
-    tell _ _ _ _ _ _ (search needs) (c .before .before .before .before .count .ensures)
-    (told-refused ofCount (c .before .before .before .before .count .result) (Refused _) _ _ _ _ (search needs) (c .refused .ensures) refl (search needs))
+    let asked = c .before .before .before .before .count in
+    tell _ _ _ _ _ _ (search needs) (asked .ensures)
+    (told-refused ofCount (asked .result) (Refused _) _ _ _ _ (search needs) (c .refused .ensures) refl (search needs))
 
 pub show-count-spec : {M : Type 1} → statement M
 show-count-spec =

@@ -13,20 +13,25 @@ returns c = wrote-short _ _ _ _ _ (search needs) (search needs)
 returns-2 : tie.Need-returns-2
 unfolding ofFewest
 returns-2 c =
-    wrote _ _ _ _ _ _ _ _ (search needs) (c .before .before .before .before .before .before .before .before .before .fewest .ensures)
-    (told-value ofFewest (c .before .before .before .before .before .before .before .before .before .fewest .result) (Steps _) _ _ _ _ (search needs) (c .before .before .put-2 .ensures) refl (search needs))
+    let asked = c .before .before .before .before .before .before .before .before .before .fewest in
+    let put = c .before .before .tell-2 .ensures in
+    wrote _ _ _ _ _ _ _ _ (search needs) (asked .ensures)
+    (told-value ofFewest (asked .result) (Steps _) _ _ _ _ (put .0) (put .1) refl (search needs))
 
 returns-3 : tie.Need-returns-3
 unfolding ofFewest
 returns-3 c =
-    wrote _ _ _ _ _ _ _ _ (search needs) (c .before .before .before .before .before .before .before .before .fewest .ensures)
-    (told-value ofFewest (c .before .before .before .before .before .before .before .before .fewest .result) None _ _ _ _ (search needs) (c .before .before .put-22 .ensures) refl (search needs))
+    let asked = c .before .before .before .before .before .before .before .before .fewest in
+    let put = c .before .before .tell-22 .ensures in
+    wrote _ _ _ _ _ _ _ _ (search needs) (asked .ensures)
+    (told-value ofFewest (asked .result) None _ _ _ _ (put .0) (put .1) refl (search needs))
 
 returns-4 : tie.Need-returns-4
 unfolding ofFewest
 returns-4 c =
-    wrote _ _ _ _ _ _ _ _ (search needs) (c .before .before .before .before .before .before .fewest .ensures)
-    (told-refused ofFewest (c .before .before .before .before .before .before .fewest .result) (Refused _) _ _ _ _ (search needs) (c .refused .ensures) refl (search needs))
+    let asked = c .before .before .before .before .before .before .fewest in
+    wrote _ _ _ _ _ _ _ _ (search needs) (asked .ensures)
+    (told-refused ofFewest (asked .result) (Refused _) _ _ _ _ (search needs) (c .refused .ensures) refl (search needs))
 
 pub show-fewest-spec : {M : Type 1} → statement M
 show-fewest-spec =

@@ -13,14 +13,17 @@ returns c = wrote-short _ _ _ _ _ (search needs) (search needs)
 returns-2 : tie.Need-returns-2
 unfolding ofLocate
 returns-2 c =
-    wrote _ _ _ _ _ _ _ _ (search needs) (c .before .before .before .before .before .before .before .before .before .locate .ensures)
-    (told-value ofLocate (c .before .before .before .before .before .before .before .before .before .locate .result) (Found _ _ _) _ _ _ _ (search needs) (c .before .before .put-3 .ensures) refl (search needs))
+    let asked = c .before .before .before .before .before .before .before .before .before .locate in
+    let put = c .before .before .tell-3 .ensures in
+    wrote _ _ _ _ _ _ _ _ (search needs) (asked .ensures)
+    (told-value ofLocate (asked .result) (Found _ _ _) _ _ _ _ (put .0) (put .1) refl (search needs))
 
 returns-3 : tie.Need-returns-3
 unfolding ofLocate
 returns-3 c =
-    wrote _ _ _ _ _ _ _ _ (search needs) (c .before .before .before .before .before .before .locate .ensures)
-    (told-refused ofLocate (c .before .before .before .before .before .before .locate .result) (Refused _) _ _ _ _ (search needs) (c .refused .ensures) refl (search needs))
+    let asked = c .before .before .before .before .before .before .locate in
+    wrote _ _ _ _ _ _ _ _ (search needs) (asked .ensures)
+    (told-refused ofLocate (asked .result) (Refused _) _ _ _ _ (search needs) (c .refused .ensures) refl (search needs))
 
 pub show-locate-spec : {M : Type 1} → statement M
 show-locate-spec =

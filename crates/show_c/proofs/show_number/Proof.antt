@@ -13,14 +13,17 @@ returns c = tell-short _ _ _ _ (search needs) (search needs)
 returns-2 : tie.Need-returns-2
 unfolding ofNumber
 returns-2 c =
-    tell _ _ _ _ _ _ (search needs) (c .before .before .before .before .before .before .before .number .ensures)
-    (told-value ofNumber (c .before .before .before .before .before .before .before .number .result) (Number _) _ _ _ _ (search needs) (c .before .before .put-1 .ensures) refl (search needs))
+    let asked = c .before .before .before .before .before .before .before .number in
+    let put = c .before .before .tell-1 .ensures in
+    tell _ _ _ _ _ _ (search needs) (asked .ensures)
+    (told-value ofNumber (asked .result) (Number _) _ _ _ _ (put .0) (put .1) refl (search needs))
 
 returns-3 : tie.Need-returns-3
 unfolding ofNumber
 returns-3 c =
-    tell _ _ _ _ _ _ (search needs) (c .before .before .before .before .number .ensures)
-    (told-refused ofNumber (c .before .before .before .before .number .result) (Refused _) _ _ _ _ (search needs) (c .refused .ensures) refl (search needs))
+    let asked = c .before .before .before .before .number in
+    tell _ _ _ _ _ _ (search needs) (asked .ensures)
+    (told-refused ofNumber (asked .result) (Refused _) _ _ _ _ (search needs) (c .refused .ensures) refl (search needs))
 
 pub show-number-spec : {M : Type 1} → statement M
 show-number-spec =

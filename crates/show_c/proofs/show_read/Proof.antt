@@ -13,14 +13,17 @@ returns c = wrote-short _ _ _ _ _ (search needs) (search needs)
 returns-2 : tie.Need-returns-2
 unfolding ofRead
 returns-2 c =
-    wrote _ _ _ _ _ _ _ _ (search needs) (c .before .before .before .before .before .before .before .before .before .read .ensures)
-    (told-value ofRead (c .before .before .before .before .before .before .before .before .before .read .result) (Read _ _ _) _ _ _ _ (search needs) (c .before .before .put-3 .ensures) refl (search needs))
+    let asked = c .before .before .before .before .before .before .before .before .before .read in
+    let put = c .before .before .tell-3 .ensures in
+    wrote _ _ _ _ _ _ _ _ (search needs) (asked .ensures)
+    (told-value ofRead (asked .result) (Read _ _ _) _ _ _ _ (put .0) (put .1) refl (search needs))
 
 returns-3 : tie.Need-returns-3
 unfolding ofRead
 returns-3 c =
-    wrote _ _ _ _ _ _ _ _ (search needs) (c .before .before .before .before .before .before .read .ensures)
-    (told-refused ofRead (c .before .before .before .before .before .before .read .result) (Refused _) _ _ _ _ (search needs) (c .refused .ensures) refl (search needs))
+    let asked = c .before .before .before .before .before .before .read in
+    wrote _ _ _ _ _ _ _ _ (search needs) (asked .ensures)
+    (told-refused ofRead (asked .result) (Refused _) _ _ _ _ (search needs) (c .refused .ensures) refl (search needs))
 
 pub show-read-spec : {M : Type 1} → statement M
 show-read-spec =

@@ -13,14 +13,17 @@ returns c = wrote-short _ _ _ _ _ (search needs) (search needs)
 returns-2 : tie.Need-returns-2
 unfolding ofWrite
 returns-2 c =
-    wrote _ _ _ _ _ _ _ _ (search needs) (c .before .before .before .before .before .before .before .before .before .write .ensures)
-    (told-value ofWrite (c .before .before .before .before .before .before .before .before .before .write .result) (Written _) _ _ _ _ (search needs) (c .before .before .put-1 .ensures) refl (search needs))
+    let asked = c .before .before .before .before .before .before .before .before .before .write in
+    let put = c .before .before .tell-1 .ensures in
+    wrote _ _ _ _ _ _ _ _ (search needs) (asked .ensures)
+    (told-value ofWrite (asked .result) (Written _) _ _ _ _ (put .0) (put .1) refl (search needs))
 
 returns-3 : tie.Need-returns-3
 unfolding ofWrite
 returns-3 c =
-    wrote _ _ _ _ _ _ _ _ (search needs) (c .before .before .before .before .before .before .write .ensures)
-    (told-refused ofWrite (c .before .before .before .before .before .before .write .result) (Refused _) _ _ _ _ (search needs) (c .refused .ensures) refl (search needs))
+    let asked = c .before .before .before .before .before .before .write in
+    wrote _ _ _ _ _ _ _ _ (search needs) (asked .ensures)
+    (told-refused ofWrite (asked .result) (Refused _) _ _ _ _ (search needs) (c .refused .ensures) refl (search needs))
 
 pub show-write-spec : {M : Type 1} → statement M
 show-write-spec =
