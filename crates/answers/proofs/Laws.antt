@@ -1,4 +1,4 @@
--- Laws of the entry points: what each answer is, once the rows are checked.
+-- Laws of the answers: what each is, once the rows are checked.
 use Prim.Native.Nat.{ℕ, suc, _+_, _*_, _/_, _≤_, _<_}
 use native.Mathlib.Omega.{arith}
 use mathlib.Core.Path.{_≡_, refl, sym, _∙_, ap}

@@ -1,4 +1,4 @@
--- What the parts of the entry points know of rows that were accepted.
+-- What the answers know of rows that were checked.
 use Prim.Native.Nat.{ℕ}
 use mathlib.Core.Path.{_≡_}
 use mathlib.Core.List.{List}
@@ -9,6 +9,7 @@ use Rattle.model.specs.Questions.{Outcome, refuse, onAccepted, readInto}
 use Rattle.model.specs.declared.Verdict.the-variants.{Accepted}
 use Rattle.rules.specs.Index.{Indexed}
 
+-- Accepted rows, with the index of their blocks and how many these are.
 pub record Ready (xs t : List ℕ) (blocks : ℕ) : Type 0 where
   pub accepted : verdict xs ≡ Accepted
   pub many : blocks ≡ length (blocksOf xs)

@@ -165,6 +165,7 @@ fn is_cue(cues: u32, v: u32) -> bool
     true
 }
 
+// A number of 32 bits as a place.
 fn wide(x: u32) -> usize
     ensures { λ r. ⌜ (r ≡ x) × (r < 4294967296) ⌝ }
 {

@@ -18,6 +18,7 @@ use model::ReadAnswer;
 use model::Refusal;
 use model::WriteAnswer;
 
+// A number of 32 bits in 64.
 fn long(x: u32) -> u64
     ensures { λ r. ⌜ (r ≡ x) × (r < 4294967296) ⌝ }
 {
