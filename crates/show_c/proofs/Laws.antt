@@ -85,19 +85,19 @@ flag-no b e = rw e
 
 -- What is told of an answer a that is b, read by `of`: of values, and of a refusal.
 module _ {A : Type 0} (of : A → Returned) (a b : A) (c : ℕ) (g g′ : List ℕ) where
-  pub told-value : (vs : List ℕ) → c ≡ 0 → g′ ≡ overwrite vs g → of b ≡ given vs → a ≡ b → Told c g g′ (of a)
+  pub told-value : (vs : List ℕ) → (c ≡ 0) × (g′ ≡ overwrite vs g) → of b ≡ given vs → a ≡ b → Told c g g′ (of a)
   unfolding code givenAfter given
-  told-value vs u q e i = rw (i, e, u) (refl, q)
+  told-value vs q e i = rw (i, e, q .0) (refl, q .1)
 
   pub told-refused : (f : Refusal) → g′ ≡ g → c ≡ number f → of b ≡ returned f → a ≡ b → Told c g g′ (of a)
   unfolding code givenAfter returned overwrite
   told-refused f u q e i = rw (i, e, u) (q, refl)
 
 -- The flag of a page is a number of its own.
-pub told-page : (a : ListAnswer) (n m : ℕ) (b : Bool) (c : ℕ) (g g′ : List ℕ) → c ≡ 0 → m ≡ flag b → g′ ≡ overwrite (n ∷ m ∷ []) g → a ≡ Page n b
+pub told-page : (a : ListAnswer) (n m : ℕ) (b : Bool) (c : ℕ) (g g′ : List ℕ) → m ≡ flag b → (c ≡ 0) × (g′ ≡ overwrite (n ∷ m ∷ []) g) → a ≡ Page n b
     → Told c g g′ (ofList a)
 unfolding ofList
-told-page a n m b c g g′ u k p q = told-value ofList a (Page n b) c g g′ (n ∷ m ∷ []) u p (rw k) q
+told-page a n m b c g g′ k p q = told-value ofList a (Page n b) c g g′ (n ∷ m ∷ []) p (rw k) q
 
 -- Whether `given` is long enough, for a question that writes no list, and for one that does.
 module _ (g : List ℕ) (v : Verdict) where

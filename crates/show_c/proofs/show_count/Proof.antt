@@ -14,9 +14,8 @@ returns-2 : tie.Need-returns-2
 unfolding ofCount
 returns-2 c =
     let asked = c .before .before .before .before .before .before .before .count in
-    let put = c .before .before .tell-1 .ensures in
     tell _ _ _ _ _ _ (search needs) (asked .ensures)
-    (told-value ofCount (asked .result) (Cues _) _ _ _ _ (put .0) (put .1) refl (search needs))
+    (told-value ofCount (asked .result) (Cues _) _ _ _ _ (c .before .before .tell-1 .ensures) refl (search needs))
 
 returns-3 : tie.Need-returns-3
 unfolding ofCount

@@ -14,17 +14,15 @@ returns-2 : tie.Need-returns-2
 unfolding ofFewest
 returns-2 c =
     let asked = c .before .before .before .before .before .before .before .before .before .fewest in
-    let put = c .before .before .tell-2 .ensures in
     wrote _ _ _ _ _ _ _ _ (search needs) (asked .ensures)
-    (told-value ofFewest (asked .result) (Steps _) _ _ _ _ (put .0) (put .1) refl (search needs))
+    (told-value ofFewest (asked .result) (Steps _) _ _ _ _ (c .before .before .tell-2 .ensures) refl (search needs))
 
 returns-3 : tie.Need-returns-3
 unfolding ofFewest
 returns-3 c =
     let asked = c .before .before .before .before .before .before .before .before .fewest in
-    let put = c .before .before .tell-22 .ensures in
     wrote _ _ _ _ _ _ _ _ (search needs) (asked .ensures)
-    (told-value ofFewest (asked .result) None _ _ _ _ (put .0) (put .1) refl (search needs))
+    (told-value ofFewest (asked .result) None _ _ _ _ (c .before .before .tell-22 .ensures) refl (search needs))
 
 returns-4 : tie.Need-returns-4
 unfolding ofFewest

@@ -14,9 +14,8 @@ returns-2 : tie.Need-returns-2
 unfolding ofRead
 returns-2 c =
     let asked = c .before .before .before .before .before .before .before .before .before .read in
-    let put = c .before .before .tell-3 .ensures in
     wrote _ _ _ _ _ _ _ _ (search needs) (asked .ensures)
-    (told-value ofRead (asked .result) (Read _ _ _) _ _ _ _ (put .0) (put .1) refl (search needs))
+    (told-value ofRead (asked .result) (Read _ _ _) _ _ _ _ (c .before .before .tell-3 .ensures) refl (search needs))
 
 returns-3 : tie.Need-returns-3
 unfolding ofRead

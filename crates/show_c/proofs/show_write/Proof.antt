@@ -14,9 +14,8 @@ returns-2 : tie.Need-returns-2
 unfolding ofWrite
 returns-2 c =
     let asked = c .before .before .before .before .before .before .before .before .before .write in
-    let put = c .before .before .tell-1 .ensures in
     wrote _ _ _ _ _ _ _ _ (search needs) (asked .ensures)
-    (told-value ofWrite (asked .result) (Written _) _ _ _ _ (put .0) (put .1) refl (search needs))
+    (told-value ofWrite (asked .result) (Written _) _ _ _ _ (c .before .before .tell-1 .ensures) refl (search needs))
 
 returns-3 : tie.Need-returns-3
 unfolding ofWrite

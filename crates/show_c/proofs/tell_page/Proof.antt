@@ -8,7 +8,7 @@ use Rattle.show_c.proofs.tell_page.Statement.{statement}
 use Rattle.show_c.proofs.tell_page.Tie as tie
 
 returns : tie.Need-returns
-returns c = told-page _ _ _ _ _ _ _ (c .before .before .tell-2 .ensures .0) (c .before .before .before .flag-of .ensures) (c .before .before .tell-2 .ensures .1) (search needs)
+returns c = told-page _ _ _ _ _ _ _ (c .before .before .before .flag-of .ensures) (c .before .before .tell-2 .ensures) (search needs)
 
 returns-2 : tie.Need-returns-2
 unfolding ofList
