@@ -9,7 +9,8 @@ use lib.Seq.{drop-cons}
 use Rattle.model.specs.Choice.{ifEq}
 use Rattle.model.specs.Text.{names, linesOf}
 use Rattle.model.specs.Verdicts.{refusal, Unread, readLines, same, readAll}
-use Rattle.theory.proofs.Choices.{lt-else, lt-second, eq-then, eq-else, eq-first, true-then, true-else}
+use Rattle.theory.proofs.Choices.{lt-else, lt-second, eq-then, eq-else, true-then, true-else}
+use Rattle.theory.proofs.Files.{same-refl, same-is}
 use Rattle.theory.proofs.Lines.{lines-first, lines-flatten, names-line}
 use Rattle.codec.specs.Scanning.{startsNamed}
 
@@ -38,22 +39,6 @@ module _ (a b : List ℕ) (n : ℕ) where
     pub same-all : n ≤ i → true ≡ same (take n a) (take n b)
     unfolding same
     same-all h = let q : n - i ≡ 0 = omega arith in sym (p ∙ rw q)
-
--- The test for equal lists is one.
-same-refl : (l : List ℕ) → same l l ≡ true
-unfolding same
-same-refl [] = refl
-same-refl (x ∷ l) = eq-then _ _ _ _ refl ∙ same-refl l
-
-same-is : (l m : List ℕ) → same l m ≡ true → l ≡ m
-unfolding same
-same-is [] [] e = refl
-same-is [] (y ∷ m) e = absurd (false≢true e)
-same-is (x ∷ l) [] e = absurd (false≢true e)
-same-is (x ∷ l) (y ∷ m) e =
-    let (p, q) = eq-first _ _ _ _ _ false≢true e in
-    let r : l ≡ m = same-is l m q in
-    cc
 
 -- A file starts with the line of names just where that is its first line.
 starts-with : (g : List ℕ) → startsNamed (names ++ g) ≡ true

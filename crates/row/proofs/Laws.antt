@@ -5,12 +5,12 @@ use native.Mathlib.Decide.{ℕ-discrete, decLt}
 use mathlib.Core.Path.{_≡_, refl, sym, _∙_, ap}
 use mathlib.Core.Bool.{Bool, true, false, cond}
 use mathlib.Core.List.{List, [], _∷_, _++_}
-use lib.ListN.{length, getD}
+use lib.ListN.{getD}
 use lib.Dec.{eqb, ltb}
 use lib.Bits.{bitOr, or-add-and, and-le-l, and-le-r}
 use Rattle.model.specs.Choice.{ifLt, ifEq, ifTrue}
 use Rattle.model.specs.Rules.{every, isCue, isZero, differs, distinct, isBelow}
-use Rattle.theory.proofs.Choices.{lt-then, lt-else, eq-then, eq-else, true-then, true-else, lt-bool}
+use Rattle.theory.proofs.Choices.{lt-then, lt-else, eq-then, eq-else, true-then, true-else, lt-bool, ifs}
 use Rattle.row.specs.Cells.{cells, keyBelow}
 use Rattle.row.specs.Faults.{orElse}
 
@@ -31,23 +31,24 @@ cells-begin xs p n = let e : n - 0 ≡ n = omega arith in let f : p + 0 ≡ p = 
 
 -- A test of all of them: what is left to test after the first i.
 module _ (ok : ℕ → Bool) (xs : List ℕ) (p n : ℕ) where
-  pub every-begin : every ok (cells xs p n) ≡ every ok (cells xs (p + 0) (n - 0))
+  abbrev pub EveryRest : ℕ → Type 0
+  EveryRest i = every ok (cells xs p n) ≡ every ok (cells xs (p + i) (n - i))
+
+  pub every-begin : EveryRest 0
   every-begin = ap (every ok) (cells-begin xs p n)
 
-  every-turn : (i : ℕ) → every ok (cells xs p n) ≡ every ok (cells xs (p + i) (n - i)) → i < n
+  every-turn : (i : ℕ) → EveryRest i → i < n
       → every ok (cells xs p n) ≡ ifTrue (ok (getD xs (p + i) 0)) (every ok (cells xs (p + (i + 1)) (n - (i + 1)))) false
   unfolding every
   every-turn i e h = e ∙ ap (every ok) (cells-next xs p n i h)
 
-  pub every-stop : (i : ℕ) → every ok (cells xs p n) ≡ every ok (cells xs (p + i) (n - i)) → i < n → ok (getD xs (p + i) 0) ≡ false
-      → false ≡ every ok (cells xs p n)
+  pub every-stop : (i : ℕ) → EveryRest i → i < n → ok (getD xs (p + i) 0) ≡ false → false ≡ every ok (cells xs p n)
   every-stop i e h f = sym (every-turn i e h ∙ true-else _ _ _ f)
 
-  pub every-on : (i : ℕ) → every ok (cells xs p n) ≡ every ok (cells xs (p + i) (n - i)) → i < n → ok (getD xs (p + i) 0) ≡ true
-      → every ok (cells xs p n) ≡ every ok (cells xs (p + (i + 1)) (n - (i + 1)))
+  pub every-on : (i : ℕ) → EveryRest i → i < n → ok (getD xs (p + i) 0) ≡ true → EveryRest (i + 1)
   every-on i e h t = every-turn i e h ∙ true-then _ _ _ t
 
-  pub every-done : (i : ℕ) → every ok (cells xs p n) ≡ every ok (cells xs (p + i) (n - i)) → n ≤ i → true ≡ every ok (cells xs p n)
+  pub every-done : (i : ℕ) → EveryRest i → n ≤ i → true ≡ every ok (cells xs p n)
   unfolding every
   every-done i e h = sym (e ∙ ap (every ok) (cells-end xs p n i h))
 
@@ -273,3 +274,6 @@ found k r next e n = e ∙ sym (eq-else r 0 next r (λ z. n (e ∙ z)))
 pub not-found : (k r next v : ℕ) → k ≡ r → k ≡ 0 → v ≡ next → v ≡ orElse r next
 unfolding orElse
 not-found k r next v e z q = q ∙ sym (eq-then r 0 next r (sym e ∙ z))
+
+-- The branches of a fault.
+pub ruleset faults = (ifs, found, not-found, open-zeros)

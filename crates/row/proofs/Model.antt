@@ -7,7 +7,6 @@ use mathlib.Core.Bool.{Bool, true, false, not, cond}
 use mathlib.Core.List.{List, [], _∷_, _++_}
 use lib.ListN.{length, getD, take, drop}
 use lib.Dec.{ltb, eqb}
-use borrow.Author.Tests.{eq-eqb}
 use Rattle.model.specs.Choice.{ifLt, ifEq, ifTrue}
 use Rattle.model.specs.Limits.{maxJoins, maxOwn, maxLabel, maxBlocks}
 use Rattle.model.specs.Rows.{Row, cell, rowAt}
@@ -32,7 +31,7 @@ use Rattle.model.specs.Rules.{
   inOrder,
   fault,
 }
-use Rattle.theory.proofs.Choices.{lt-then, lt-else, eq-then, eq-else, true-then, true-else}
+use Rattle.theory.proofs.Choices.{lt-then, lt-else, eq-then, eq-else}
 use Rattle.row.specs.Cells.{cells, keyBelow}
 use Rattle.row.specs.Faults.{namedFault, openFault, orElse, linkOrder, useOrder, linkFault, useFault, faultOf}
 

@@ -1,7 +1,7 @@
 // Checks 5 to 8 of one row, in lent rows at place p: the refusal's number, or 0.
 ghost use mathlib.Core.Path.{_≡_};
-ghost use Prim.Native.Nat.{ℕ, _+_, _*_, _-_, _≤_, _<_};
-ghost use lib.ListN.{length, getD};
+ghost use Prim.Native.Nat.{_+_, _-_, _≤_, _<_};
+ghost use lib.ListN.{length};
 ghost use Rattle.model.specs.Choice.{ifLt};
 ghost use Rattle.model.specs.Rules.{every, isCue, isZero, differs, distinct};
 ghost use Rattle.row.specs.Cells.{cells, keyBelow};

@@ -2,17 +2,14 @@
 use Prim.Native.Nat.{ℕ, _≤_}
 use native.Mathlib.Omega.{arith}
 use mathlib.Core.Path.{_≡_, refl, sym, _∙_, ap}
-use mathlib.Core.Bool.{true}
-use mathlib.Core.List.{List, [], _∷_}
+use mathlib.Core.List.{List}
 use lib.ListN.{length, getD}
-use Rattle.model.specs.Rules.{isCue}
 use Rattle.model.specs.Blocks.{blocksOf, count}
 use Rattle.model.specs.Unfolding.{showLinks}
 use Rattle.model.specs.Chains.{Distance, Far, Unreachable, fewest}
 use Rattle.model.specs.Verdicts.{verdict}
 use Rattle.model.specs.Answers.{Returned, given, returned, ofFewest}
 use Rattle.model.specs.Questions.{Outcome, outcome, refuse, answer, distanceValues, fewestIn, fewestAsked}
-use Rattle.model.specs.declared.Refusal.{Refusal}
 use Rattle.model.specs.declared.Verdict.the-variants.{Accepted}
 use Rattle.model.specs.declared.FewestAnswer.{FewestAnswer}
 use Rattle.model.specs.declared.FewestAnswer.the-variants.{Steps, None, Refused as FewestRefused}
@@ -20,7 +17,7 @@ use Rattle.theory.specs.Demand.{Shortest}
 use Rattle.theory.proofs.Accepted.{accepted-show}
 use Rattle.theory.proofs.Fewest.{show-shortest}
 use Rattle.show.specs.Demand.{unfolded, IsFewest}
-use Rattle.show.proofs.Laws.{on-yes, has-room, has-cue, cue-yes}
+use Rattle.answers.proofs.Laws.{on-yes, has-room, has-cue, cue-yes}
 
 -- The answer of a distance.
 unfoldable answerOf : Distance → FewestAnswer

@@ -1,11 +1,11 @@
 -- Reading a file: what the codec parsed is what the model reads.
-use Prim.Native.Nat.{ℕ, suc, _+_, _*_, _-_, _/_, _%_, _≤_, _<_}
+use Prim.Native.Nat.{ℕ, _*_, _-_, _%_, _≤_, _<_}
 use native.Mathlib.Omega.{arith}
-use mathlib.Core.Path.{_≡_, refl, sym, _∙_, ap}
-use mathlib.Core.List.{List, [], _∷_}
+use mathlib.Core.Path.{_≡_, refl, sym, _∙_}
+use mathlib.Core.List.{List}
 use lib.ListN.{length, take, drop}
 use lib.Seq.{take-all}
-use Rattle.model.specs.Choice.{ifLt, ifEq}
+use Rattle.model.specs.Choice.{ifLt}
 use Rattle.model.specs.Limits.{rowSize, maxRows}
 use Rattle.model.specs.Rows.{rowCount}
 use Rattle.model.specs.Verdicts.{
@@ -25,17 +25,15 @@ use Rattle.model.specs.Verdicts.{
   fileVerdict,
 }
 use Rattle.model.specs.Answers.{ofRead}
-use Rattle.model.specs.Questions.{Outcome, outcome, refuse, onAccepted, readInto, readAsked}
+use Rattle.model.specs.Questions.{Outcome, outcome, refuse, onAccepted, readAsked}
 use Rattle.model.specs.declared.Refusal.{Refusal}
-use Rattle.model.specs.declared.Verdict.the-variants.{Accepted, Refused}
 use Rattle.model.specs.declared.ReadAnswer.the-variants.{Refused as ReadRefused}
-use Rattle.theory.specs.Files.{IsFile}
 use Rattle.theory.proofs.Choices.{lt-then, lt-else, eq-then}
 use Rattle.theory.proofs.Files.{read-written}
 use Rattle.codec.specs.Parsing.{Parses}
 use Rattle.codec.specs.declared.Parsed.{Parsed}
 use Rattle.codec.specs.declared.Parsed.the-variants.{Rows, Refused as Unparsed}
-use Rattle.show.specs.Ready.{readNumbers}
+use Rattle.answers.specs.Ready.{readNumbers}
 
 -- What is answered, by what the lines of the file say.
 asked-numbers : (f out xs : List ℕ) → readFile f ≡ Numbers xs → readAsked f out ≡ readNumbers xs out

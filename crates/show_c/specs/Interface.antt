@@ -1,5 +1,6 @@
 -- The C interface: each function returns one number and leaves the values of an answer in a lent list, `given`.
 use Prim.Native.Nat.{ℕ, _+_, _*_}
+use mathlib.Core.Path.{_≡_}
 use mathlib.Core.List.{List}
 use lib.ListN.{length}
 use Rattle.model.specs.Choice.{ifLt}
@@ -23,3 +24,15 @@ withGiven given v r = ifLt (length given) 3 (onAccepted v (λ f. returned f) (re
 
 unfoldable pub alsoGiven : List ℕ → Verdict → List ℕ → Outcome → Outcome
 alsoGiven given v lent o = ifLt (length given) 3 (onAccepted v (λ f. refuse f lent) (refuse (refusal 11 0) lent)) o
+
+-- The number where `given` is too short.
+unfoldable pub shortOf : Verdict → ℕ
+shortOf v = code (onAccepted v (λ f. returned f) (returned (refusal 11 0)))
+
+-- What a function tells: the number c, and what `given` holds afterwards.
+abbrev pub Told : ℕ → List ℕ → List ℕ → Returned → Type 0
+Told c given after r = (c ≡ code r) × (after ≡ givenAfter r given)
+
+-- The same for one that writes a lent list, and what that list holds afterwards.
+abbrev pub Wrote : ℕ → List ℕ → List ℕ → List ℕ → Outcome → Type 0
+Wrote c given after lent o = (c ≡ code (o .answer)) × ((after ≡ givenAfter (o .answer) given) × (lent ≡ o .after))

@@ -1,13 +1,14 @@
 // The show library for C and Rust. Numbers pass as themselves, and a slice as a pointer and a length in elements. Each function returns 0
 // for an answer, whose values then stand first in `given`, or the refusal's number and place. The promises are those of the library.
 ghost use mathlib.Core.Path.{_≡_};
+ghost use mathlib.Core.List.{[], _∷_};
 ghost use Prim.Native.Nat.{_+_, _*_, _≤_, _<_};
 ghost use lib.ListN.{length};
-ghost use Rattle.model.specs.Answers.{flag};
+ghost use Rattle.model.specs.Lists.{overwrite};
+ghost use Rattle.model.specs.Answers.{flag, ofList};
 ghost use Rattle.model.specs.Verdicts.{verdict, fileVerdict};
 ghost use Rattle.model.specs.Questions.{readAsked, writeAsked, countAsked, locateAsked, numberAsked, outAsked, inAsked, fewestAsked};
-ghost use Rattle.show_c.specs.Interface.{code, givenAfter, withGiven, alsoGiven};
-ghost use Rattle.show_c.specs.Parts.{shortRows, shortFile, put1, put2, put3};
+ghost use Rattle.show_c.specs.Interface.{withGiven, alsoGiven, shortOf, Told, Wrote};
 use model::CountAnswer;
 use model::FewestAnswer;
 use model::ListAnswer;
@@ -17,6 +18,7 @@ use model::ReadAnswer;
 use model::Refusal;
 use model::WriteAnswer;
 
+// A number of 32 bits in 64.
 fn long(x: u32) -> u64
     ensures { λ r. ⌜ (r ≡ x) × (r < 4294967296) ⌝ }
 {
@@ -32,7 +34,7 @@ fn refused(r: Refusal) -> u64
 
 // What is said of rows where `given` is too short.
 fn short_rows(rows: &[u32]) -> u64
-    ensures { λ c. ⌜ c ≡ shortRows (now (rows .entry)) ⌝ }
+    ensures { λ c. ⌜ c ≡ shortOf (verdict (now (rows .entry))) ⌝ }
 {
     match show::count(rows) {
         CountAnswer::Cues(_) => 47244640256,
@@ -42,7 +44,7 @@ fn short_rows(rows: &[u32]) -> u64
 
 // What is said of a file there: nothing is read to a list of one number.
 fn short_file(file: &[u8]) -> u64
-    ensures { λ c. ⌜ c ≡ shortFile (now (file .entry)) ⌝ }
+    ensures { λ c. ⌜ c ≡ shortOf (fileVerdict (now (file .entry))) ⌝ }
 {
     let mut none = [0u32; 1];
     match show::read(file, &mut none) {
@@ -61,44 +63,55 @@ fn flag_of(yes: bool) -> u32
     0
 }
 
-fn put_1(given: &mut [u32], a: u32)
+// Values told: they stand first in `given`, and 0 is returned.
+fn tell_1(given: &mut [u32], a: u32) -> u64
     requires { ⌜ 3 ≤ length (now given) ⌝ }
-    ensures { λ _. ⌜ now (given .exit) ≡ put1 a (now (given .entry)) ⌝ }
+    ensures { λ r. ⌜ (r ≡ 0) × (now (given .exit) ≡ overwrite (a ∷ []) (now (given .entry))) ⌝ }
 {
     given[0] = a;
+    0
 }
 
-fn put_2(given: &mut [u32], a: u32, b: u32)
+fn tell_2(given: &mut [u32], a: u32, b: u32) -> u64
     requires { ⌜ 3 ≤ length (now given) ⌝ }
-    ensures { λ _. ⌜ now (given .exit) ≡ put2 a b (now (given .entry)) ⌝ }
+    ensures { λ r. ⌜ (r ≡ 0) × (now (given .exit) ≡ overwrite (a ∷ b ∷ []) (now (given .entry))) ⌝ }
 {
     given[0] = a;
     given[1] = b;
+    0
 }
 
-fn put_3(given: &mut [u32], a: u32, b: u32, c: u32)
+fn tell_3(given: &mut [u32], a: u32, b: u32, c: u32) -> u64
     requires { ⌜ 3 ≤ length (now given) ⌝ }
-    ensures { λ _. ⌜ now (given .exit) ≡ put3 a b c (now (given .entry)) ⌝ }
+    ensures { λ r. ⌜ (r ≡ 0) × (now (given .exit) ≡ overwrite (a ∷ b ∷ c ∷ []) (now (given .entry))) ⌝ }
 {
     given[0] = a;
     given[1] = b;
     given[2] = c;
+    0
+}
+
+// What is told of a list: cues written, whether there are more (0 or 1).
+fn tell_page(answer: ListAnswer, given: &mut [u32]) -> u64
+    requires { ⌜ 3 ≤ length (now given) ⌝ }
+    ensures { λ c. ⌜ Told c (now (given .entry)) (now (given .exit)) (ofList answer) ⌝ }
+{
+    match answer {
+        ListAnswer::Page(written, more) => tell_2(given, written, flag_of(more)),
+        ListAnswer::Refused(r) => refused(r),
+    }
 }
 
 // given: cues
 #[no_mangle]
 pub extern "C" fn show_count(rows: &[u32], given: &mut [u32]) -> u64
-    ensures { λ c. ⌜ c ≡ code (withGiven (now (given .entry)) (verdict (now (rows .entry))) (countAsked (now (rows .entry)))) ⌝ }
-    ensures { λ c. ⌜ now (given .exit) ≡ givenAfter (withGiven (now (given .entry)) (verdict (now (rows .entry))) (countAsked (now (rows .entry)))) (now (given .entry)) ⌝ }
+    ensures { λ c. ⌜ Told c (now (given .entry)) (now (given .exit)) (withGiven (now (given .entry)) (verdict (now (rows .entry))) (countAsked (now (rows .entry)))) ⌝ }
 {
     if given.len() < 3 {
         return short_rows(rows);
     }
     match show::count(rows) {
-        CountAnswer::Cues(n) => {
-            put_1(given, n);
-            0
-        }
+        CountAnswer::Cues(n) => tell_1(given, n),
         CountAnswer::Refused(r) => refused(r),
     }
 }
@@ -106,17 +119,13 @@ pub extern "C" fn show_count(rows: &[u32], given: &mut [u32]) -> u64
 // given: number
 #[no_mangle]
 pub extern "C" fn show_number(rows: &[u32], path: &[u32], own: u32, given: &mut [u32]) -> u64
-    ensures { λ c. ⌜ c ≡ code (withGiven (now (given .entry)) (verdict (now (rows .entry))) (numberAsked (now (rows .entry)) (now (path .entry)) own)) ⌝ }
-    ensures { λ c. ⌜ now (given .exit) ≡ givenAfter (withGiven (now (given .entry)) (verdict (now (rows .entry))) (numberAsked (now (rows .entry)) (now (path .entry)) own)) (now (given .entry)) ⌝ }
+    ensures { λ c. ⌜ Told c (now (given .entry)) (now (given .exit)) (withGiven (now (given .entry)) (verdict (now (rows .entry))) (numberAsked (now (rows .entry)) (now (path .entry)) own)) ⌝ }
 {
     if given.len() < 3 {
         return short_rows(rows);
     }
     match show::number(rows, path, own) {
-        NumberAnswer::Number(n) => {
-            put_1(given, n);
-            0
-        }
+        NumberAnswer::Number(n) => tell_1(given, n),
         NumberAnswer::Refused(r) => refused(r),
     }
 }
@@ -124,18 +133,13 @@ pub extern "C" fn show_number(rows: &[u32], path: &[u32], own: u32, given: &mut 
 // given: depth, block, own cue
 #[no_mangle]
 pub extern "C" fn show_locate(rows: &[u32], n: u32, path: &mut [u32], given: &mut [u32]) -> u64
-    ensures { λ c. ⌜ c ≡ code (alsoGiven (now (given .entry)) (verdict (now (rows .entry))) (now (path .entry)) (locateAsked (now (rows .entry)) n (now (path .entry))) .answer) ⌝ }
-    ensures { λ c. ⌜ now (given .exit) ≡ givenAfter (alsoGiven (now (given .entry)) (verdict (now (rows .entry))) (now (path .entry)) (locateAsked (now (rows .entry)) n (now (path .entry))) .answer) (now (given .entry)) ⌝ }
-    ensures { λ c. ⌜ now (path .exit) ≡ alsoGiven (now (given .entry)) (verdict (now (rows .entry))) (now (path .entry)) (locateAsked (now (rows .entry)) n (now (path .entry))) .after ⌝ }
+    ensures { λ c. ⌜ Wrote c (now (given .entry)) (now (given .exit)) (now (path .exit)) (alsoGiven (now (given .entry)) (verdict (now (rows .entry))) (now (path .entry)) (locateAsked (now (rows .entry)) n (now (path .entry)))) ⌝ }
 {
     if given.len() < 3 {
         return short_rows(rows);
     }
     match show::locate(rows, n, path) {
-        LocateAnswer::Found(depth, block, own) => {
-            put_3(given, depth, block, own);
-            0
-        }
+        LocateAnswer::Found(depth, block, own) => tell_3(given, depth, block, own),
         LocateAnswer::Refused(r) => refused(r),
     }
 }
@@ -143,18 +147,13 @@ pub extern "C" fn show_locate(rows: &[u32], n: u32, path: &mut [u32], given: &mu
 // given: length
 #[no_mangle]
 pub extern "C" fn show_write(rows: &[u32], out: &mut [u8], given: &mut [u32]) -> u64
-    ensures { λ c. ⌜ c ≡ code (alsoGiven (now (given .entry)) (verdict (now (rows .entry))) (now (out .entry)) (writeAsked (now (rows .entry)) (now (out .entry))) .answer) ⌝ }
-    ensures { λ c. ⌜ now (given .exit) ≡ givenAfter (alsoGiven (now (given .entry)) (verdict (now (rows .entry))) (now (out .entry)) (writeAsked (now (rows .entry)) (now (out .entry))) .answer) (now (given .entry)) ⌝ }
-    ensures { λ c. ⌜ now (out .exit) ≡ alsoGiven (now (given .entry)) (verdict (now (rows .entry))) (now (out .entry)) (writeAsked (now (rows .entry)) (now (out .entry))) .after ⌝ }
+    ensures { λ c. ⌜ Wrote c (now (given .entry)) (now (given .exit)) (now (out .exit)) (alsoGiven (now (given .entry)) (verdict (now (rows .entry))) (now (out .entry)) (writeAsked (now (rows .entry)) (now (out .entry)))) ⌝ }
 {
     if given.len() < 3 {
         return short_rows(rows);
     }
     match show::write(rows, out) {
-        WriteAnswer::Written(n) => {
-            put_1(given, n);
-            0
-        }
+        WriteAnswer::Written(n) => tell_1(given, n),
         WriteAnswer::Refused(r) => refused(r),
     }
 }
@@ -162,18 +161,13 @@ pub extern "C" fn show_write(rows: &[u32], out: &mut [u8], given: &mut [u32]) ->
 // given: rows, blocks, cues
 #[no_mangle]
 pub extern "C" fn show_read(file: &[u8], rows: &mut [u32], given: &mut [u32]) -> u64
-    ensures { λ c. ⌜ c ≡ code (alsoGiven (now (given .entry)) (fileVerdict (now (file .entry))) (now (rows .entry)) (readAsked (now (file .entry)) (now (rows .entry))) .answer) ⌝ }
-    ensures { λ c. ⌜ now (given .exit) ≡ givenAfter (alsoGiven (now (given .entry)) (fileVerdict (now (file .entry))) (now (rows .entry)) (readAsked (now (file .entry)) (now (rows .entry))) .answer) (now (given .entry)) ⌝ }
-    ensures { λ c. ⌜ now (rows .exit) ≡ alsoGiven (now (given .entry)) (fileVerdict (now (file .entry))) (now (rows .entry)) (readAsked (now (file .entry)) (now (rows .entry))) .after ⌝ }
+    ensures { λ c. ⌜ Wrote c (now (given .entry)) (now (given .exit)) (now (rows .exit)) (alsoGiven (now (given .entry)) (fileVerdict (now (file .entry))) (now (rows .entry)) (readAsked (now (file .entry)) (now (rows .entry)))) ⌝ }
 {
     if given.len() < 3 {
         return short_file(file);
     }
     match show::read(file, rows) {
-        ReadAnswer::Read(many, blocks, cues) => {
-            put_3(given, many, blocks, cues);
-            0
-        }
+        ReadAnswer::Read(many, blocks, cues) => tell_3(given, many, blocks, cues),
         ReadAnswer::Refused(r) => refused(r),
     }
 }
@@ -187,20 +181,12 @@ pub extern "C" fn show_list_out(
     page: &mut [u32],
     given: &mut [u32],
 ) -> u64
-    ensures { λ c. ⌜ c ≡ code (alsoGiven (now (given .entry)) (verdict (now (rows .entry))) (now (page .entry)) (outAsked (now (rows .entry)) v n (now (page .entry))) .answer) ⌝ }
-    ensures { λ c. ⌜ now (given .exit) ≡ givenAfter (alsoGiven (now (given .entry)) (verdict (now (rows .entry))) (now (page .entry)) (outAsked (now (rows .entry)) v n (now (page .entry))) .answer) (now (given .entry)) ⌝ }
-    ensures { λ c. ⌜ now (page .exit) ≡ alsoGiven (now (given .entry)) (verdict (now (rows .entry))) (now (page .entry)) (outAsked (now (rows .entry)) v n (now (page .entry))) .after ⌝ }
+    ensures { λ c. ⌜ Wrote c (now (given .entry)) (now (given .exit)) (now (page .exit)) (alsoGiven (now (given .entry)) (verdict (now (rows .entry))) (now (page .entry)) (outAsked (now (rows .entry)) v n (now (page .entry)))) ⌝ }
 {
     if given.len() < 3 {
         return short_rows(rows);
     }
-    match show::list_out(rows, v, n, page) {
-        ListAnswer::Page(written, more) => {
-            put_2(given, written, flag_of(more));
-            0
-        }
-        ListAnswer::Refused(r) => refused(r),
-    }
+    tell_page(show::list_out(rows, v, n, page), given)
 }
 
 // given: cues written, whether there are more (0 or 1)
@@ -212,20 +198,12 @@ pub extern "C" fn show_list_in(
     page: &mut [u32],
     given: &mut [u32],
 ) -> u64
-    ensures { λ c. ⌜ c ≡ code (alsoGiven (now (given .entry)) (verdict (now (rows .entry))) (now (page .entry)) (inAsked (now (rows .entry)) v n (now (page .entry))) .answer) ⌝ }
-    ensures { λ c. ⌜ now (given .exit) ≡ givenAfter (alsoGiven (now (given .entry)) (verdict (now (rows .entry))) (now (page .entry)) (inAsked (now (rows .entry)) v n (now (page .entry))) .answer) (now (given .entry)) ⌝ }
-    ensures { λ c. ⌜ now (page .exit) ≡ alsoGiven (now (given .entry)) (verdict (now (rows .entry))) (now (page .entry)) (inAsked (now (rows .entry)) v n (now (page .entry))) .after ⌝ }
+    ensures { λ c. ⌜ Wrote c (now (given .entry)) (now (given .exit)) (now (page .exit)) (alsoGiven (now (given .entry)) (verdict (now (rows .entry))) (now (page .entry)) (inAsked (now (rows .entry)) v n (now (page .entry)))) ⌝ }
 {
     if given.len() < 3 {
         return short_rows(rows);
     }
-    match show::list_in(rows, v, n, page) {
-        ListAnswer::Page(written, more) => {
-            put_2(given, written, flag_of(more));
-            0
-        }
-        ListAnswer::Refused(r) => refused(r),
-    }
+    tell_page(show::list_in(rows, v, n, page), given)
 }
 
 // given: whether there is a chain (0 or 1), follow-ons (0 where there is none)
@@ -237,22 +215,14 @@ pub extern "C" fn show_fewest(
     work: &mut [u32],
     given: &mut [u32],
 ) -> u64
-    ensures { λ c. ⌜ c ≡ code (alsoGiven (now (given .entry)) (verdict (now (rows .entry))) (now (work .entry)) (fewestAsked (now (rows .entry)) s t (now (work .entry))) .answer) ⌝ }
-    ensures { λ c. ⌜ now (given .exit) ≡ givenAfter (alsoGiven (now (given .entry)) (verdict (now (rows .entry))) (now (work .entry)) (fewestAsked (now (rows .entry)) s t (now (work .entry))) .answer) (now (given .entry)) ⌝ }
-    ensures { λ c. ⌜ now (work .exit) ≡ alsoGiven (now (given .entry)) (verdict (now (rows .entry))) (now (work .entry)) (fewestAsked (now (rows .entry)) s t (now (work .entry))) .after ⌝ }
+    ensures { λ c. ⌜ Wrote c (now (given .entry)) (now (given .exit)) (now (work .exit)) (alsoGiven (now (given .entry)) (verdict (now (rows .entry))) (now (work .entry)) (fewestAsked (now (rows .entry)) s t (now (work .entry)))) ⌝ }
 {
     if given.len() < 3 {
         return short_rows(rows);
     }
     match show::fewest(rows, s, t, work) {
-        FewestAnswer::Steps(n) => {
-            put_2(given, 1, n);
-            0
-        }
-        FewestAnswer::None => {
-            put_2(given, 0, 0);
-            0
-        }
+        FewestAnswer::Steps(n) => tell_2(given, 1, n),
+        FewestAnswer::None => tell_2(given, 0, 0),
         FewestAnswer::Refused(r) => refused(r),
     }
 }

@@ -100,13 +100,13 @@ lines-written n (l ∷ ls) xs e = go (λ ys p. lines-written (suc n) ls ys p) (v
         rw f (written-first (line-written ends l vs p) (below ys q))
     go below Malformed p = absurd (unread (refusal 3 n) xs (sym (rw (readLines, p)) ∙ e))
 
--- The test for the line of names.
-same-refl : (l : List ℕ) → same l l ≡ true
+-- The test for equal lists, as for the line of names, is one.
+pub same-refl : (l : List ℕ) → same l l ≡ true
 unfolding same
 same-refl [] = refl
 same-refl (x ∷ l) = eq-then _ _ _ _ refl ∙ same-refl l
 
-same-is : (l m : List ℕ) → same l m ≡ true → l ≡ m
+pub same-is : (l m : List ℕ) → same l m ≡ true → l ≡ m
 unfolding same
 same-is [] [] e = refl
 same-is [] (y ∷ m) e = absurd (false≢true e)

@@ -4,11 +4,5 @@ use Rattle.theory.proofs.Choices.{ifs}
 use Rattle.codec.proofs.reaches.Statement.{statement}
 use Rattle.codec.proofs.reaches.Tie as tie
 
-returns : tie.Need-returns
-returns c = (search (ifs, needs), search needs)
-
-returns-2 : tie.Need-returns-2
-returns-2 c = (search (ifs, needs), search needs)
-
 pub reaches-spec : {M : Type 1} → statement M
-reaches-spec = tie.close (tie.spec returns returns-2)
+reaches-spec = tie.close (tie.spec (λ c. (search (ifs, needs), search needs)) (λ c. (search (ifs, needs), search needs)))

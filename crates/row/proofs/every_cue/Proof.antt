@@ -1,15 +1,13 @@
 -- `row::every_cue` meets its contract.
 use borrow.Author.Needs.{needs}
-use Prim.Native.Nat.{_+_, _-_, _≤_}
-use mathlib.Core.Path.{_≡_}
-use Rattle.model.specs.Rules.{every, isCue}
-use Rattle.row.specs.Cells.{cells}
-use Rattle.row.proofs.Laws.{every-begin, every-stop, every-on, every-done, cue-low, cue-high, cue-yes}
+use Prim.Native.Nat.{_-_, _≤_}
+use Rattle.model.specs.Rules.{isCue}
+use Rattle.row.proofs.Laws.{EveryRest, every-begin, every-stop, every-on, every-done, cue-low, cue-high, cue-yes}
 use Rattle.row.proofs.every_cue.Statement.{statement}
 use Rattle.row.proofs.every_cue.Tie as tie
 
 abbrev Inv-loop : tie.InvT-loop
-Inv-loop xs p n cues i₀ i = (i ≤ n) × (every (isCue cues) (cells xs p n) ≡ every (isCue cues) (cells xs (p + i) (n - i)))
+Inv-loop xs p n cues i₀ i = (i ≤ n) × EveryRest (isCue cues) xs p n i
 
 abbrev μ-loop : tie.MeasureT-loop
 μ-loop xs p n cues i₀ i = n - i

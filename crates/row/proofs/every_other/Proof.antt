@@ -1,15 +1,13 @@
 -- `row::every_other` meets its contract.
 use borrow.Author.Needs.{needs}
-use Prim.Native.Nat.{_+_, _-_, _≤_}
-use mathlib.Core.Path.{_≡_}
-use Rattle.model.specs.Rules.{every, differs}
-use Rattle.row.specs.Cells.{cells}
-use Rattle.row.proofs.Laws.{every-begin, every-stop, every-on, every-done, differs-yes, differs-no}
+use Prim.Native.Nat.{_-_, _≤_}
+use Rattle.model.specs.Rules.{differs}
+use Rattle.row.proofs.Laws.{EveryRest, every-begin, every-stop, every-on, every-done, differs-yes, differs-no}
 use Rattle.row.proofs.every_other.Statement.{statement}
 use Rattle.row.proofs.every_other.Tie as tie
 
 abbrev Inv-loop : tie.InvT-loop
-Inv-loop xs p n x i₀ i = (i ≤ n) × (every (differs x) (cells xs p n) ≡ every (differs x) (cells xs (p + i) (n - i)))
+Inv-loop xs p n x i₀ i = (i ≤ n) × EveryRest (differs x) xs p n i
 
 abbrev μ-loop : tie.MeasureT-loop
 μ-loop xs p n x i₀ i = n - i

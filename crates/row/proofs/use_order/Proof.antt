@@ -1,24 +1,14 @@
--- `row::use_order` meets its contract.
+-- `row::use_order` meets its contract: each return is a branch of the definition.
 use borrow.Author.Needs.{needs}
 use Rattle.theory.proofs.Choices.{ifs}
 use Rattle.row.specs.Faults.{useOrder}
 use Rattle.row.proofs.use_order.Statement.{statement}
 use Rattle.row.proofs.use_order.Tie as tie
 
-returns : tie.Need-returns
-unfolding useOrder
-returns c = search (ifs, needs) depth 14
-
-returns-2 : tie.Need-returns-2
-unfolding useOrder
-returns-2 c = search (ifs, needs) depth 14
-
-returns-3 : tie.Need-returns-3
-unfolding useOrder
-returns-3 c = search (ifs, needs) depth 14
-
 pub use-order-spec : {M : Type 1} → statement M
+unfolding useOrder
 use-order-spec =
     tie.close
-    (tie.spec returns (λ c. search needs) (λ c. search needs) (λ c. search needs) (λ c. search needs) (λ c. search needs) (λ c. search needs)
-    (λ c. search needs) (λ c. search needs) (λ c κs. search needs) returns-2 returns-3)
+    (tie.spec (λ c. search (ifs, needs) depth 14) (λ c. search needs) (λ c. search needs) (λ c. search needs) (λ c. search needs) (λ c. search needs)
+    (λ c. search needs) (λ c. search needs) (λ c. search needs) (λ c κs. search needs) (λ c. search (ifs, needs) depth 14)
+    (λ c. search (ifs, needs) depth 14))

@@ -1,6 +1,9 @@
 -- `show::count` meets its contract.
 use borrow.Author.Needs.{needs}
-use Rattle.show.proofs.Laws.{count-yes, count-no}
+use Rattle.model.specs.Answers.{ofCount}
+use Rattle.model.specs.Questions.{countAsked}
+use Rattle.answers.proofs.Laws.{asked-no}
+use Rattle.show.proofs.Counting.{count-yes}
 use Rattle.show.proofs.count.Statement.{statement}
 use Rattle.show.proofs.count.Tie as tie
 
@@ -8,7 +11,8 @@ returns : tie.Need-returns
 returns c = search (count-yes, needs)
 
 returns-2 : tie.Need-returns-2
-returns-2 c = search (count-no, needs)
+unfolding ofCount countAsked
+returns-2 c = search (asked-no, needs)
 
 pub count-spec : {M : Type 1} → statement M
 count-spec = tie.close (tie.spec (λ c κs. search needs) (λ c. search needs) (λ c κs. search needs) (λ c. search needs) returns returns-2)

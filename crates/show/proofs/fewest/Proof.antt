@@ -1,7 +1,8 @@
 -- `show::fewest` meets its contract.
 use borrow.Author.Needs.{needs}
-use Rattle.show.proofs.Linked.{fewest-yes, fewest-refused}
-use Rattle.show.proofs.Laws.{ready}
+use Rattle.model.specs.Answers.{ofFewest}
+use Rattle.model.specs.Questions.{refuse, fewestAsked}
+use Rattle.answers.proofs.Laws.{ready, asked-yes, asked-no}
 use Rattle.show.proofs.fewest.Statement.{statement}
 use Rattle.show.proofs.fewest.Tie as tie
 
@@ -9,10 +10,12 @@ fewest-in-requires : tie.Need-fewest-in-requires
 fewest-in-requires c κs = search (ready, needs)
 
 returns : tie.Need-returns
-returns c = search (fewest-yes, needs)
+unfolding fewestAsked
+returns c = search (asked-yes, needs)
 
 returns-2 : tie.Need-returns-2
-returns-2 c = search (fewest-refused, needs)
+unfolding ofFewest fewestAsked refuse
+returns-2 c = search (asked-no, needs)
 
 pub fewest-spec : {M : Type 1} → statement M
 fewest-spec =

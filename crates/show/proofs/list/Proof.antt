@@ -1,7 +1,9 @@
 -- `show::list` meets its contract.
 use borrow.Author.Needs.{needs}
-use Rattle.show.proofs.Linked.{list-yes, list-refused}
-use Rattle.show.proofs.Laws.{ready}
+use Rattle.model.specs.Answers.{ofList}
+use Rattle.model.specs.Questions.{refuse}
+use Rattle.answers.specs.Linked.{listAsked}
+use Rattle.answers.proofs.Laws.{ready, asked-yes, asked-no}
 use Rattle.show.proofs.list.Statement.{statement}
 use Rattle.show.proofs.list.Tie as tie
 
@@ -9,10 +11,14 @@ list-of-requires : tie.Need-list-of-requires
 list-of-requires c κs = search (ready, needs)
 
 returns : tie.Need-returns
-returns c = search (list-yes, needs)
+unfolding listAsked
+returns c = search (asked-yes, needs)
 
 returns-2 : tie.Need-returns-2
-returns-2 c = search (list-refused, needs)
+unfolding ofList listAsked refuse
+returns-2 c = search (asked-no, needs)
 
 pub list-spec : {M : Type 1} → statement M
-list-spec = tie.close (tie.spec (λ c κs. search needs) (λ c. search needs) list-of-requires (λ c. search needs) (λ c. search needs) returns returns-2)
+list-spec =
+    tie.close
+    (tie.spec (λ c κs. search needs) (λ c. search needs) list-of-requires (λ c. search needs) (λ c. search needs) returns returns-2)

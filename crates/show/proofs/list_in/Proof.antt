@@ -1,7 +1,7 @@
 -- `show::list_in` meets its contract.
 use borrow.Author.Needs.{needs}
 use mathlib.Core.Path.{refl}
-use Rattle.show.proofs.Linked.{list-in}
+use Rattle.answers.proofs.Linked.{list-in}
 use Rattle.show.proofs.list_in.Statement.{statement}
 use Rattle.show.proofs.list_in.Tie as tie
 

@@ -1,7 +1,7 @@
 -- `show::list_out` meets its contract.
 use borrow.Author.Needs.{needs}
 use mathlib.Core.Path.{refl}
-use Rattle.show.proofs.Linked.{list-out}
+use Rattle.answers.proofs.Linked.{list-out}
 use Rattle.show.proofs.list_out.Statement.{statement}
 use Rattle.show.proofs.list_out.Tie as tie
 

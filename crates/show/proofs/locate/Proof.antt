@@ -1,6 +1,8 @@
 -- `show::locate` meets its contract.
 use borrow.Author.Needs.{needs}
-use Rattle.show.proofs.Laws.{ready, locate-yes, locate-refused}
+use Rattle.model.specs.Answers.{ofLocate}
+use Rattle.model.specs.Questions.{refuse, locateAsked}
+use Rattle.answers.proofs.Laws.{ready, asked-yes, asked-no}
 use Rattle.show.proofs.locate.Statement.{statement}
 use Rattle.show.proofs.locate.Tie as tie
 
@@ -8,10 +10,12 @@ locate-in-requires : tie.Need-locate-in-requires
 locate-in-requires c κs = search (ready, needs)
 
 returns : tie.Need-returns
-returns c = search (locate-yes, needs)
+unfolding locateAsked
+returns c = search (asked-yes, needs)
 
 returns-2 : tie.Need-returns-2
-returns-2 c = search (locate-refused, needs)
+unfolding ofLocate locateAsked refuse
+returns-2 c = search (asked-no, needs)
 
 pub locate-spec : {M : Type 1} → statement M
 locate-spec =

@@ -1,6 +1,8 @@
 -- `show::write` meets its contract.
 use borrow.Author.Needs.{needs}
-use Rattle.show.proofs.Laws.{write-yes, write-refused, said-yes}
+use Rattle.model.specs.Answers.{ofWrite}
+use Rattle.model.specs.Questions.{refuse, writeAsked}
+use Rattle.answers.proofs.Laws.{said-yes, asked-yes, asked-no}
 use Rattle.show.proofs.write.Statement.{statement}
 use Rattle.show.proofs.write.Tie as tie
 
@@ -8,10 +10,12 @@ write-rows-requires : tie.Need-write-rows-requires
 write-rows-requires c κs = search (said-yes, needs)
 
 returns : tie.Need-returns
-returns c = search (write-yes, needs)
+unfolding writeAsked
+returns c = search (asked-yes, needs)
 
 returns-2 : tie.Need-returns-2
-returns-2 c = search (write-refused, needs)
+unfolding ofWrite writeAsked refuse
+returns-2 c = search (asked-no, needs)
 
 pub write-spec : {M : Type 1} → statement M
 write-spec =

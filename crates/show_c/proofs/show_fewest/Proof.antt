@@ -1,21 +1,35 @@
 -- `show_c::show_fewest` meets its contract.
 use borrow.Author.Needs.{needs}
 use mathlib.Core.Path.{refl}
-use Rattle.show_c.proofs.Laws.{fewest-none, fewest-refused, fewest-steps, rows-wrote-short}
+use Rattle.model.specs.Answers.{ofFewest}
+use Rattle.model.specs.declared.FewestAnswer.the-variants.{Steps, None, Refused}
+use Rattle.show_c.proofs.Laws.{wrote-short, wrote, told-refused, told-value}
 use Rattle.show_c.proofs.show_fewest.Statement.{statement}
 use Rattle.show_c.proofs.show_fewest.Tie as tie
 
 returns : tie.Need-returns
-returns c = rows-wrote-short _ _ _ _ _ (search needs) (search needs)
+returns c = wrote-short _ _ _ _ _ (search needs) (search needs)
 
 returns-2 : tie.Need-returns-2
-returns-2 c = fewest-steps _ _ _ _ _ (c .before .before .before .before .before .before .before .before .before .fewest .result) _ _ _ _ (search needs) (search needs) (c .before .before .before .before .before .before .before .before .before .fewest .ensures) refl (c .before .before .put-2 .ensures) (search needs)
+unfolding ofFewest
+returns-2 c =
+    let asked = c .before .before .before .before .before .before .before .before .before .fewest in
+    wrote _ _ _ _ _ _ _ _ (search needs) (asked .ensures)
+    (told-value ofFewest (asked .result) (Steps _) _ _ _ _ (c .before .before .tell-2 .ensures) refl (search needs))
 
 returns-3 : tie.Need-returns-3
-returns-3 c = fewest-none _ _ _ _ _ (c .before .before .before .before .before .before .before .before .fewest .result) _ _ _ _ (search needs) (search needs) (c .before .before .before .before .before .before .before .before .fewest .ensures) refl refl (c .before .before .put-22 .ensures) (search needs)
+unfolding ofFewest
+returns-3 c =
+    let asked = c .before .before .before .before .before .before .before .before .fewest in
+    wrote _ _ _ _ _ _ _ _ (search needs) (asked .ensures)
+    (told-value ofFewest (asked .result) None _ _ _ _ (c .before .before .tell-22 .ensures) refl (search needs))
 
 returns-4 : tie.Need-returns-4
-returns-4 c = fewest-refused _ _ _ _ _ (c .before .before .before .before .before .before .fewest .result) _ _ _ (search needs) (search needs) (c .before .before .before .before .before .before .fewest .ensures) (c .refused .ensures) (search needs)
+unfolding ofFewest
+returns-4 c =
+    let asked = c .before .before .before .before .before .before .fewest in
+    wrote _ _ _ _ _ _ _ _ (search needs) (asked .ensures)
+    (told-refused ofFewest (asked .result) (Refused _) _ _ _ _ (search needs) (c .refused .ensures) refl (search needs))
 
 pub show-fewest-spec : {M : Type 1} → statement M
 show-fewest-spec =

@@ -1,17 +1,28 @@
 -- `show_c::show_locate` meets its contract.
 use borrow.Author.Needs.{needs}
-use Rattle.show_c.proofs.Laws.{locate-refused, locate-value, rows-wrote-short}
+use mathlib.Core.Path.{refl}
+use Rattle.model.specs.Answers.{ofLocate}
+use Rattle.model.specs.declared.LocateAnswer.the-variants.{Found, Refused}
+use Rattle.show_c.proofs.Laws.{wrote-short, wrote, told-refused, told-value}
 use Rattle.show_c.proofs.show_locate.Statement.{statement}
 use Rattle.show_c.proofs.show_locate.Tie as tie
 
 returns : tie.Need-returns
-returns c = rows-wrote-short _ _ _ _ _ (search needs) (search needs)
+returns c = wrote-short _ _ _ _ _ (search needs) (search needs)
 
 returns-2 : tie.Need-returns-2
-returns-2 c = locate-value _ _ _ _ _ (c .before .before .before .before .before .before .before .before .before .locate .result) _ _ _ _ _ (search needs) (search needs) (c .before .before .before .before .before .before .before .before .before .locate .ensures) (c .before .before .put-3 .ensures) (search needs)
+unfolding ofLocate
+returns-2 c =
+    let asked = c .before .before .before .before .before .before .before .before .before .locate in
+    wrote _ _ _ _ _ _ _ _ (search needs) (asked .ensures)
+    (told-value ofLocate (asked .result) (Found _ _ _) _ _ _ _ (c .before .before .tell-3 .ensures) refl (search needs))
 
 returns-3 : tie.Need-returns-3
-returns-3 c = locate-refused _ _ _ _ _ (c .before .before .before .before .before .before .locate .result) _ _ _ (search needs) (search needs) (c .before .before .before .before .before .before .locate .ensures) (c .refused .ensures) (search needs)
+unfolding ofLocate
+returns-3 c =
+    let asked = c .before .before .before .before .before .before .locate in
+    wrote _ _ _ _ _ _ _ _ (search needs) (asked .ensures)
+    (told-refused ofLocate (asked .result) (Refused _) _ _ _ _ (search needs) (c .refused .ensures) refl (search needs))
 
 pub show-locate-spec : {M : Type 1} → statement M
 show-locate-spec =

@@ -1,17 +1,28 @@
 -- `show_c::show_read` meets its contract.
 use borrow.Author.Needs.{needs}
-use Rattle.show_c.proofs.Laws.{file-wrote-short, read-refused, read-value}
+use mathlib.Core.Path.{refl}
+use Rattle.model.specs.Answers.{ofRead}
+use Rattle.model.specs.declared.ReadAnswer.the-variants.{Read, Refused}
+use Rattle.show_c.proofs.Laws.{wrote-short, wrote, told-refused, told-value}
 use Rattle.show_c.proofs.show_read.Statement.{statement}
 use Rattle.show_c.proofs.show_read.Tie as tie
 
 returns : tie.Need-returns
-returns c = file-wrote-short _ _ _ _ _ (search needs) (search needs)
+returns c = wrote-short _ _ _ _ _ (search needs) (search needs)
 
 returns-2 : tie.Need-returns-2
-returns-2 c = read-value _ _ _ _ (c .before .before .before .before .before .before .before .before .before .read .result) _ _ _ _ _ (search needs) (search needs) (c .before .before .before .before .before .before .before .before .before .read .ensures) (c .before .before .put-3 .ensures) (search needs)
+unfolding ofRead
+returns-2 c =
+    let asked = c .before .before .before .before .before .before .before .before .before .read in
+    wrote _ _ _ _ _ _ _ _ (search needs) (asked .ensures)
+    (told-value ofRead (asked .result) (Read _ _ _) _ _ _ _ (c .before .before .tell-3 .ensures) refl (search needs))
 
 returns-3 : tie.Need-returns-3
-returns-3 c = read-refused _ _ _ _ (c .before .before .before .before .before .before .read .result) _ _ _ (search needs) (search needs) (c .before .before .before .before .before .before .read .ensures) (c .refused .ensures) (search needs)
+unfolding ofRead
+returns-3 c =
+    let asked = c .before .before .before .before .before .before .read in
+    wrote _ _ _ _ _ _ _ _ (search needs) (asked .ensures)
+    (told-refused ofRead (asked .result) (Refused _) _ _ _ _ (search needs) (c .refused .ensures) refl (search needs))
 
 pub show-read-spec : {M : Type 1} → statement M
 show-read-spec =

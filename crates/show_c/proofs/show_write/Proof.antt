@@ -1,17 +1,28 @@
 -- `show_c::show_write` meets its contract.
 use borrow.Author.Needs.{needs}
-use Rattle.show_c.proofs.Laws.{rows-wrote-short, write-refused, write-value}
+use mathlib.Core.Path.{refl}
+use Rattle.model.specs.Answers.{ofWrite}
+use Rattle.model.specs.declared.WriteAnswer.the-variants.{Written, Refused}
+use Rattle.show_c.proofs.Laws.{wrote-short, wrote, told-refused, told-value}
 use Rattle.show_c.proofs.show_write.Statement.{statement}
 use Rattle.show_c.proofs.show_write.Tie as tie
 
 returns : tie.Need-returns
-returns c = rows-wrote-short _ _ _ _ _ (search needs) (search needs)
+returns c = wrote-short _ _ _ _ _ (search needs) (search needs)
 
 returns-2 : tie.Need-returns-2
-returns-2 c = write-value _ _ _ _ (c .before .before .before .before .before .before .before .before .before .write .result) _ _ _ (search needs) (search needs) (c .before .before .before .before .before .before .before .before .before .write .ensures) (c .before .before .put-1 .ensures) (search needs)
+unfolding ofWrite
+returns-2 c =
+    let asked = c .before .before .before .before .before .before .before .before .before .write in
+    wrote _ _ _ _ _ _ _ _ (search needs) (asked .ensures)
+    (told-value ofWrite (asked .result) (Written _) _ _ _ _ (c .before .before .tell-1 .ensures) refl (search needs))
 
 returns-3 : tie.Need-returns-3
-returns-3 c = write-refused _ _ _ _ (c .before .before .before .before .before .before .write .result) _ _ _ (search needs) (search needs) (c .before .before .before .before .before .before .write .ensures) (c .refused .ensures) (search needs)
+unfolding ofWrite
+returns-3 c =
+    let asked = c .before .before .before .before .before .before .write in
+    wrote _ _ _ _ _ _ _ _ (search needs) (asked .ensures)
+    (told-refused ofWrite (asked .result) (Refused _) _ _ _ _ (search needs) (c .refused .ensures) refl (search needs))
 
 pub show-write-spec : {M : Type 1} → statement M
 show-write-spec =
