@@ -272,3 +272,49 @@ pub fn bad_order() -> Vec<u32> {
     build.chain(&chain);
     build.numbers()
 }
+
+/// A show of so many cues, each linked to the next of its block, with labels from 1 to 255
+/// in turn. At least 255 cues.
+pub fn labelled(cues: u32) -> Vec<u32> {
+    let mut build = Build::default();
+    build.open(1, 245);
+    for cue in 1..245 {
+        build.link(cue % 255 + 1, cue, cue + 1);
+    }
+    build.link(255, 245, 246);
+    let copies = (cues - 10) / 245;
+    build.open(0, cues - 245 * copies);
+    for copy in 1..=copies {
+        build.take(0, &[copy]);
+    }
+    build.numbers()
+}
+
+/// A show of 1,000 cues with some millions of different links: every pair of eight cues has
+/// all 255 labels, for many sets of eight.
+pub fn millions() -> Vec<u32> {
+    let mut build = Build::default();
+    build.open(2, 0);
+    for label in 1..=255 {
+        build.link(label, 1, 2);
+    }
+    build.open(8, 0);
+    for from in 1..=8 {
+        for to in (1..=8).filter(|&to| to != from) {
+            build.take(0, &[from, to]);
+        }
+    }
+    build.open(1, 240);
+    for slope in 0..5 {
+        for start in 1..=30 {
+            let cues: Vec<u32> = (0..8).map(|k| 30 * k + (start - 1 + slope * k) % 30 + 1).collect();
+            build.take(1, &cues);
+        }
+    }
+    build.sort_uses();
+    build.open(0, 40);
+    for copy in 1..=4 {
+        build.take(2, &[copy]);
+    }
+    build.numbers()
+}
