@@ -15,18 +15,18 @@ use Rattle.theory.proofs.Members.{getD-mem, mem-at}
 use Rattle.theory.proofs.Ranges.{Within, inner, join, Spot, number, all-links, links-within}
 use Rattle.theory.proofs.BlockAt.{spot, links-at, ownOf-at, joinsOf-at, total-at}
 use Rattle.theory.proofs.Locality.{Sound, Low}
-use Rattle.links.specs.declared.Ask.{Ask}
-use Rattle.links.specs.Picks.{here, there, Picked, wanted}
-use Rattle.links.specs.Near.{Near, Marks, Ready}
-use Rattle.links.specs.Ground.{markOf, On, HasPlace}
-use Rattle.links.proofs.Tables.{mark-of-join}
+use Rattle.marks.specs.declared.Ask.{Ask}
+use Rattle.marks.specs.Picks.{here, there, Picked, wanted}
+use Rattle.marks.specs.Near.{Near, Marks, Ready}
+use Rattle.marks.specs.Ground.{markOf, On, HasPlace}
+use Rattle.marks.proofs.Tables.{mark-of-join}
 use Rattle.links.specs.Pages.{Gives}
 use Rattle.links.specs.Walks.{May, Walked}
 use Rattle.links.specs.Joins.{Met, MeetsJust, JoinsDone}
 use Rattle.links.specs.Answer.{MayAnswer, Answered}
-use Rattle.links.proofs.Picked.{both-ends, wanted-append}
+use Rattle.marks.proofs.Picked.{both-ends, wanted-append}
 use Rattle.links.proofs.Filled.{gives-append}
-use Rattle.links.proofs.Near.{near-picked, picked-near, join-number, join-cue}
+use Rattle.marks.proofs.Near.{near-picked, picked-near, join-number, join-cue}
 
 module _ (q : Ask) (bs : List Block) (m : List ℕ) (k base : ℕ) (met : List ℕ) (c : ℕ) (s : List ℕ) (tab : Ready q bs m k c) (marks : Marks q m (blockAt bs k) c s)
     (cue : Cue (blockAt bs k) c) (sound : Sound (spot bs k base (take (joinsOf bs k) met))) (low : Low (spot bs k base (take (joinsOf bs k) met))) where

@@ -10,9 +10,9 @@ use lib.Seq.{take-suc-set, drop-set-lt, append-snoc, take-all, take-nil}
 use Rattle.model.specs.Choice.{ifLt, ifEq}
 use Rattle.model.specs.Lists.{overwrite}
 use Rattle.theory.proofs.Choices.{lt-then, lt-else, eq-then, eq-else}
-use Rattle.links.specs.declared.Ask.{Ask}
-use Rattle.links.specs.Ground.{bitAt, ownBit}
-use Rattle.links.proofs.Bits.{bit-none}
+use Rattle.marks.specs.declared.Ask.{Ask}
+use Rattle.marks.specs.Ground.{bitAt, ownBit}
+use Rattle.marks.proofs.Bits.{bit-none}
 use Rattle.links.specs.Pages.{Filled, put, puts, Gives}
 use Rattle.links.specs.Walks.{stepList, ownList}
 

@@ -8,11 +8,11 @@ use lib.ListN.{length, getD}
 use Rattle.model.specs.Choice.{ifLt, ifEq}
 use Rattle.model.specs.Blocks.{Link}
 use Rattle.theory.proofs.Choices.{lt-then, lt-else, eq-then, eq-else}
-use Rattle.links.specs.declared.Ask.{Ask}
-use Rattle.links.specs.Picks.{Picked, wanted}
+use Rattle.marks.specs.declared.Ask.{Ask}
+use Rattle.marks.specs.Picks.{Picked, wanted}
 use Rattle.links.specs.Pages.{Gives}
 use Rattle.links.specs.Joins.{lesser, Met, Next, MeetsJust, Some, JoinsGoing, JoinsDone}
-use Rattle.links.proofs.Picked.{wanted-append, wanted-nil, wanted-none, wanted-low, wanted-yes}
+use Rattle.marks.proofs.Picked.{wanted-append, wanted-nil, wanted-none, wanted-low, wanted-yes}
 use Rattle.links.proofs.Filled.{gives-nil, gives-append}
 
 -- The least cue that a marked join meets.

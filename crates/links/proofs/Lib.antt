@@ -1,10 +1,4 @@
-pub mod Picked
 pub mod Filled
-pub mod Near
-pub mod Ground
-pub mod Bits
-pub mod Marks
-pub mod Tables
 pub mod Walks
 pub mod Joins
 pub mod Stands

@@ -18,9 +18,9 @@ use Rattle.theory.proofs.Locality.{show-spot, part-spot}
 use Rattle.theory.proofs.Trails as trails
 use Rattle.theory.proofs.Trails.{part-at, after, Steps, ends, goes, after-snoc}
 use Rattle.rules.specs.Index.{useAt}
-use Rattle.links.specs.Ground.{Ground, UseRow}
+use Rattle.marks.specs.Ground.{Ground, UseRow}
 use Rattle.links.specs.Stands.{Standing, MayStep, Stepped, ColumnsFit, MeetIs, Trail}
-use Rattle.links.proofs.Ground.{use-block, use-column, row-known}
+use Rattle.marks.proofs.Ground.{use-block, use-column, row-known}
 use Rattle.links.proofs.Walks.{noUse, many, use-here, sum-next, next-fits}
 
 -- The number of a cue, by the first eight numbers that joins meet.

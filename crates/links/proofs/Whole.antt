@@ -32,17 +32,17 @@ use Rattle.model.specs.Verdicts.{verdict}
 use Rattle.model.specs.declared.Verdict.the-variants.{Accepted}
 use Rattle.theory.proofs.Accepted.{accepted-show}
 use Rattle.rules.specs.Index.{Indexed}
-use Rattle.links.specs.declared.Ask.{Ask}
+use Rattle.marks.specs.declared.Ask.{Ask}
 use Rattle.links.specs.declared.Listed.{Listed}
-use Rattle.links.specs.Picks.{nearEnd, here, there, fits, picks, Picked, wants, wanted}
-use Rattle.links.specs.Ground.{Ground}
+use Rattle.marks.specs.Picks.{nearEnd, here, there, fits, picks, Picked, wants, wanted}
+use Rattle.marks.specs.Ground.{Ground}
 use Rattle.links.specs.Pages.{Filled, puts, Gives}
 use Rattle.links.specs.Stands.{Standing, Trail}
 use Rattle.links.specs.Answer.{cueOf, linkedCues, labelledCues, IsListed, MayAnswer, Answered}
 use Rattle.theory.proofs.Keeping.{keep-short, keep-same}
-use Rattle.links.proofs.Picked.{both-ends, ends-here, picked, wanted-append, wanted-none, wanted-low, wanted-same}
+use Rattle.marks.proofs.Picked.{both-ends, ends-here, picked, wanted-append, wanted-none, wanted-low, wanted-same}
 use Rattle.links.proofs.Filled.{puts-all}
-use Rattle.links.proofs.Near.{picked-in}
+use Rattle.marks.proofs.Near.{picked-in}
 
 -- Every link of an unfolding has a label in the range of labels.
 abbrev Labelled : Link → Type 0

@@ -13,9 +13,9 @@ use Rattle.model.specs.Lists.{cuesAfter, isOut, isInto, overwrite}
 use Rattle.theory.proofs.Ranges.{number}
 use Rattle.theory.proofs.BlockAt.{spot}
 use Rattle.theory.proofs.Locality.{Sound, Low}
-use Rattle.links.specs.declared.Ask.{Ask}
+use Rattle.marks.specs.declared.Ask.{Ask}
 use Rattle.links.specs.declared.Listed.{Listed}
-use Rattle.links.specs.Picks.{wanted}
+use Rattle.marks.specs.Picks.{wanted}
 use Rattle.links.specs.Pages.{Gives}
 
 -- The cue at the end of a path.

@@ -5,8 +5,8 @@ use mathlib.Core.List.{List, [], _∷_, _++_}
 use lib.ListN.{length, getD}
 use Rattle.model.specs.Choice.{ifLt, ifEq}
 use Rattle.model.specs.Blocks.{Link}
-use Rattle.links.specs.declared.Ask.{Ask}
-use Rattle.links.specs.Picks.{Picked, wanted}
+use Rattle.marks.specs.declared.Ask.{Ask}
+use Rattle.marks.specs.Picks.{Picked, wanted}
 use Rattle.links.specs.Pages.{Gives}
 
 -- The lesser of x and y, where y counts only if it is marked and above last, and x is 0 for none.

@@ -12,10 +12,10 @@ use Rattle.theory.proofs.Ranges.{Copy, number}
 use Rattle.theory.proofs.BlockAt.{spot}
 use Rattle.theory.proofs.Locality.{Sound, Part}
 use Rattle.rules.specs.Index.{useAt}
-use Rattle.links.specs.declared.Ask.{Ask}
-use Rattle.links.specs.Picks.{wanted}
+use Rattle.marks.specs.declared.Ask.{Ask}
+use Rattle.marks.specs.Picks.{wanted}
 use Rattle.links.specs.Pages.{Gives}
-use Rattle.links.specs.Ground.{ownBit}
+use Rattle.marks.specs.Ground.{ownBit}
 
 -- A cue that is marked and high enough, and the own cues of a copy that are.
 unfoldable pub stepList : Ask → ℕ → ℕ → List ℕ

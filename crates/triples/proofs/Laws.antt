@@ -19,11 +19,11 @@ use Rattle.model.specs.Unfolding.{showLinks}
 use Rattle.theory.proofs.Choices.{lt-then, lt-else, eq-then, eq-else, true-then, true-else}
 use Rattle.theory.proofs.Keeping.{kept, keep-short}
 use Rattle.theory.proofs.Members.{mem-at, getD-mem, range-bounds, range-mem, range-length}
-use Rattle.links.specs.declared.Ask.{Ask}
+use Rattle.marks.specs.declared.Ask.{Ask}
 use Rattle.links.specs.declared.Listed.{Listed}
-use Rattle.links.specs.Picks.{nearEnd, fits, picks, Picked, wants, wanted}
+use Rattle.marks.specs.Picks.{nearEnd, fits, picks, Picked, wants, wanted}
 use Rattle.links.specs.Answer.{labelledCues, IsListed}
-use Rattle.links.proofs.Picked.{picked}
+use Rattle.marks.proofs.Picked.{picked}
 use Rattle.cues.specs.Found.{Holds, Leads}
 use Rattle.triples.specs.Marks.{Marked, MarkedTo, Blank, marksAll, Within, Says, Aims, TableTo, sourceOf}
 

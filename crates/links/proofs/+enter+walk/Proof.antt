@@ -5,7 +5,7 @@ use Prim.Native.Nat.{ℕ, _+_, _*_, _-_, _≤_, _<_}
 use mathlib.Core.Path.{_≡_, refl, _∙_}
 use lib.ListN.{length}
 use Rattle.links.specs.Walks.{Going}
-use Rattle.links.proofs.Ground.{row-known, rows-order}
+use Rattle.marks.proofs.Ground.{row-known, rows-order}
 use Rattle.links.proofs.Walks.{
   enter-shut,
   door-small,
@@ -31,12 +31,12 @@ use Rattle.links.proofs.walk.Reads as walk
 use Rattle.links.proofs.walk.Kinds as walk-kinds
 use Rattle.links.proofs.+enter+walk.Lts-walk as walk-lts
 use Rattle.links.proofs.door.Reads as door-reads
-use Rattle.links.proofs.entry.Reads as entry-reads
+use Rattle.marks.proofs.entry.Reads as entry-reads
 use Rattle.links.proofs.give_block.Reads as give-block-reads
-use Rattle.links.proofs.own_of.Reads as own-of-reads
+use Rattle.marks.proofs.own_of.Reads as own-of-reads
 use Rattle.links.proofs.size_of.Reads as size-of-reads
-use Rattle.links.proofs.value.Reads as value-reads
-use Rattle.links.proofs.wide.Reads as wide-reads
+use Rattle.marks.proofs.value.Reads as value-reads
+use Rattle.marks.proofs.wide.Reads as wide-reads
 use Rattle.links.proofs.+enter+walk.{statement}
 use Rattle.links.proofs.+enter+walk.Tie.{close}
 

@@ -1,7 +1,7 @@
 -- `links::answer_by` meets its contract: the cues that joins meet come first, then the own ones, then those inside.
 use borrow.Author.Needs.{needs}
-use Rattle.links.proofs.Ground.{own-few}
-use Rattle.links.proofs.Tables.{cue-known}
+use Rattle.marks.proofs.Ground.{own-few}
+use Rattle.marks.proofs.Tables.{cue-known}
 use mathlib.Core.Path.{_∙_}
 use Rattle.links.proofs.Answer.{answered, may-begin}
 use native.Mathlib.Omega.{arith}

@@ -1,6 +1,6 @@
 -- `links::answer_low` meets its contract: the table is long enough, and no record is made yet.
 use borrow.Author.Needs.{needs}
-use Rattle.links.proofs.Tables.{table-begin}
+use Rattle.marks.proofs.Tables.{table-begin}
 use native.Mathlib.Omega.{arith}
 use Rattle.links.proofs.answer_low.Statement.{statement}
 use Rattle.links.proofs.answer_low.Tie as tie

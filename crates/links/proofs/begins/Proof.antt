@@ -7,7 +7,7 @@ use mathlib.Core.Path.{_≡_, refl}
 use lib.ListN.{take}
 use Rattle.model.specs.Blocks.{blockAt, ownOf, sumOver, total, blocksOf}
 use Rattle.links.proofs.Stands.{begins-start, begins-on, begins-fits}
-use Rattle.links.proofs.Ground.{row-known}
+use Rattle.marks.proofs.Ground.{row-known}
 use Rattle.links.proofs.begins.Statement.{statement}
 use Rattle.links.proofs.begins.Tie as tie
 

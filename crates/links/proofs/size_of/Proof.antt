@@ -1,6 +1,6 @@
 -- `links::size_of` meets its contract: the index has the total of the used block.
 use borrow.Author.Needs.{needs}
-use Rattle.links.proofs.Ground.{total-read}
+use Rattle.marks.proofs.Ground.{total-read}
 use Rattle.links.proofs.size_of.Statement.{statement}
 use Rattle.links.proofs.size_of.Tie as tie
 

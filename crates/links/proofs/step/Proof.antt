@@ -3,7 +3,7 @@ use borrow.Author.Needs.{needs}
 use native.Mathlib.Omega.{arith}
 use mathlib.Core.Path.{refl}
 use Rattle.links.proofs.Stands.{step-high, step-row, step-small, columns-fit, stepped}
-use Rattle.links.proofs.Ground.{block-known}
+use Rattle.marks.proofs.Ground.{block-known}
 use Rattle.links.proofs.step.Statement.{statement}
 use Rattle.links.proofs.step.Tie as tie
 

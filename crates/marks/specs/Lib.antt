@@ -1,0 +1,3 @@
+pub mod Picks
+pub mod Near
+pub mod Ground
