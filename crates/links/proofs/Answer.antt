@@ -1,26 +1,22 @@
 -- The list of a cue: the walk from its own copy gives just the list of the model.
-use Prim.Native.Nat.{ℕ, zero, suc, _+_, _*_, _-_, _≤_, _<_, min}
+use Prim.Native.Nat.{ℕ, _+_, _≤_, _<_}
 use native.Mathlib.Omega.{arith}
-use native.Mathlib.Decide.{decLt, decLe}
-use mathlib.Core.Path.{_≡_, refl, sym, _∙_, ap}
-use mathlib.Core.Logic.{_↔_, _⊎_, inl, inr}
-use mathlib.Core.Bool.{Bool, true, false}
-use mathlib.Core.List.{List, [], _∷_, _++_, append-nil, List·Memᴰ}
-use lib.ListN.{length, getD, take, length-take}
-use lib.Seq.{getD-take, take-all}
-use Rattle.model.specs.Blocks.{Link, Block, blockAt, joinsOf, ownOf, total, blocksOf}
+use mathlib.Core.Path.{_≡_, sym, _∙_}
+use mathlib.Core.Logic.{_↔_}
+use mathlib.Core.List.{List}
+use lib.ListN.{length, getD, take}
+use lib.Seq.{getD-take}
+use Rattle.model.specs.Blocks.{Link, Block, blockAt, joinsOf, ownOf, total}
 use Rattle.model.specs.Unfolding.{links}
 use Rattle.theory.specs.WellFormed.{Cue}
 use Rattle.theory.proofs.Members.{getD-mem, mem-at}
 use Rattle.theory.proofs.Ranges.{Within, inner, join, Spot, number, all-links, links-within}
-use Rattle.theory.proofs.BlockAt.{spot, links-at, ownOf-at, joinsOf-at, total-at}
+use Rattle.theory.proofs.BlockAt.{spot, links-at, ownOf-at, joinsOf-at}
 use Rattle.theory.proofs.Locality.{Sound, Low}
 use Rattle.marks.specs.declared.Ask.{Ask}
-use Rattle.marks.specs.Picks.{here, there, Picked, wanted}
+use Rattle.marks.specs.Picks.{there, Picked}
 use Rattle.marks.specs.Near.{Near, Marks, Ready}
-use Rattle.marks.specs.Ground.{markOf, On, HasPlace}
 use Rattle.marks.proofs.Tables.{mark-of-join}
-use Rattle.links.specs.Pages.{Gives}
 use Rattle.links.specs.Walks.{May, Walked}
 use Rattle.links.specs.Joins.{Met, MeetsJust, JoinsDone}
 use Rattle.links.specs.Answer.{MayAnswer, Answered}

@@ -1,13 +1,13 @@
 -- Laws of filling a page.
-use Prim.Native.Nat.{ℕ, zero, suc, _+_, _*_, _/_, _%_, _-_, _≤_, _<_, min}
+use Prim.Native.Nat.{ℕ, zero, suc, _+_, _*_, _/_, _%_, _-_, _≤_, _<_}
 use native.Mathlib.Omega.{arith}
 use native.Mathlib.Decide.{decLt}
 use native.Mathlib.Numerals.{add-one}
-use mathlib.Core.Path.{_≡_, refl, sym, _∙_, ap, ap₂}
+use mathlib.Core.Path.{_≡_, refl, sym, _∙_, ap}
 use mathlib.Core.List.{List, [], _∷_, _++_, append-assoc, append-nil}
-use lib.ListN.{length, getD, take, drop, set, length-set, length-take, take-append-drop, length-append}
-use lib.Seq.{take-suc-set, drop-set-lt, append-snoc, take-all, take-nil}
-use Rattle.model.specs.Choice.{ifLt, ifEq}
+use lib.ListN.{length, getD, take, drop, set, length-set, take-append-drop}
+use lib.Seq.{take-suc-set, drop-set-lt, take-nil}
+use Rattle.model.specs.Choice.{ifLt}
 use Rattle.model.specs.Lists.{overwrite}
 use Rattle.theory.proofs.Choices.{lt-then, lt-else, eq-then, eq-else}
 use Rattle.marks.specs.declared.Ask.{Ask}

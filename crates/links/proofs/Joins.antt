@@ -1,15 +1,14 @@
 -- Laws of the linked cues that joins meet.
-use Prim.Native.Nat.{ℕ, zero, suc, _+_, _-_, _≤_, _<_}
+use Prim.Native.Nat.{ℕ, suc, _+_, _-_, _≤_, _<_}
 use native.Mathlib.Omega.{arith}
 use native.Mathlib.Decide.{ℕ-discrete, decLt}
 use mathlib.Core.Path.{_≡_, refl, sym, _∙_, ap}
 use mathlib.Core.List.{List, [], _∷_, _++_, append-nil, append-assoc}
-use lib.ListN.{length, getD}
-use Rattle.model.specs.Choice.{ifLt, ifEq}
+use lib.ListN.{getD}
 use Rattle.model.specs.Blocks.{Link}
 use Rattle.theory.proofs.Choices.{lt-then, lt-else, eq-then, eq-else}
 use Rattle.marks.specs.declared.Ask.{Ask}
-use Rattle.marks.specs.Picks.{Picked, wanted}
+use Rattle.marks.specs.Picks.{wanted}
 use Rattle.links.specs.Pages.{Gives}
 use Rattle.links.specs.Joins.{lesser, Met, Next, MeetsJust, Some, JoinsGoing, JoinsDone}
 use Rattle.marks.proofs.Picked.{wanted-append, wanted-nil, wanted-none, wanted-low, wanted-yes}

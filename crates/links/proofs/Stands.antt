@@ -1,22 +1,22 @@
 -- Laws of going down a path.
-use Prim.Native.Nat.{ℕ, zero, suc, _+_, _*_, _-_, _≤_, _<_}
+use Prim.Native.Nat.{ℕ, suc, _+_, _*_, _-_, _≤_, _<_}
 use native.Mathlib.Omega.{arith}
 use native.Mathlib.Decide.{ℕ-discrete, decLt}
 use native.Mathlib.Numerals.{add-one}
 use mathlib.Core.Path.{_≡_, refl, sym, _∙_, ap, ap₂}
 use mathlib.Core.List.{List, [], _∷_, _++_, map}
 use lib.ListN.{length, getD, take, drop, set, length-set, length-take, length-map, replicate, length-replicate}
-use lib.Seq.{take-suc, take-all, split-at, take-take, getD-take, ext-getD, getD-set-same, getD-set-other}
+use lib.Seq.{take-suc, split-at, take-take, getD-take, ext-getD, getD-set-same, getD-set-other}
 use Rattle.model.specs.Rows.{cell}
-use Rattle.model.specs.Blocks.{Use, Block, blockAt, joinsOf, ownOf, sumOver, total, lastBlock, count, blocksOf}
+use Rattle.model.specs.Blocks.{Use, Block, blockAt, joinsOf, ownOf, sumOver, total, lastBlock, blocksOf}
 use Rattle.model.specs.Unfolding.{cueAt}
 use Rattle.theory.proofs.AtBlock.{joins-small}
 use Rattle.theory.proofs.Members.{getD-map-in}
-use Rattle.theory.proofs.Ranges.{Spot, Copy, number, meets, cueAt-own, cueAt-join}
-use Rattle.theory.proofs.BlockAt.{spot, ownOf-at, joinsOf-at, total-at}
+use Rattle.theory.proofs.Ranges.{Spot, number, cueAt-own, cueAt-join}
+use Rattle.theory.proofs.BlockAt.{spot, ownOf-at, total-at}
 use Rattle.theory.proofs.Locality.{show-spot, part-spot}
 use Rattle.theory.proofs.Trails as trails
-use Rattle.theory.proofs.Trails.{part-at, after, Steps, ends, goes, after-snoc}
+use Rattle.theory.proofs.Trails.{part-at, after, Steps, goes, after-snoc}
 use Rattle.rules.specs.Index.{useAt}
 use Rattle.marks.specs.Ground.{Ground, UseRow}
 use Rattle.links.specs.Stands.{Standing, MayStep, Stepped, ColumnsFit, MeetIs, Trail}

@@ -12,20 +12,20 @@ use Rattle.model.specs.Unfolding.{links}
 use Rattle.theory.specs.WellFormed.{Cue}
 use Rattle.theory.proofs.AtBlock.{joins-small}
 use Rattle.theory.proofs.Choices.{lt-then, lt-else, eq-then, eq-else}
-use Rattle.theory.proofs.Ranges.{Copy, copies, copies-range, Spot, number, all-links, meets, cueAt-own}
+use Rattle.theory.proofs.Ranges.{Copy, copies, copies-range, Spot, number, all-links, meets}
 use Rattle.theory.proofs.BlockAt.{spot, links-at, ownOf-at, joinsOf-at, total-at}
-use Rattle.theory.proofs.Locality.{Sound, Part, part-own, part-sound, copies-here}
+use Rattle.theory.proofs.Locality.{Sound, Part, part-sound, copies-here}
 use Rattle.rules.specs.Index.{useAt}
 use Rattle.marks.specs.declared.Ask.{Ask}
-use Rattle.marks.specs.Picks.{Picked, wanted}
-use Rattle.marks.specs.Near.{Flag, Near, Known, Done, Ready}
+use Rattle.marks.specs.Picks.{wanted}
+use Rattle.marks.specs.Near.{Known, Done, Ready}
 use Rattle.links.specs.Pages.{Gives}
-use Rattle.links.specs.Walks.{stepList, ownList, copyList, May, MayDoor, Walked, UsesWalked, Entered, Door, Going}
+use Rattle.links.specs.Walks.{stepList, ownList, May, MayDoor, Walked, UsesWalked, Entered, Door, Going}
 use Rattle.marks.specs.Ground.{Ground, UseRow, UseIn, ownBit, PlaceIs}
 use Rattle.marks.proofs.Picked.{wanted-append, wanted-nil, wanted-yes, wanted-not, wanted-under, wanted-low}
 use Rattle.links.proofs.Filled.{gives-nil, gives-full, gives-append}
 use Rattle.marks.proofs.Ground.{use-block, use-column, uses-rows, usesFrom-length, usesFrom-at}
-use Rattle.marks.proofs.Near.{near-picked, picked-near, wanted-part, wanted-apart, wanted-clear, join-number, met-at}
+use Rattle.marks.proofs.Near.{wanted-part, wanted-apart, wanted-clear, join-number, met-at}
 
 -- A cue of a block, by its numbers of cues.
 cue-is : (bs : List Block) (k c : ℕ) → 1 ≤ c → c ≤ ownOf bs k + joinsOf bs k → Cue (blockAt bs k) c

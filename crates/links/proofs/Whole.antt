@@ -1,42 +1,40 @@
 -- What is listed from a cue's own copy is the list of the model: all links of the show at the cue are links of its copy, their labels all
 -- lie in the range that is asked for, and the page is filled as the model says.
-use Prim.Native.Nat.{ℕ, zero, suc, _+_, _*_, _-_, _≤_, _<_, min}
+use Prim.Native.Nat.{ℕ, suc, _+_, _-_, _≤_, _<_, min}
 use native.Mathlib.Omega.{arith}
 use native.Mathlib.Decide.{decLt, decLe}
 use mathlib.Core.Path.{_≡_, refl, sym, _∙_, ap}
-use mathlib.Core.Logic.{_↔_, _⊎_, inl, inr, _≢_}
-use mathlib.Core.Bool.{Bool, true, false, true≢false}
+use mathlib.Core.Logic.{_⊎_, inl, inr, _≢_}
+use mathlib.Core.Bool.{Bool, true, false}
 use mathlib.Core.List.{List, [], _∷_, _++_, map, append-nil, List·Memᴰ, List·Memᴰ·append-cases, List·Memᴰ·not-nil}
-use lib.ListN.{length, getD, take}
+use lib.ListN.{length, take}
 use lib.Seq.{take-all}
-use lib.Dec.{eqb, ltb}
+use lib.Dec.{eqb}
 use borrow.Author.Tests.{lt-ltb, le-ltb}
-use Rattle.model.specs.Choice.{ifLt, ifEq, ifTrue}
-use Rattle.model.specs.Limits.{maxLabel, maxTotal}
-use Rattle.model.specs.Blocks.{Link, Use, Block, blockAt, joinsOf, ownOf, total, lastBlock, count, blocksOf}
+use Rattle.model.specs.Choice.{ifLt}
+use Rattle.model.specs.Blocks.{Link, Block, blockAt, joinsOf, total, lastBlock, count, blocksOf}
 use Rattle.model.specs.Unfolding.{cueAt, renamed, usesLinks, links, showLinks}
-use Rattle.model.specs.Paths.{numberIn}
 use Rattle.model.specs.Lists.{isLinked, range, keep, cuesAfter, isOut, isInto, overwrite}
 use Rattle.theory.specs.Accepted.{Show}
-use Rattle.theory.specs.WellFormed.{GoodBlock, Good, more}
+use Rattle.theory.specs.WellFormed.{Good, more}
 use Rattle.theory.specs.Lists.{Leads}
-use Rattle.theory.proofs.Choices.{lt-then, lt-else, eq-then, eq-else, true-then, true-else}
+use Rattle.theory.proofs.Choices.{lt-then, lt-else, true-then, true-else}
 use Rattle.theory.proofs.Members.{map-mem, range-length}
 use Rattle.theory.proofs.AtBlock.{links-hit, links-skip}
-use Rattle.theory.proofs.Ranges.{Within, inner, join, Spot, Copy, number, uses-copy, cueAt-own, links-within, all-links, extent}
+use Rattle.theory.proofs.Ranges.{Within, inner, join, Spot, number, uses-copy, cueAt-own, links-within, extent}
 use Rattle.theory.proofs.BlockAt.{spot, links-at, ownOf-at, joinsOf-at, total-at}
 use Rattle.theory.proofs.Lists.{linked}
 use Rattle.theory.proofs.Locality.{Sound, Low, Numbered, Under, under-link, link-under, under-numbered, show-spot, show-sound, show-links-at, show-count}
-use Rattle.theory.proofs.Trails.{after, Steps, steps-after, Arrives, arrives}
+use Rattle.theory.proofs.Trails.{after, steps-after, Arrives, arrives}
 use Rattle.model.specs.Verdicts.{verdict}
 use Rattle.model.specs.declared.Verdict.the-variants.{Accepted}
 use Rattle.theory.proofs.Accepted.{accepted-show}
 use Rattle.rules.specs.Index.{Indexed}
 use Rattle.marks.specs.declared.Ask.{Ask}
 use Rattle.links.specs.declared.Listed.{Listed}
-use Rattle.marks.specs.Picks.{nearEnd, here, there, fits, picks, Picked, wants, wanted}
+use Rattle.marks.specs.Picks.{nearEnd, there, fits, picks, Picked, wants, wanted}
 use Rattle.marks.specs.Ground.{Ground}
-use Rattle.links.specs.Pages.{Filled, puts, Gives}
+use Rattle.links.specs.Pages.{Filled, Gives}
 use Rattle.links.specs.Stands.{Standing, Trail}
 use Rattle.links.specs.Answer.{cueOf, linkedCues, labelledCues, IsListed, MayAnswer, Answered}
 use Rattle.theory.proofs.Keeping.{keep-short, keep-same}

@@ -1,12 +1,12 @@
 -- The list of a cue, in the model's words, and what the walk from its copy gives.
-use Prim.Native.Nat.{ℕ, zero, suc, _+_, _≤_, _<_, min}
+use Prim.Native.Nat.{ℕ, _+_, _≤_, _<_, min}
 use mathlib.Core.Path.{_≡_}
 use mathlib.Core.Bool.{Bool, false}
-use mathlib.Core.List.{List, [], _∷_}
-use lib.ListN.{length, getD, take}
+use mathlib.Core.List.{List}
+use lib.ListN.{length, take}
 use lib.Dec.{ltb}
 use Rattle.model.specs.Choice.{ifTrue}
-use Rattle.model.specs.Blocks.{Block, joinsOf, ownOf, total, lastBlock, count, blocksOf}
+use Rattle.model.specs.Blocks.{Block, joinsOf, ownOf, total, lastBlock, count}
 use Rattle.model.specs.Unfolding.{links, showLinks}
 use Rattle.model.specs.Paths.{numberIn}
 use Rattle.model.specs.Lists.{cuesAfter, isOut, isInto, overwrite}

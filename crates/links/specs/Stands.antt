@@ -4,7 +4,7 @@ use mathlib.Core.Path.{_≡_}
 use mathlib.Core.List.{List, [], _∷_, _++_}
 use lib.ListN.{length, getD, take}
 use Rattle.model.specs.Rows.{cell}
-use Rattle.model.specs.Blocks.{Block, blockAt, joinsOf, ownOf, total, blocksOf}
+use Rattle.model.specs.Blocks.{Block, blockAt, joinsOf, total}
 use Rattle.model.specs.Unfolding.{cueAt}
 use Rattle.theory.proofs.BlockAt.{spot}
 use Rattle.theory.proofs.Locality.{show-spot}

@@ -2,13 +2,12 @@
 use Prim.Native.Nat.{ℕ, zero, suc, _+_, _-_, _≤_, _<_}
 use mathlib.Core.Path.{_≡_}
 use mathlib.Core.List.{List, [], _∷_, _++_}
-use lib.ListN.{length, getD, take}
+use lib.ListN.{length, take}
 use Rattle.model.specs.Choice.{ifLt, ifEq}
 use Rattle.model.specs.Rows.{cell}
-use Rattle.model.specs.Blocks.{Use, Block, blockAt, joinsOf, ownOf, sumOver, total, blocksOf}
+use Rattle.model.specs.Blocks.{Block, blockAt, joinsOf, ownOf, sumOver, total, blocksOf}
 use Rattle.model.specs.Unfolding.{links}
-use Rattle.theory.specs.WellFormed.{Cue}
-use Rattle.theory.proofs.Ranges.{Copy, number}
+use Rattle.theory.proofs.Ranges.{number}
 use Rattle.theory.proofs.BlockAt.{spot}
 use Rattle.theory.proofs.Locality.{Sound, Part}
 use Rattle.rules.specs.Index.{useAt}

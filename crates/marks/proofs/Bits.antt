@@ -1,7 +1,7 @@
 -- Laws of bits.
-use Prim.Native.Nat.{ℕ, zero, suc, _+_, _*_, _/_, _%_, _^_, _≤_, _<_, max}
+use Prim.Native.Nat.{ℕ, zero, suc, _*_, _/_, _%_, _^_, _<_, max}
 use native.Mathlib.Omega.{arith}
-use native.Mathlib.Nat.{div-one, div-div-eq-div-mul, pow-succ', max-zero, mod-lt}
+use native.Mathlib.Nat.{div-one, div-div-eq-div-mul, pow-succ', max-zero}
 use mathlib.Core.Path.{_≡_, refl, sym, _∙_, ap}
 use lib.Bits.{bitOr, or-step, or-zero-r, shifted-half, shifted-even}
 use Rattle.marks.specs.Ground.{bitAt, setBit}

@@ -3,17 +3,15 @@ use Prim.Native.Nat.{ℕ, zero, suc, _+_, _*_, _-_, _≤_, _<_}
 use native.Mathlib.Omega.{arith}
 use mathlib.Core.Path.{_≡_, refl, sym, _∙_, ap}
 use mathlib.Core.List.{List, [], _∷_, _++_, List·Memᴰ, List·Memᴰ·head, List·Memᴰ·tail}
-use lib.ListN.{length, getD, take, List·getD-eq-default}
+use lib.ListN.{length, getD, List·getD-eq-default}
 use lib.Seq.{getD-take}
-use Rattle.model.specs.Limits.{maxJoins, maxOwn}
-use Rattle.model.specs.Rows.{Row, cell, rowAt, rowCount}
-use Rattle.model.specs.Blocks.{Link, Use, Block, blockAt, joinsOf, ownOf, total, blocksOf}
-use Rattle.theory.specs.Accepted.{Show}
-use Rattle.theory.specs.WellFormed.{Cue, GoodBlock, GoodUse}
+use Rattle.model.specs.Rows.{cell, rowAt}
+use Rattle.model.specs.Blocks.{Use, Block, blockAt, joinsOf, ownOf, total, blocksOf}
+use Rattle.theory.specs.WellFormed.{Cue, GoodUse}
 use Rattle.theory.proofs.BlockAt.{good-at, lower-at, joinsOf-at, ownOf-at}
 use Rattle.theory.proofs.Members.{distinct-apart, getD-mem}
 use Rattle.theory.proofs.AtBlock.{joins-small}
-use Rattle.rules.specs.Index.{linkAt, linksFrom, useAt, usesFrom, blockFrom, IndexedBlock, Indexed}
+use Rattle.rules.specs.Index.{linksFrom, useAt, usesFrom, blockFrom}
 use Rattle.marks.specs.Ground.{Ground, UseRow}
 
 -- What stands behind the end.

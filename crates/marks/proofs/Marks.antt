@@ -7,18 +7,18 @@ use mathlib.Core.Logic.{_↔_, _⊎_, inl, inr}
 use mathlib.Core.Bool.{Bool, true, false, true≢false}
 use mathlib.Core.List.{List, [], _∷_, _++_, List·Memᴰ, List·Memᴰ·head, List·Memᴰ·append-cases, List·Memᴰ·eq-of-singleton, List·Memᴰ·not-nil, Memᴰ·append-left, Memᴰ·append-right}
 use lib.ListN.{length, getD, set, length-set, replicate, length-replicate, getD-replicate}
-use lib.Seq.{set-out, getD-set-same, getD-set-other}
+use lib.Seq.{getD-set-same, getD-set-other}
 use Rattle.model.specs.Rows.{cell}
-use Rattle.model.specs.Blocks.{Link, Use, Block, blockAt, joinsOf, ownOf, blocksOf}
+use Rattle.model.specs.Blocks.{Use, Block, blockAt, joinsOf, ownOf, blocksOf}
 use Rattle.theory.proofs.BlockAt.{ownOf-at}
 use Rattle.theory.proofs.Choices.{lt-then, lt-else}
 use Rattle.rules.specs.Index.{linkAt, linksFrom, useAt, usesFrom}
 use Rattle.marks.specs.declared.Ask.{Ask}
-use Rattle.marks.specs.Picks.{nearEnd, here, there, fits, IsLink, Picked}
-use Rattle.marks.specs.Near.{Flag, Near, by-link, by-use, IsColumn, ByRow, ByUse, ByUses, Quiet, UseMarked, UsesMarked, Marks}
-use Rattle.marks.specs.Ground.{Ground, UseRow, bitAt, setBit, ownBit, markOf, On, HasPlace, Coarse, IsCue, Added, PlaceIs}
+use Rattle.marks.specs.Picks.{nearEnd, there, fits, IsLink, Picked}
+use Rattle.marks.specs.Near.{Near, by-link, by-use, IsColumn, ByRow, ByUse, ByUses, Quiet, UseMarked, UsesMarked, Marks}
+use Rattle.marks.specs.Ground.{Ground, UseRow, bitAt, setBit, ownBit, markOf, On, HasPlace, IsCue, Added, PlaceIs}
 use Rattle.marks.proofs.Bits.{set-same, set-other, bit-none}
-use Rattle.marks.proofs.Ground.{use-block, use-column, usesFrom-snoc, links-rows, uses-rows, joins-few, rows-few}
+use Rattle.marks.proofs.Ground.{use-block, use-column, usesFrom-snoc, links-rows}
 
 -- The same marks, said otherwise.
 pub added-like : {own : ℕ} {P R : ℕ → Type 0} (s w : List ℕ) → Added own P s w → ((u : ℕ) → P u → R u) → ((u : ℕ) → R u → P u) → Added own R s w

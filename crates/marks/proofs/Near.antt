@@ -1,25 +1,23 @@
 -- What a block's own rows and the table say of a copy of it: which of its cues are linked, that nothing inside is, and what the parts of
 -- the copy add to the list of a cue.
-use Prim.Native.Nat.{ℕ, zero, suc, _+_, _-_, _*_, _/_, _%_, _≤_, _<_}
+use Prim.Native.Nat.{ℕ, _+_, _-_, _*_, _/_, _%_, _≤_, _<_}
 use native.Mathlib.Omega.{arith}
-use native.Mathlib.Decide.{decLt}
 use mathlib.Core.Path.{_≡_, refl, sym, _∙_, ap}
 use mathlib.Core.Logic.{_↔_, _⊎_, inl, inr}
-use mathlib.Core.Bool.{true}
-use mathlib.Core.List.{List, [], _∷_, _++_, map, List·Memᴰ, List·Memᴰ·append-cases, Memᴰ·append-left}
+use mathlib.Core.List.{List, [], List·Memᴰ, List·Memᴰ·append-cases, Memᴰ·append-left}
 use lib.ListN.{length, getD, length-map}
-use Rattle.model.specs.Blocks.{Link, Use, Block, blockAt, joinsOf, ownOf, sumOver, total}
-use Rattle.model.specs.Unfolding.{cueAt, renamed, links}
-use Rattle.theory.specs.WellFormed.{Cue, GoodLink, GoodUse}
+use Rattle.model.specs.Blocks.{Link, Use, Block, blockAt, joinsOf, ownOf, total}
+use Rattle.model.specs.Unfolding.{renamed, links}
+use Rattle.theory.specs.WellFormed.{Cue, GoodLink}
 use Rattle.theory.proofs.Members.{getD-mem, mem-at, map-mem, mem-map, getD-map-in}
-use Rattle.theory.proofs.Ranges.{Within, inner, join, Copy, copies-use, copies-of, Inside, uses-copy, links-within, Spot, Fit, number, own-links, part-links, all-links, extent, meets, size, Own, number-own, own-own, meets-own, part-use, arity, part-range, cueAt-own, cueAt-join}
+use Rattle.theory.proofs.Ranges.{Within, inner, join, Copy, copies-use, copies-of, Inside, uses-copy, links-within, Spot, number, own-links, part-links, all-links, meets, size, number-own, part-use, arity, cueAt-own, cueAt-join}
 use Rattle.theory.proofs.BlockAt.{spot, total-at, links-at, joinsOf-at, ownOf-at}
 use Rattle.theory.proofs.Locality.{Sound, Part, Numbered, part-spot, part-own, not-inside, link-part, part-link, number-apart, part-sound, part-total, numbered-cases}
 use Rattle.marks.specs.declared.Ask.{Ask}
-use Rattle.marks.specs.Picks.{here, there, fits, Picked, wanted}
+use Rattle.marks.specs.Picks.{here, there, Picked, wanted}
 use Rattle.marks.specs.Near.{Flag, Near, by-link, by-use, Known, Exact, Ready}
 use Rattle.marks.specs.Ground.{bitAt, ownBit}
-use Rattle.marks.proofs.Picked.{ends-here, ends-there, both-ends, here-renamed, there-renamed, wanted-none, wanted-same, wanted-low}
+use Rattle.marks.proofs.Picked.{ends-there, both-ends, here-renamed, there-renamed, wanted-none, wanted-same}
 
 -- The same link in another list.
 pub picked-in : {q : Ask} {E F : List Link} {v u : ℕ} (p : Picked q E v u) → List·Memᴰ (p .link) F → Picked q F v u

@@ -1,17 +1,16 @@
 -- Laws of the links that a question picks, and of the lists of the cues that they lead to.
-use Prim.Native.Nat.{ℕ, zero, suc, _+_, _-_, _≤_, _<_}
+use Prim.Native.Nat.{ℕ, suc, _+_, _≤_, _<_}
 use native.Mathlib.Omega.{arith}
 use native.Mathlib.Decide.{ℕ-discrete, decLt}
-use mathlib.Core.Path.{_≡_, refl, sym, _∙_, ap, ap₂}
+use mathlib.Core.Path.{_≡_, refl, sym, _∙_, ap}
 use mathlib.Core.Logic.{_↔_, _⊎_, inl, inr}
 use mathlib.Core.Bool.{Bool, true, false, true≢false, false≢true}
 use mathlib.Core.List.{List, [], _∷_, _++_, append-nil, List·Memᴰ, List·Memᴰ·head, List·Memᴰ·tail, List·Memᴰ·cases-cons, List·Memᴰ·not-nil}
-use Rattle.model.specs.Choice.{ifLt, ifEq, ifTrue}
+use Rattle.model.specs.Choice.{ifLt, ifTrue}
 use Rattle.model.specs.Blocks.{Link}
 use Rattle.model.specs.Unfolding.{renamed}
-use Rattle.model.specs.Lists.{isLinked, range, keep, cuesAfter, isOut, isInto}
+use Rattle.model.specs.Lists.{range, keep}
 use Rattle.theory.proofs.Choices.{eq-then, eq-else, true-then, true-else, lt-then, lt-else}
-use Rattle.theory.proofs.Members.{range-bounds}
 use Rattle.theory.proofs.Keeping.{keep-yes, keep-append, keep-none, keep-same, range-append}
 use Rattle.marks.specs.declared.Ask.{Ask}
 use Rattle.marks.specs.Picks.{nearEnd, here, there, fits, picks, Picked, wants, wanted}

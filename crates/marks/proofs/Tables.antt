@@ -1,10 +1,9 @@
 -- Laws of filling the table.
-use Prim.Native.Nat.{ℕ, zero, suc, _+_, _*_, _-_, _/_, _%_, _≤_, _<_}
+use Prim.Native.Nat.{ℕ, suc, _+_, _*_, _-_, _/_, _%_, _≤_, _<_}
 use native.Mathlib.Omega.{arith}
 use native.Mathlib.Decide.{ℕ-discrete, decLt}
 use mathlib.Core.Path.{_≡_, refl, sym, _∙_, ap}
 use mathlib.Core.Logic.{_↔_, _⊎_, inl, inr}
-use mathlib.Core.Bool.{Bool, true, false, true≢false}
 use mathlib.Core.List.{List, [], _∷_, _++_, List·Memᴰ, List·Memᴰ·append-cases, List·Memᴰ·eq-of-singleton, List·Memᴰ·not-nil}
 use lib.ListN.{length, getD, set, length-set, replicate, length-replicate, getD-replicate, List·getD-eq-default}
 use lib.Seq.{getD-set-same, getD-set-other}
@@ -15,11 +14,11 @@ use Rattle.theory.proofs.BlockAt.{ownOf-at}
 use Rattle.theory.proofs.Choices.{lt-then, lt-else}
 use Rattle.rules.specs.Index.{useAt, usesFrom, linksFrom}
 use Rattle.marks.specs.declared.Ask.{Ask}
-use Rattle.marks.specs.Near.{Flag, Near, ByUse, ByUses, Quiet, QuietAll, UseMarked, UsesMarked, Marks, Known, Exact, Done, DoneUse, DoneUses, Table, Ready, Kept, Copied, Settled, UseStep, UsesStep, MarksStep, RecordMade}
+use Rattle.marks.specs.Near.{Flag, Near, ByUses, UseMarked, UsesMarked, Known, Exact, Done, DoneUse, DoneUses, Table, Kept, Copied, Settled, UseStep, UsesStep, MarksStep, RecordMade}
 use Rattle.marks.specs.Ground.{Ground, UseRow, bitAt, ownBit, markOf, On, HasPlace, Added, PlaceIs}
 use Rattle.marks.specs.Picks.{Picked}
 use Rattle.marks.proofs.Marks.{added-like, uses-begin, uses-on, use-no, near-all}
-use Rattle.marks.proofs.Ground.{use-block, use-column, usesFrom-snoc, uses-rows, joins-few, own-few}
+use Rattle.marks.proofs.Ground.{use-block, use-column, usesFrom-snoc, uses-rows}
 use Rattle.marks.proofs.Near.{Right, known-near, exact-join, exact-same}
 
 -- The bytes of a record.

@@ -8,7 +8,7 @@ use lib.Bits.{bitOr}
 use Rattle.model.specs.Choice.{ifLt}
 use Rattle.model.specs.Rows.{cell}
 use Rattle.theory.specs.Accepted.{Show}
-use Rattle.model.specs.Blocks.{Use, blockAt, joinsOf, ownOf, blocksOf}
+use Rattle.model.specs.Blocks.{blockAt, joinsOf, ownOf, blocksOf}
 use Rattle.theory.proofs.Members.{Apart}
 use Rattle.rules.specs.Index.{useAt, Indexed}
 

@@ -4,8 +4,8 @@
 use Prim.Native.Nat.{ℕ, _+_, _*_, _≤_, _<_}
 use mathlib.Core.Path.{_≡_}
 use mathlib.Core.Logic.{_↔_}
-use mathlib.Core.Bool.{Bool, true, false}
-use mathlib.Core.List.{List, [], _∷_, List·Memᴰ}
+use mathlib.Core.Bool.{true}
+use mathlib.Core.List.{List, List·Memᴰ}
 use lib.ListN.{length, getD}
 use Rattle.model.specs.Rows.{cell}
 use Rattle.model.specs.Blocks.{Link, Use, Block, blockAt, joinsOf, ownOf, total}
