@@ -1,4 +1,4 @@
--- What the functions of the walk rest on: accepted rows and their index.
+-- Accepted rows and their index, which every function over them rests on, and what a record of marks has for the cues of a block.
 use Prim.Native.Nat.{ℕ, _+_, _-_, _*_, _/_, _%_, _^_, _≤_, _<_}
 use mathlib.Core.Path.{_≡_}
 use mathlib.Core.Logic.{_↔_, _⊎_}
@@ -12,6 +12,7 @@ use Rattle.model.specs.Blocks.{blockAt, joinsOf, ownOf, blocksOf}
 use Rattle.theory.proofs.Members.{Apart}
 use Rattle.rules.specs.Index.{useAt, Indexed}
 
+-- The rows are a show, and t is their index.
 pub record Ground (xs t : List ℕ) : Type 0 where
   pub show : Show xs
   pub indexed : Indexed xs t
