@@ -2,7 +2,7 @@
 use Prim.Native.Nat.{ℕ, suc, _+_, _*_, _-_, _≤_, _<_}
 use mathlib.Core.Path.{_≡_}
 use mathlib.Core.Bool.{Bool, true, false}
-use mathlib.Core.List.{List, _++_, flatMap}
+use mathlib.Core.List.{List, [], _++_, flatMap}
 use lib.ListN.{length, take}
 use Rattle.model.specs.Choice.{ifLt}
 use Rattle.model.specs.Blocks.{Block, blocksOf, count}
@@ -67,3 +67,9 @@ pub record Begins (file rows t out : List ℕ) (r : Begun) : Type 0 where
   pub size : r .more ≡ true → r .size ≤ length rows
   pub ready : r .more ≡ true → Prints (take (r .size) rows) t (r .blocks) (r .cues)
   pub text : r .more ≡ true → (m : List ℕ) → printed file ≡ take (r .used) out ++ restOf (blocksOf (take (r .size) rows)) m 0 (endOf (r .cues))
+
+-- Parts one after the other, from a place until nothing is left; and all that they put out.
+pub data Run (bs : List Block) : List ℕ → ℕ → ℕ → List ℕ → Type 0 where
+  ends : {m : List ℕ} {u p : ℕ} → isGoing (count bs) u p ≡ false → Run bs m u p []
+  goes : {m m′ out after rest : List ℕ} {u p : ℕ} {r : At} → Part bs u p m out r m′ after → Run bs m′ (r .from) (r .place) rest
+      → Run bs m u p (take (r .used) after ++ rest)
