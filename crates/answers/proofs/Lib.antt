@@ -1,3 +1,6 @@
-pub mod Places
-pub mod Laws
+-- The laws of the answers.
+pub mod Outcomes
+pub mod RefusalPlaces
+pub mod Answering
 pub mod Linked
+pub mod Distances

@@ -1,2 +1,2 @@
-pub mod Ready
-pub mod Linked
+-- What the answers say, in the model's words.
+pub mod Asked

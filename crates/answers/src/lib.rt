@@ -1,20 +1,8 @@
 // The answers to the questions about rows that were checked: each promise is an equation with the model's definition of the question, for
-// accepted rows.
-ghost use mathlib.Core.Path.{_≡_};
-ghost use Prim.Native.Nat.{_≤_, _<_};
-ghost use lib.ListN.{length};
-ghost use Rattle.model.specs.Answers.{ofRead, ofWrite, ofLocate, ofNumber, ofList, ofFewest};
-ghost use Rattle.model.specs.Rows.{rowsOf, fileText};
-ghost use Rattle.model.specs.Verdicts.{verdict, byLine};
-ghost use Rattle.model.specs.declared.Verdict.the-variants.{Accepted};
-ghost use Rattle.model.specs.Blocks.{blocksOf};
-ghost use Rattle.model.specs.Lists.{overwrite};
-ghost use Rattle.model.specs.Rules.{isCue};
-ghost use Rattle.model.specs.Questions.{outcome, readInto, writeInto, locateIn, numbered, showNumber, fewestIn};
-ghost use Rattle.cues.specs.Found.{Holds};
-ghost use Rattle.answers.specs.Ready.{Ready, readNumbers};
-ghost use Rattle.answers.specs.Linked.{listOf, ofAnswer, between};
-use distance::Answer;
+// a loaded show.
+//
+// `read_rows`, `write_rows`, `locate_in`, `number_in`, `list_of`, `fewest_in`.
+use blocks::INDEX;
 use model::FewestAnswer;
 use model::ListAnswer;
 use model::LocateAnswer;
@@ -23,53 +11,80 @@ use model::ReadAnswer;
 use model::Refusal;
 use model::Verdict;
 use model::WriteAnswer;
+ghost use mathlib.Core.Path.{_≡_};
+ghost use Prim.Native.Nat.{_≤_, _<_};
+ghost use lib.ListN.{length};
+ghost use Rattle.model.specs.Limits.{maxRows, workSize};
+ghost use Rattle.model.specs.Answers.{ofRead, ofWrite, ofLocate, ofNumber, ofList, ofFewest};
+ghost use Rattle.model.specs.Rows.{rowsOf, fileText};
+ghost use Rattle.model.specs.Verdicts.{verdict, byLine};
+ghost use Rattle.model.specs.declared.Verdict.the-variants.{Accepted};
+ghost use Rattle.model.specs.Blocks.{blocksOf};
+ghost use Rattle.model.specs.Lists.{overwrite};
+ghost use Rattle.model.specs.Rules.{isCue};
+ghost use Rattle.model.specs.Questions.{outcome, readInto, writeInto, locateIn, numbered, showNumber, fewestIn};
+ghost use Rattle.blocks.specs.Loaded.{Loaded};
+ghost use Rattle.answers.specs.Asked.{readNumbers, listOf, ShowCue, between};
 
-// Cue n of accepted rows.
-pub fn locate_in(
-    rows: &[u32],
-    table: &[u32; 512],
-    blocks: u32,
-    n: u32,
-    path: &mut [u32],
-) -> LocateAnswer
-    requires { ⌜ Ready (now rows) (now table) blocks ⌝ }
+// The values of a row, the least length of a lent path list, and that of a work area.
+const ROW: usize = 11;
+
+const DEPTH: usize = 127;
+
+const WORK: usize = 16384;
+
+// What the search says where no chain leads.
+const NO_CHAIN: u32 = 4294967295;
+
+// A place of the show in 32 bits.
+fn narrow(x: usize) -> u32
+    requires { ⌜ x < 4294967296 ⌝ }
+    ensures { λ r. ⌜ r ≡ x ⌝ }
+{
+    x as u32
+}
+
+// v is a cue of a show that has so many.
+fn is_cue(cues: u32, v: u32) -> bool
+    ensures { λ r. ⌜ r ≡ isCue cues v ⌝ }
+{
+    if v < 1 {
+        return false;
+    }
+    if cues < v {
+        return false;
+    }
+    true
+}
+
+// Cue n of a loaded show.
+pub fn locate_in(rows: &[u32], table: &[u32; INDEX], n: u32, path: &mut [u32]) -> LocateAnswer
+    requires { ⌜ Loaded (now rows) (now table) ⌝ }
     ensures { λ r. ⌜ outcome (ofLocate r) (now (path .exit)) ≡ locateIn (blocksOf (now (rows .entry))) n (now (path .entry)) ⌝ }
 {
-    if path.len() < 127 {
+    if path.len() < DEPTH {
         return LocateAnswer::Refused(Refusal {
             number: 11,
             place: 0,
         });
     }
-    let cues = rules::cues(table, blocks);
-    if n < 1 {
+    let known = is_cue(blocks::count(rows, table), n);
+    if !known {
         return LocateAnswer::Refused(Refusal {
             number: 12,
             place: 0,
         });
     }
-    if cues < n {
-        return LocateAnswer::Refused(Refusal {
-            number: 12,
-            place: 0,
-        });
-    }
-    let place = cues::locate(rows, table, blocks, n, path);
-    LocateAnswer::Found(place.depth, place.block, place.own)
+    let place = paths::locate(rows, table, n, path);
+    LocateAnswer::Found(narrow(place.depth), narrow(place.block), place.own)
 }
 
-// The number of a path and an own cue of accepted rows.
-pub fn number_in(
-    rows: &[u32],
-    table: &[u32; 512],
-    blocks: u32,
-    path: &[u32],
-    own: u32,
-) -> NumberAnswer
-    requires { ⌜ Ready (now rows) (now table) blocks ⌝ }
+// The number of a path and an own cue of a loaded show.
+pub fn number_in(rows: &[u32], table: &[u32; INDEX], path: &[u32], own: u32) -> NumberAnswer
+    requires { ⌜ Loaded (now rows) (now table) ⌝ }
     ensures { λ r. ⌜ ofNumber r ≡ numbered (showNumber (blocksOf (now (rows .entry))) (now (path .entry)) own) ⌝ }
 {
-    let n = cues::number(rows, table, blocks, path, own);
+    let n = paths::number(rows, table, path, own);
     if n == 0 {
         return NumberAnswer::Refused(Refusal {
             number: 13,
@@ -81,7 +96,7 @@ pub fn number_in(
 
 // The refusal of a row, by its line in the file.
 fn by_line(refusal: Refusal) -> Refusal
-    requires { ⌜ refusal .place ≤ 1024 ⌝ }
+    requires { ⌜ refusal .place ≤ maxRows ⌝ }
     ensures { λ r. ⌜ r ≡ byLine refusal ⌝ }
 {
     if refusal.number < 5 {
@@ -105,9 +120,9 @@ fn copy(from: &[u32], to: &mut [u32])
     }
 }
 
-// Accepted rows that a file has, handed out.
-fn hand_out(numbers: &[u32], table: &[u32; 512], blocks: u32, rows: &mut [u32]) -> ReadAnswer
-    requires { ⌜ Ready (now numbers) (now table) blocks ⌝ }
+// The rows of a loaded show that a file has, handed out.
+fn hand_out(numbers: &[u32], table: &[u32; INDEX], rows: &mut [u32]) -> ReadAnswer
+    requires { ⌜ Loaded (now numbers) (now table) ⌝ }
     ensures { λ r. ⌜ outcome (ofRead r) (now (rows .exit)) ≡ readInto (now (numbers .entry)) (now (rows .entry)) ⌝ }
 {
     if rows.len() < numbers.len() {
@@ -117,20 +132,18 @@ fn hand_out(numbers: &[u32], table: &[u32; 512], blocks: u32, rows: &mut [u32]) 
         });
     }
     copy(numbers, rows);
-    let many = numbers.len() / 11;
-    ReadAnswer::Read(many as u32, blocks, rules::cues(table, blocks))
+    let many = narrow(numbers.len() / ROW);
+    let blocks = narrow(blocks::last(numbers, table) + 1);
+    ReadAnswer::Read(many, blocks, blocks::count(numbers, table))
 }
 
 // The rows that a file has, checked and handed out.
 pub fn read_rows(numbers: &[u32], rows: &mut [u32]) -> ReadAnswer
     ensures { λ r. ⌜ outcome (ofRead r) (now (rows .exit)) ≡ readNumbers (now (numbers .entry)) (now (rows .entry)) ⌝ }
 {
-    let mut table = [0u32; 512];
-    let checked = rules::check(numbers, &mut table);
-    let blocks = checked.blocks;
-    let verdict = checked.verdict;
-    match verdict {
-        Verdict::Accepted => hand_out(numbers, &table, blocks, rows),
+    let mut table = [0u32; INDEX];
+    match verdicts::check(numbers, &mut table) {
+        Verdict::Accepted => hand_out(numbers, &table, rows),
         Verdict::Refused(refusal) => ReadAnswer::Refused(by_line(refusal)),
     }
 }
@@ -140,7 +153,7 @@ pub fn write_rows(rows: &[u32], out: &mut [u8]) -> WriteAnswer
     requires { ⌜ verdict (now rows) ≡ Accepted ⌝ }
     ensures { λ r. ⌜ outcome (ofWrite r) (now (out .exit)) ≡ writeInto (fileText (rowsOf (now (rows .entry)))) (now (out .entry)) ⌝ }
 {
-    let many = rows.len() / 11;
+    let many = rows.len() / ROW;
     let size = codec::measure(rows, many);
     if out.len() < size {
         return WriteAnswer::Refused(Refusal {
@@ -149,129 +162,69 @@ pub fn write_rows(rows: &[u32], out: &mut [u8]) -> WriteAnswer
         });
     }
     codec::emit(rows, many, out);
-    WriteAnswer::Written(size as u32)
+    WriteAnswer::Written(narrow(size))
 }
 
-// v is a cue of a show that has so many.
-fn is_cue(cues: u32, v: u32) -> bool
-    ensures { λ r. ⌜ r ≡ isCue cues v ⌝ }
-{
-    if v < 1 {
-        return false;
-    }
-    if cues < v {
-        return false;
-    }
-    true
-}
-
-// A number of 32 bits as a place.
-fn wide(x: u32) -> usize
-    ensures { λ r. ⌜ (r ≡ x) × (r < 4294967296) ⌝ }
-{
-    x as usize
-}
-
-// The list of cue v of accepted rows.
+// The list of cue v of a loaded show.
 pub fn list_of(
     rows: &[u32],
-    table: &[u32; 512],
-    blocks: u32,
+    table: &[u32; INDEX],
     inward: bool,
     v: u32,
     n: u32,
     page: &mut [u32],
 ) -> ListAnswer
-    requires { ⌜ Ready (now rows) (now table) blocks ⌝ }
+    requires { ⌜ Loaded (now rows) (now table) ⌝ }
     ensures { λ r. ⌜ outcome (ofList r) (now (page .exit)) ≡ listOf inward (blocksOf (now (rows .entry))) v n (now (page .entry)) ⌝ }
 {
-    let known = is_cue(rules::cues(table, blocks), v);
+    let known = is_cue(blocks::count(rows, table), v);
     if !known {
         return ListAnswer::Refused(Refusal {
             number: 12,
             place: 0,
         });
     }
-    let mut path = [0u32; 127];
-    let place = cues::find(rows, table, blocks, v, &mut path);
-    let depth = wide(place.depth);
-    let listed = links::list(
-        rows,
-        table,
-        blocks,
-        inward,
-        &path,
-        depth,
-        place.own,
-        n,
-        page,
-    );
+    let mut way = [0u32; DEPTH];
+    let place = paths::find(rows, table, v, &mut way);
+    let listed = lists::list(rows, table, inward, place, &way, n, page);
     ListAnswer::Page(listed.written, listed.more)
 }
 
-// The answer of the search, as an answer of the library.
-fn told(answer: Answer) -> FewestAnswer
-    ensures { λ r. ⌜ ofFewest r ≡ ofAnswer answer ⌝ }
-{
-    match answer {
-        Answer::Steps(n) => FewestAnswer::Steps(n),
-        Answer::None => FewestAnswer::None,
-    }
-}
-
-// The fewest follow-ons between two cues of accepted rows. The work area is large enough.
-fn least(
-    rows: &[u32],
-    table: &[u32; 512],
-    blocks: u32,
-    s: u32,
-    t: u32,
-    work: &mut [u32],
-) -> FewestAnswer
-    requires { ⌜ Holds (now rows) (now table) blocks s × Holds (now rows) (now table) blocks t × (16384 ≤ length (now work)) ⌝ }
+// The fewest follow-ons between two cues of a loaded show. The work area is large enough.
+fn least(rows: &[u32], table: &[u32; INDEX], s: u32, t: u32, work: &mut [u32]) -> FewestAnswer
+    requires { ⌜ Loaded (now rows) (now table) × ShowCue (now rows) s × ShowCue (now rows) t × (workSize ≤ length (now work)) ⌝ }
     ensures { λ r. ⌜ outcome (ofFewest r) (now (work .exit)) ≡ between (blocksOf (now (rows .entry))) s t (now (work .entry)) ⌝ }
 {
-    let mut from = [0u32; 127];
-    let start = cues::find(rows, table, blocks, s, &mut from);
-    let mut to = [0u32; 127];
-    let end = cues::find(rows, table, blocks, t, &mut to);
-    let many = wide(blocks);
-    distance::summarise(rows, table, many, work);
-    let deep = wide(start.depth);
-    let depth = wide(end.depth);
-    told(distance::fewest(
-        rows,
-        table,
-        many,
-        &from,
-        deep,
-        start.own,
-        &to,
-        depth,
-        end.own,
-        work,
-    ))
+    let mut up = [0u32; DEPTH];
+    let from = paths::find(rows, table, s, &mut up);
+    let mut down = [0u32; DEPTH];
+    let to = paths::find(rows, table, t, &mut down);
+    distance::summarise(rows, table, work);
+    let steps = distance::fewest(rows, table, from, &up, to, &down, work);
+    if steps < NO_CHAIN {
+        return FewestAnswer::Steps(steps);
+    }
+    FewestAnswer::None
 }
 
-// The fewest follow-ons from cue s to cue t of accepted rows.
+// The fewest follow-ons from cue s to cue t of a loaded show.
 pub fn fewest_in(
     rows: &[u32],
-    table: &[u32; 512],
-    blocks: u32,
+    table: &[u32; INDEX],
     s: u32,
     t: u32,
     work: &mut [u32],
 ) -> FewestAnswer
-    requires { ⌜ Ready (now rows) (now table) blocks ⌝ }
+    requires { ⌜ Loaded (now rows) (now table) ⌝ }
     ensures { λ r. ⌜ outcome (ofFewest r) (now (work .exit)) ≡ fewestIn (blocksOf (now (rows .entry))) s t (now (work .entry)) ⌝ }
 {
-    if work.len() < 16384 {
+    if work.len() < WORK {
         return FewestAnswer::Refused(Refusal {
             number: 11,
             place: 0,
         });
     }
-    let cues = rules::cues(table, blocks);
+    let cues = blocks::count(rows, table);
     let starts = is_cue(cues, s);
     if !starts {
         return FewestAnswer::Refused(Refusal {
@@ -286,5 +239,5 @@ pub fn fewest_in(
             place: 0,
         });
     }
-    least(rows, table, blocks, s, t, work)
+    least(rows, table, s, t, work)
 }

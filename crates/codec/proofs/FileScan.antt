@@ -10,11 +10,12 @@ use lib.ListN.{length, getD, drop, drop-of-length-le, length-drop}
 use lib.Seq.{drop-cons, drop-drop}
 use Rattle.model.specs.Text.{isDigit, run, afterRun, decimal, LineValues, Values as Says, Malformed as Mute, valuesOf, linesOf, digits, lineText, ends}
 use Rattle.model.specs.Verdicts.{refusal, Unread, rowThen, readLines}
-use Rattle.theory.specs.Files.{Each, Small, Other, Reads, Said}
-use Rattle.theory.proofs.Choices.{lt-then, lt-first, eq-then, eq-first, true-then, true-first}
-use Rattle.theory.proofs.Digits.{digits-read, digits-written}
-use Rattle.theory.proofs.Lines.{line-read, line-written, lines-first, lines-flatten, text-line, ends-line, ends-other}
-use Rattle.codec.specs.Scanning.{endedAt, valueAt, Found, Values, Broken, behind, lineAt}
+use Rattle.basics.specs.Members.{Each}
+use Rattle.shows.specs.Files.{Small, Other, Reads, Said}
+use Rattle.basics.proofs.Choices.{lt-then, lt-first, eq-then, eq-first, true-then, true-first}
+use Rattle.shows.proofs.Digits.{digits-read, digits-written}
+use Rattle.shows.proofs.Lines.{line-read, line-written, lines-first, lines-flatten, text-line, ends-line, ends-other}
+use Rattle.codec.specs.Scanning.{endedAt, valueAt, ValueFound, Values, Broken, behind, lineAt}
 use Rattle.codec.specs.declared.Field.{Field}
 use Rattle.codec.specs.declared.Field.the-variants.{Value, Bad}
 use Rattle.codec.proofs.LineScan.{line-first, line-none}
@@ -91,7 +92,7 @@ pub record LineText (es f : List ℕ) (at : ℕ) (vs : List ℕ) (next : ℕ) : 
   pub on : at + length es ≤ next
   pub inside : at ≤ length f → next ≤ length f
 
-found-is : (v : ℕ) (k : Found) (vs : List ℕ) (next : ℕ) → behind (v ∷ []) k ≡ Values vs next
+found-is : (v : ℕ) (k : ValueFound) (vs : List ℕ) (next : ℕ) → behind (v ∷ []) k ≡ Values vs next
     → (ws : List ℕ) × (k ≡ Values ws next) × (vs ≡ v ∷ ws)
 unfolding behind
 found-is v (Values ws n) vs next e = (ws, (cc), (cc))

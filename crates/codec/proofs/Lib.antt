@@ -8,3 +8,4 @@ pub mod Stores
 pub mod DigitStores
 pub mod Spills
 pub mod RowStores
+pub mod Again

@@ -9,10 +9,10 @@ use lib.Seq.{drop-cons}
 use Rattle.model.specs.Choice.{ifEq}
 use Rattle.model.specs.Text.{names, linesOf}
 use Rattle.model.specs.Verdicts.{refusal, Unread, readLines, same, readAll}
-use Rattle.theory.proofs.Choices.{lt-else, lt-second, eq-then, eq-else, true-then, true-else}
-use Rattle.theory.proofs.Files.{same-refl, same-is}
-use Rattle.theory.proofs.Lines.{lines-first, lines-flatten, names-line}
-use Rattle.codec.specs.Scanning.{startsNamed}
+use Rattle.basics.proofs.Choices.{lt-else, lt-second, eq-then, eq-else, true-then, true-else}
+use Rattle.shows.proofs.Files.{same-refl, same-is}
+use Rattle.shows.proofs.Lines.{lines-first, lines-flatten, names-line}
+use Rattle.codec.specs.Scanning.{namesSize, startsNamed}
 
 -- Two lists byte by byte, from place i on.
 module _ (a b : List ℕ) (n : ℕ) where
@@ -45,19 +45,19 @@ starts-with : (g : List ℕ) → startsNamed (names ++ g) ≡ true
 unfolding startsNamed names
 starts-with g = lt-else _ _ _ _ (omega arith) ∙ same-refl names
 
-starts-is : (f : List ℕ) → startsNamed f ≡ true → f ≡ names ++ drop 33 f
+starts-is : (f : List ℕ) → startsNamed f ≡ true → f ≡ names ++ drop namesSize f
 unfolding startsNamed names
 starts-is f e =
     let (h, q) = lt-second _ _ _ _ _ false≢true e in
-    let t : take 33 f ≡ names = same-is _ _ q in
-    sym (take-append-drop 33 f) ∙ ap (λ (l : List ℕ). l ++ drop 33 f) t
+    let t : take namesSize f ≡ names = same-is _ _ q in
+    sym (take-append-drop namesSize f) ∙ ap (λ (l : List ℕ). l ++ drop namesSize f) t
 
 -- The lines behind it are read from the second on.
-pub named-read : (f : List ℕ) → startsNamed f ≡ true → readAll (linesOf f) ≡ readLines 2 (linesOf (drop 33 f))
+pub named-read : (f : List ℕ) → startsNamed f ≡ true → readAll (linesOf f) ≡ readLines 2 (linesOf (drop namesSize f))
 unfolding readAll
 named-read f e =
     ap (λ (t : List ℕ). readAll (linesOf t)) (starts-is f e)
-    ∙ ap readAll (lines-first names-line (drop 33 f))
+    ∙ ap readAll (lines-first names-line (drop namesSize f))
     ∙ true-then _ _ _ (same-refl names)
 
 -- Otherwise nothing is read.
@@ -75,6 +75,6 @@ unnamed-read f e = go (linesOf f) refl
     go [] p = refl
     go (l ∷ ls) p = true-else _ _ _ (other l ls (same l names) p refl)
 
-pub named-long : (f : List ℕ) → startsNamed f ≡ true → 33 ≤ length f
+pub named-long : (f : List ℕ) → startsNamed f ≡ true → namesSize ≤ length f
 unfolding startsNamed names
 named-long f e = let (h, q) = lt-second _ _ _ _ _ false≢true e in h

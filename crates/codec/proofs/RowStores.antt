@@ -6,10 +6,12 @@ use native.Mathlib.Omega.{arith}
 use native.Mathlib.Numerals.{add-one}
 use lib.ListN.{length, getD, take, drop, set, length-append, length-drop, take-append-drop, drop-of-length-le}
 use lib.Seq.{length-take-le, drop-cons, drop-drop, take-add, take-all, take-suc, getD-take, getD-drop}
+use Rattle.model.specs.Limits.{rowSize}
 use Rattle.model.specs.Text.{comma, lineFeed, names, ends, digits, lineText}
 use Rattle.model.specs.Rows.{Row, cell, rowAt, rowsFrom, rowValues, rowLines, fileText}
 use Rattle.model.specs.Lists.{overwrite}
-use Rattle.theory.proofs.FlatRows.{first-values}
+use Rattle.shows.proofs.FlatRows.{first-values}
+use Rattle.codec.specs.Scanning.{namesSize}
 use Rattle.codec.specs.Writing.{valueText, rowText, Puts, Spills}
 use Rattle.codec.proofs.Values.{comma-at, feed-at}
 use Rattle.codec.proofs.Spills.{Spilled, spilled-begin, spilled-on, spilled-end, spilled-room, text-some}
@@ -25,40 +27,40 @@ use Rattle.codec.proofs.Stores.{
 }
 
 -- A row's values are eleven of the lent numbers.
-moved : (xs : List ℕ) (r : ℕ) → rowAt (drop (r * 11) xs) 0 ≡ rowAt xs r
+moved : (xs : List ℕ) (r : ℕ) → rowAt (drop (r * rowSize) xs) 0 ≡ rowAt xs r
 unfolding rowAt cell
 moved xs r = simp getD-drop
 
-row-values : (xs : List ℕ) (r : ℕ) → r * 11 + 11 ≤ length xs → rowValues (rowAt xs r) ≡ take 11 (drop (r * 11) xs)
+row-values : (xs : List ℕ) (r : ℕ) → r * rowSize + rowSize ≤ length xs → rowValues (rowAt xs r) ≡ take rowSize (drop (r * rowSize) xs)
 row-values xs r h =
-    let ys = drop (r * 11) xs in
-    let long : length (take 11 ys) ≡ 11 = length-take-le 11 ys (rw (length-drop (r * 11) xs) (omega arith)) in
+    let ys = drop (r * rowSize) xs in
+    let long : length (take rowSize ys) ≡ rowSize = length-take-le rowSize ys (rw (length-drop (r * rowSize) xs) (omega arith)) in
     ap rowValues (sym (moved xs r))
-    ∙ rw (take-append-drop 11 ys) at (first-values (take 11 ys) (drop 11 ys) long)
+    ∙ rw (take-append-drop rowSize ys) at (first-values (take rowSize ys) (drop rowSize ys) long)
 
-row-long : (xs : List ℕ) (r : ℕ) → length (rowValues (rowAt xs r)) ≡ 11
+row-long : (xs : List ℕ) (r : ℕ) → length (rowValues (rowAt xs r)) ≡ rowSize
 unfolding rowValues rowAt
 row-long xs r = refl
 
-value-at : (xs : List ℕ) (r c : ℕ) → r * 11 + 11 ≤ length xs → c < 11
-    → getD (rowValues (rowAt xs r)) c 0 ≡ getD xs (r * 11 + c) 0
-value-at xs r c h k = rw (row-values xs r h) (getD-take 11 (drop (r * 11) xs) c 0 k ∙ getD-drop (r * 11) xs c 0)
+value-at : (xs : List ℕ) (r c : ℕ) → r * rowSize + rowSize ≤ length xs → c < rowSize
+    → getD (rowValues (rowAt xs r)) c 0 ≡ getD xs (r * rowSize + c) 0
+value-at xs r c h k = rw (row-values xs r h) (getD-take rowSize (drop (r * rowSize) xs) c 0 k ∙ getD-drop (r * rowSize) xs c 0)
 
 -- What is left of a row's line from value c on.
 unfoldable pub rowLeft : List ℕ → ℕ → ℕ → List ℕ
 rowLeft xs r c = lineText (drop c ends) (drop c (rowValues (rowAt xs r)))
 
-row-next : (xs : List ℕ) (r c : ℕ) → r * 11 + 11 ≤ length xs → c < 11
-    → rowLeft xs r c ≡ valueText (getD xs (r * 11 + c) 0) (getD ends c 10) ++ rowLeft xs r (c + 1)
+row-next : (xs : List ℕ) (r c : ℕ) → r * rowSize + rowSize ≤ length xs → c < rowSize
+    → rowLeft xs r c ≡ valueText (getD xs (r * rowSize + c) 0) (getD ends c lineFeed) ++ rowLeft xs r (c + 1)
 unfolding rowLeft valueText lineText ends
 row-next xs r c h k =
     let vs = rowValues (rowAt xs r) in
-    let v : getD vs c 0 ≡ getD xs (r * 11 + c) 0 = value-at xs r c h k in
+    let v : getD vs c 0 ≡ getD xs (r * rowSize + c) 0 = value-at xs r c h k in
     let long : c < length vs = omega (arith, row-long xs r) in
     rw (add-one, drop-cons ends c 10 k, drop-cons vs c 0 long, v)
-    (sym (append-assoc (digits (getD xs (r * 11 + c) 0)) (getD ends c 10 ∷ []) (lineText (drop (suc c) ends) (drop (suc c) vs))))
+    (sym (append-assoc (digits (getD xs (r * rowSize + c) 0)) (getD ends c lineFeed ∷ []) (lineText (drop (suc c) ends) (drop (suc c) vs))))
 
-row-done : (xs : List ℕ) (r c : ℕ) → 11 ≤ c → rowLeft xs r c ≡ []
+row-done : (xs : List ℕ) (r c : ℕ) → rowSize ≤ c → rowLeft xs r c ≡ []
 unfolding rowLeft lineText ends
 row-done xs r c k = rw (drop-of-length-le ends {i = c} k)
 
@@ -67,46 +69,46 @@ pub row-begin : (xs : List ℕ) (r from : ℕ) (o : List ℕ) → Spilled (rowTe
 unfolding rowText rowLeft
 row-begin xs r from o = spilled-begin _ o from
 
-row-some : (xs : List ℕ) (r c : ℕ) → r * 11 + 11 ≤ length xs → c < 11 → 2 ≤ length (rowLeft xs r c)
+row-some : (xs : List ℕ) (r c : ℕ) → r * rowSize + rowSize ≤ length xs → c < rowSize → 2 ≤ length (rowLeft xs r c)
 row-some xs r c h k =
-    let v = getD xs (r * 11 + c) 0 in
-    rw (row-next xs r c h k, length-append (valueText v (getD ends c 10)) (rowLeft xs r (c + 1)))
-    (omega (arith, text-some v (getD ends c 10)))
+    let v = getD xs (r * rowSize + c) 0 in
+    rw (row-next xs r c h k, length-append (valueText v (getD ends c lineFeed)) (rowLeft xs r (c + 1)))
+    (omega (arith, text-some v (getD ends c lineFeed)))
 
 module _
-    (xs : List ℕ) (r c from at : ℕ) (o p : List ℕ) (h : r * 11 + 11 ≤ length xs)
+    (xs : List ℕ) (r c from at : ℕ) (o p : List ℕ) (h : r * rowSize + rowSize ≤ length xs)
     (s : Spilled (rowText xs r) (rowLeft xs r c) o from at p)
   where
     module _ (k : c < 10) where
-      left : rowLeft xs r c ≡ valueText (getD xs (r * 11 + c) 0) comma ++ rowLeft xs r (c + 1)
+      left : rowLeft xs r c ≡ valueText (getD xs (r * rowSize + c) 0) comma ++ rowLeft xs r (c + 1)
       left = row-next xs r c h (omega arith) ∙ rw (← comma-at c k)
 
-      pub row-room : from + length (rowText xs r) ≤ length o → at + length (valueText (getD xs (r * 11 + c) 0) comma) + 2 ≤ length p
+      pub row-room : from + length (rowText xs r) ≤ length o → at + length (valueText (getD xs (r * rowSize + c) 0) comma) + 2 ≤ length p
       row-room l =
-          let v = getD xs (r * 11 + c) 0 in
+          let v = getD xs (r * rowSize + c) 0 in
           let g : at + length (valueText v comma) + length (rowLeft xs r (c + 1)) ≤ length p =
           spilled-room _ _ (valueText v comma) (rowLeft xs r (c + 1)) o p from at left (text-some v comma) s l in
           omega (arith, row-some xs r (c + 1) h (omega arith))
 
-      pub row-on : (q : List ℕ) (next : ℕ) → Spills (valueText (getD xs (r * 11 + c) 0) comma) p at next q
+      pub row-on : (q : List ℕ) (next : ℕ) → Spills (valueText (getD xs (r * rowSize + c) 0) comma) p at next q
           → Spilled (rowText xs r) (rowLeft xs r (c + 1)) o from next q
-      row-on q next t = spilled-on _ _ _ _ o p from at left (text-some (getD xs (r * 11 + c) 0) comma) s q next t
+      row-on q next t = spilled-on _ _ _ _ o p from at left (text-some (getD xs (r * rowSize + c) 0) comma) s q next t
 
     module _ (k : c ≤ 10) (m : 10 ≤ c) where
-      last : rowLeft xs r c ≡ valueText (getD xs (r * 11 + 10) 0) lineFeed ++ rowLeft xs r 11
+      last : rowLeft xs r c ≡ valueText (getD xs (r * rowSize + 10) 0) lineFeed ++ rowLeft xs r rowSize
       last = let e : c ≡ 10 = omega arith in rw e (row-next xs r 10 h (omega arith) ∙ rw (← feed-at 10 (omega arith)))
 
-      pub last-room : from + length (rowText xs r) ≤ length o → at + length (valueText (getD xs (r * 11 + 10) 0) lineFeed) ≤ length p
+      pub last-room : from + length (rowText xs r) ≤ length o → at + length (valueText (getD xs (r * rowSize + 10) 0) lineFeed) ≤ length p
       last-room l =
-          let v = getD xs (r * 11 + 10) 0 in
-          let g : at + length (valueText v lineFeed) + length (rowLeft xs r 11) ≤ length p =
-          spilled-room _ _ (valueText v lineFeed) (rowLeft xs r 11) o p from at last (text-some v lineFeed) s l in
+          let v = getD xs (r * rowSize + 10) 0 in
+          let g : at + length (valueText v lineFeed) + length (rowLeft xs r rowSize) ≤ length p =
+          spilled-room _ _ (valueText v lineFeed) (rowLeft xs r rowSize) o p from at last (text-some v lineFeed) s l in
           omega arith
 
-      pub row-end : (q : List ℕ) (next : ℕ) → Puts (valueText (getD xs (r * 11 + 10) 0) lineFeed) p at next q
+      pub row-end : (q : List ℕ) (next : ℕ) → Puts (valueText (getD xs (r * rowSize + 10) 0) lineFeed) p at next q
           → Puts (rowText xs r) o from next q
       row-end q next t =
-          spilled-end _ _ _ _ o p from at last (text-some (getD xs (r * 11 + 10) 0) lineFeed) s q next (row-done xs r 11 (omega arith)) t
+          spilled-end _ _ _ _ o p from at last (text-some (getD xs (r * rowSize + 10) 0) lineFeed) s q next (row-done xs r rowSize (omega arith)) t
 
 -- Bytes that are copied from the start on.
 pub copy-turn : (bs o p : List ℕ) (i : ℕ) → i < length bs → Puts (take i bs) o 0 i p
@@ -147,7 +149,7 @@ pub file-room : (xs : List ℕ) (n at : ℕ) (o p : List ℕ) → length (fileTe
 unfolding fileText
 file-room xs n at o p h s = room-next names (rowLines (rowsFrom xs 0 n)) _ o p 0 at refl (omega arith) s
 
-pub names-room : (ws : List Row) (m : ℕ) → length (fileText ws) ≤ m → 33 ≤ m
+pub names-room : (ws : List Row) (m : ℕ) → length (fileText ws) ≤ m → namesSize ≤ m
 unfolding fileText names
 names-room ws m h = omega (arith, length-append names (rowLines ws))
 
@@ -173,35 +175,35 @@ line-width [] (v ∷ vs) e = absurd (omega arith)
 line-width (c ∷ es) [] e = absurd (omega arith)
 line-width (c ∷ es) (v ∷ vs) e = rw (length-append (digits v) (c ∷ lineText es vs)) (omega (arith, line-width es vs (omega arith)))
 
-rows-width : (xs : List ℕ) (r n : ℕ) → (r + n) * 11 ≤ length xs
-    → length (rowLines (rowsFrom xs r n)) ≡ textWidth (take (n * 11) (drop (r * 11) xs))
+rows-width : (xs : List ℕ) (r n : ℕ) → (r + n) * rowSize ≤ length xs
+    → length (rowLines (rowsFrom xs r n)) ≡ textWidth (take (n * rowSize) (drop (r * rowSize) xs))
 unfolding rowLines rowsFrom textWidth ends
 rows-width xs r zero h = refl
 rows-width xs r (suc n) h =
-    let ys = drop (r * 11) xs in
-    let e : suc n * 11 ≡ 11 + n * 11 = omega arith in
-    let k : r * 11 + 11 ≡ (r + 1) * 11 = omega arith in
-    let t : take (suc n * 11) ys ≡ take 11 ys ++ take (n * 11) (drop ((r + 1) * 11) xs) =
-    rw e (take-add 11 (n * 11) ys ∙ rw (drop-drop 11 (r * 11) xs, k)) in
-    let a : length (lineText ends (rowValues (rowAt xs r))) ≡ textWidth (take 11 ys) =
+    let ys = drop (r * rowSize) xs in
+    let e : suc n * rowSize ≡ rowSize + n * rowSize = omega arith in
+    let k : r * rowSize + rowSize ≡ (r + 1) * rowSize = omega arith in
+    let t : take (suc n * rowSize) ys ≡ take rowSize ys ++ take (n * rowSize) (drop ((r + 1) * rowSize) xs) =
+    rw e (take-add rowSize (n * rowSize) ys ∙ rw (drop-drop rowSize (r * rowSize) xs, k)) in
+    let a : length (lineText ends (rowValues (rowAt xs r))) ≡ textWidth (take rowSize ys) =
     line-width ends (rowValues (rowAt xs r)) (row-long xs r) ∙ ap textWidth (row-values xs r (omega arith)) in
     length-append (lineText ends (rowValues (rowAt xs r))) (rowLines (rowsFrom xs (r + 1) n))
-    ∙ rw (t, width-both (take 11 ys) (take (n * 11) (drop ((r + 1) * 11) xs)), a, rows-width xs (r + 1) n (omega arith))
+    ∙ rw (t, width-both (take rowSize ys) (take (n * rowSize) (drop ((r + 1) * rowSize) xs)), a, rows-width xs (r + 1) n (omega arith))
 
-pub width-begin : (xs : List ℕ) → 33 ≡ 33 + textWidth (take 0 xs)
+pub width-begin : (xs : List ℕ) → namesSize ≡ namesSize + textWidth (take 0 xs)
 unfolding textWidth
 width-begin xs = refl
 
-pub width-turn : (xs : List ℕ) (sum i w m : ℕ) → sum ≡ 33 + textWidth (take i xs) → i < m → m ≤ length xs → w ≡ length (digits (getD xs i 0))
-    → sum + w + 1 ≡ 33 + textWidth (take (i + 1) xs)
+pub width-turn : (xs : List ℕ) (sum i w m : ℕ) → sum ≡ namesSize + textWidth (take i xs) → i < m → m ≤ length xs → w ≡ length (digits (getD xs i 0))
+    → sum + w + 1 ≡ namesSize + textWidth (take (i + 1) xs)
 unfolding textWidth
 width-turn xs sum i w m p h k e =
     rw (add-one i, take-suc xs i 0 (omega arith), width-both (take i xs) (getD xs i 0 ∷ [])) (omega arith)
 
-pub width-end : (xs : List ℕ) (sum i n w : ℕ) → sum ≡ 33 + textWidth (take i xs) → i ≤ n * 11 → n * 11 ≤ i → n * 11 ≤ length xs
+pub width-end : (xs : List ℕ) (sum i n w : ℕ) → sum ≡ namesSize + textWidth (take i xs) → i ≤ n * rowSize → n * rowSize ≤ i → n * rowSize ≤ length xs
     → w ≡ sum → w ≡ length (fileText (rowsFrom xs 0 n))
 unfolding fileText names
 width-end xs sum i n w p h k l f =
-    let e : i ≡ n * 11 = omega arith in
-    let g : length (rowLines (rowsFrom xs 0 n)) ≡ textWidth (take (n * 11) xs) = rows-width xs 0 n (omega arith) in
+    let e : i ≡ n * rowSize = omega arith in
+    let g : length (rowLines (rowsFrom xs 0 n)) ≡ textWidth (take (n * rowSize) xs) = rows-width xs 0 n (omega arith) in
     f ∙ p ∙ rw (e, length-append names (rowLines (rowsFrom xs 0 n)), g)

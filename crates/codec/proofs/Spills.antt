@@ -8,8 +8,8 @@ use lib.ListN.{length, getD, take, drop, set, length-set, length-append}
 use lib.Seq.{sets, length-sets, length-take-le, drop-cons, set-set, set-comm, take-at, take-take, getD-at, getD-take, getD-drop, take-append-add, drop-append-add}
 use Rattle.model.specs.Choice.{ifLt}
 use Rattle.model.specs.Text.{digitZero, comma}
-use Rattle.theory.proofs.Choices.{lt-then, lt-else}
-use Rattle.codec.specs.Writing.{valueText, Puts, Spills, fourBytes, shortText, shortTexts}
+use Rattle.basics.proofs.Choices.{lt-then, lt-else}
+use Rattle.codec.specs.Writing.{tableSize, textSize, valueText, Puts, Spills, fourBytes, shortText, shortTexts}
 use Rattle.codec.proofs.Stores.{sets-both}
 use Rattle.codec.proofs.DigitStores.{value-long, width-sum}
 
@@ -104,26 +104,26 @@ four-long v =
     length-take-le 4 (valueText v comma ++ (comma ∷ comma ∷ []))
     (rw (length-append (valueText v comma) (comma ∷ comma ∷ [])) (omega (arith, text-some v comma)))
 
-short-long : (v : ℕ) → length (shortText v) ≡ 5
+short-long : (v : ℕ) → length (shortText v) ≡ textSize
 unfolding shortText
 short-long v = length-append (fourBytes v) ((digitZero + length (valueText v comma)) ∷ []) ∙ rw (four-long v)
 
-texts-long : (v n : ℕ) → length (shortTexts v n) ≡ n * 5
+texts-long : (v n : ℕ) → length (shortTexts v n) ≡ n * textSize
 unfolding shortTexts
 texts-long v zero = refl
 texts-long v (suc n) =
     length-append (shortText v) (shortTexts (suc v) n) ∙ rw (short-long v, texts-long (suc v) n) (omega arith)
 
-texts-at : (v n k : ℕ) → k < n → take 5 (drop (k * 5) (shortTexts v n)) ≡ shortText (v + k)
+texts-at : (v n k : ℕ) → k < n → take textSize (drop (k * textSize) (shortTexts v n)) ≡ shortText (v + k)
 unfolding shortTexts
 texts-at v zero k h = absurd (omega arith)
 texts-at v (suc n) zero h =
     let e : v + 0 ≡ v = omega arith in
-    rw e (take-at (shortText v) (shortTexts (suc v) n) 5 (short-long v))
+    rw e (take-at (shortText v) (shortTexts (suc v) n) textSize (short-long v))
 texts-at v (suc n) (suc k) h =
-    let e : suc k * 5 ≡ length (shortText v) + k * 5 = rw (short-long v) (omega arith) in
+    let e : suc k * textSize ≡ length (shortText v) + k * textSize = rw (short-long v) (omega arith) in
     let f : v + suc k ≡ suc v + k = omega arith in
-    rw (e, f, drop-append-add (shortText v) (shortTexts (suc v) n) (k * 5)) (texts-at (suc v) n k (omega arith))
+    rw (e, f, drop-append-add (shortText v) (shortTexts (suc v) n) (k * textSize)) (texts-at (suc v) n k (omega arith))
 
 at-most-one : (v k : ℕ) → ifLt v k 0 1 ≤ 1
 at-most-one v k = go (decLt v k)
@@ -132,27 +132,27 @@ at-most-one v k = go (decLt v k)
     go (yes h) = let e : _≡_ {A = ℕ} (ifLt v k 0 1) 0 = lt-then v k 0 1 h in omega arith
     go (no h) = let e : _≡_ {A = ℕ} (ifLt v k 0 1) 1 = lt-else v k 0 1 (omega arith) in omega arith
 
-module _ (v n : ℕ) (ts : List ℕ) (h : v < 264) (e : n ≡ v) (t : ts ≡ shortTexts 0 264) where
-  pub size-room : n * 5 + 4 < length ts
-  size-room = rw (t, texts-long 0 264) (omega arith)
+module _ (v n : ℕ) (ts : List ℕ) (h : v < tableSize) (e : n ≡ v) (t : ts ≡ shortTexts 0 tableSize) where
+  pub size-room : n * textSize + 4 < length ts
+  size-room = rw (t, texts-long 0 tableSize) (omega arith)
 
-  pub four-room : n * 5 + 4 ≤ length ts
+  pub four-room : n * textSize + 4 ≤ length ts
   four-room = omega (arith, size-room)
 
-  entry : take 5 (drop (n * 5) ts) ≡ shortText v
-  entry = let z : 0 + v ≡ v = omega arith in rw (e, t, texts-at 0 264 v h, z)
+  entry : take textSize (drop (n * textSize) ts) ≡ shortText v
+  entry = let z : 0 + v ≡ v = omega arith in rw (e, t, texts-at 0 tableSize v h, z)
 
-  size-at : getD ts (n * 5 + 4) 0 ≡ digitZero + length (valueText v comma)
+  size-at : getD ts (n * textSize + 4) 0 ≡ digitZero + length (valueText v comma)
   unfolding shortText
   size-at =
-      sym (getD-drop (n * 5) ts 4 0)
-      ∙ sym (getD-take 5 (drop (n * 5) ts) 4 0 (omega arith))
+      sym (getD-drop (n * textSize) ts 4 0)
+      ∙ sym (getD-take textSize (drop (n * textSize) ts) 4 0 (omega arith))
       ∙ rw entry (getD-at (fourBytes v) (digitZero + length (valueText v comma)) [] 0 4 (four-long v))
 
-  four-at : take 4 (drop (n * 5) ts) ≡ fourBytes v
+  four-at : take 4 (drop (n * textSize) ts) ≡ fourBytes v
   unfolding shortText
   four-at =
-      sym (take-take 4 5 (drop (n * 5) ts) (omega arith))
+      sym (take-take 4 textSize (drop (n * textSize) ts) (omega arith))
       ∙ rw entry (take-at (fourBytes v) ((digitZero + length (valueText v comma)) ∷ []) 4 (four-long v))
 
   short-wide : length (valueText v comma) ≤ 4
@@ -165,10 +165,10 @@ module _ (v n : ℕ) (ts : List ℕ) (h : v < 264) (e : n ≡ v) (t : ts ≡ sho
         at-most-one v 100,
       )
 
-  pub size-digit : 48 ≤ getD ts (n * 5 + 4) 0
+  pub size-digit : digitZero ≤ getD ts (n * textSize + 4) 0
   size-digit = omega (arith, size-at)
 
-  pub comma-short : (o r : List ℕ) (at w : ℕ) → r ≡ sets o at (take 4 (drop (n * 5) ts)) → w ≡ getD ts (n * 5 + 4) 0 - 48
+  pub comma-short : (o r : List ℕ) (at w : ℕ) → r ≡ sets o at (take 4 (drop (n * textSize) ts)) → w ≡ getD ts (n * textSize + 4) 0 - digitZero
       → Spills (valueText v comma) o at (at + w) r
   unfolding fourBytes
   comma-short o r at w g s =

@@ -11,8 +11,8 @@ use lib.Seq.{drop-cons, getD-append-add}
 use Rattle.model.specs.Limits.{maxValue}
 use Rattle.model.specs.Choice.{ifLt, ifTrue}
 use Rattle.model.specs.Text.{digitZero, comma, lineFeed, ends, isDigit, run, decimal, isValue}
-use Rattle.theory.proofs.Choices.{lt-then, lt-else, lt-first, lt-second, lt-same, eq-then, true-then, true-else}
-use Rattle.theory.proofs.Digits.{is-digit, is-value, decimal-first, decimal-grows}
+use Rattle.basics.proofs.Choices.{lt-then, lt-else, lt-first, lt-second, lt-same, eq-then, true-then, true-else}
+use Rattle.shows.proofs.Digits.{digit-isDigit, is-value, decimal-first, decimal-grows}
 use Rattle.codec.specs.Scanning.{figure, figureAt, endedAt, valueAt}
 use Rattle.codec.specs.declared.Field.{Field}
 use Rattle.codec.specs.declared.Field.the-variants.{Bad}
@@ -53,7 +53,7 @@ module _ (f : List ℕ) (i d : ℕ) (e : d ≡ figureAt f i) where
   run-on h =
       let (k, g) = found h in
       let b : getD f i 0 ≡ digitZero + d = figure-is _ d g h in
-      let t : isDigit (getD f i 0) ≡ true = rw b (is-digit d h) in
+      let t : isDigit (getD f i 0) ≡ true = rw b (digit-isDigit d h) in
       let m : getD f i 0 - digitZero ≡ d = omega arith in
       rw (add-one, drop-cons f i 0 k, run, t, m)
 
@@ -144,15 +144,15 @@ ends-are : ends ≡ replicate 10 comma ++ (lineFeed ∷ [])
 unfolding ends
 ends-are = refl
 
-pub comma-at : (c : ℕ) → c < 10 → 44 ≡ getD ends c 10
+pub comma-at : (c : ℕ) → c < 10 → comma ≡ getD ends c lineFeed
 comma-at c h =
-    sym (rw ends-are (List·getD-append (replicate 10 comma) (lineFeed ∷ []) 10 c h ∙ getD-replicate 10 c comma 10 h))
+    sym (rw ends-are (List·getD-append (replicate 10 comma) (lineFeed ∷ []) lineFeed c h ∙ getD-replicate 10 c comma lineFeed h))
 
-pub feed-at : (c : ℕ) → 10 ≤ c → 10 ≡ getD ends c 10
+pub feed-at : (c : ℕ) → 10 ≤ c → lineFeed ≡ getD ends c lineFeed
 feed-at c h =
     let e : c ≡ 10 + (c - 10) = omega arith in
-    sym (rw (ends-are, e) (getD-append-add (replicate 10 comma) (lineFeed ∷ []) (c - 10) 10 ∙ last (c - 10)))
+    sym (rw (ends-are, e) (getD-append-add (replicate 10 comma) (lineFeed ∷ []) (c - 10) lineFeed ∙ last (c - 10)))
   where
-    last : (k : ℕ) → getD (lineFeed ∷ []) k 10 ≡ 10
+    last : (k : ℕ) → getD (lineFeed ∷ []) k lineFeed ≡ lineFeed
     last zero = refl
     last (suc k) = refl

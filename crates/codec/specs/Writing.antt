@@ -34,6 +34,13 @@ pub record Spills (text out : List ℕ) (at next : ℕ) (after : List ℕ) : Typ
   pub place : next ≡ at + length text
   pub bytes : after ≡ sets out at (text ++ more)
 
+-- How many values have a ready text in the table, and how many bytes each of those takes.
+abbrev pub tableSize : ℕ
+tableSize = 264
+
+abbrev pub textSize : ℕ
+textSize = 5
+
 -- A value and its comma in four bytes, with a digit behind them that says how many bytes count; and those of n values from v on.
 unfoldable pub fourBytes : ℕ → List ℕ
 fourBytes v = take 4 (valueText v comma ++ (comma ∷ comma ∷ []))

@@ -1,4 +1,4 @@
-// The show file as bytes: read to rows, and written from rows.
+// The show file as bytes. Others call parse, which reads it to rows; measure and emit, which write it from rows; and put_bytes.
 use model::Refusal;
 ghost use mathlib.Core.Path.{_≡_};
 ghost use mathlib.Core.Bool.{true};
@@ -6,21 +6,42 @@ ghost use Prim.Native.Nat.{_+_, _*_, _-_, _≤_, _<_};
 ghost use lib.ListN.{length, take, drop, getD};
 ghost use lib.Seq.{sets};
 ghost use Rattle.model.specs.Choice.{ifLt};
-ghost use Rattle.model.specs.Text.{names, ends, digits, digitAt};
+ghost use Rattle.model.specs.Limits.{rowSize, maxBytes, maxRows};
+ghost use Rattle.model.specs.Text.{comma, lineFeed, names, ends, digits, digitAt};
 ghost use Rattle.model.specs.Rows.{rowsFrom, rowLines, fileText};
 ghost use Rattle.model.specs.Lists.{overwrite};
 ghost use Rattle.model.specs.Verdicts.{same, readFile};
-ghost use Rattle.codec.specs.Scanning.{figureAt, endedAt, valueAt, lineAt, LineSays, RowSays, startsNamed};
-ghost use Rattle.codec.specs.Parsing.{Parses};
-ghost use Rattle.codec.specs.Writing.{one, two, valueText, rowText, Puts, Spills, shortTexts};
+ghost use Rattle.codec.specs.Scanning.{figureAt, endedAt, valueAt, lineAt, LineSays, RowSays, StepSays, namesSize, startsNamed};
+ghost use Rattle.codec.specs.Parsing.{room, Parses};
+ghost use Rattle.codec.specs.Writing.{tableSize, one, two, valueText, rowText, Puts, Spills, shortTexts};
 
-// The line of names.
-const NAMES: [u8; 33] = *b"block,kind,label,a,b,c,d,e,f,g,h\n";
+// The bytes of the largest file.
+const MAX_BYTES: usize = 65536;
 
-// The values below 264, each with its comma in four bytes, filled up with commas, and then how many of the four count. No value of
-// accepted rows is larger.
-const TEXTS: [u8; 1320] =
-    *b"0,,,21,,,22,,,23,,,24,,,25,,,26,,,27,,,28,,,29,,,210,,311,,312,,313,,314,,315,,316,,317,,318,,319,,320,,321,,322,,323,,324,,325,,326,,327,,328,,329,,330,,331,,332,,333,,334,,335,,336,,337,,338,,339,,340,,341,,342,,343,,344,,345,,346,,347,,348,,349,,350,,351,,352,,353,,354,,355,,356,,357,,358,,359,,360,,361,,362,,363,,364,,365,,366,,367,,368,,369,,370,,371,,372,,373,,374,,375,,376,,377,,378,,379,,380,,381,,382,,383,,384,,385,,386,,387,,388,,389,,390,,391,,392,,393,,394,,395,,396,,397,,398,,399,,3100,4101,4102,4103,4104,4105,4106,4107,4108,4109,4110,4111,4112,4113,4114,4115,4116,4117,4118,4119,4120,4121,4122,4123,4124,4125,4126,4127,4128,4129,4130,4131,4132,4133,4134,4135,4136,4137,4138,4139,4140,4141,4142,4143,4144,4145,4146,4147,4148,4149,4150,4151,4152,4153,4154,4155,4156,4157,4158,4159,4160,4161,4162,4163,4164,4165,4166,4167,4168,4169,4170,4171,4172,4173,4174,4175,4176,4177,4178,4179,4180,4181,4182,4183,4184,4185,4186,4187,4188,4189,4190,4191,4192,4193,4194,4195,4196,4197,4198,4199,4200,4201,4202,4203,4204,4205,4206,4207,4208,4209,4210,4211,4212,4213,4214,4215,4216,4217,4218,4219,4220,4221,4222,4223,4224,4225,4226,4227,4228,4229,4230,4231,4232,4233,4234,4235,4236,4237,4238,4239,4240,4241,4242,4243,4244,4245,4246,4247,4248,4249,4250,4251,4252,4253,4254,4255,4256,4257,4258,4259,4260,4261,4262,4263,4";
+// The values of a row, and the place of the last.
+const ROW: usize = 11;
+
+const LAST: usize = 10;
+
+// The rows that are stored, and their numbers.
+const MAX_ROWS: usize = 1024;
+
+const ROOM: usize = 11264;
+
+// The largest value of a line.
+const MAX_VALUE: u32 = 65535;
+
+// The byte behind a line's last value, and behind the others.
+const LINE_FEED: u8 = 10;
+
+const COMMA: u8 = 44;
+
+// The line of names, and its bytes, in two widths.
+const NAMES: [u8; NAMES_SIZE] = *b"block,kind,label,a,b,c,d,e,f,g,h\n";
+
+const NAMES_SIZE: usize = 33;
+
+const NAMES_SIZE_32: u32 = 33;
 
 // What a file says: how many rows it has, or why it is refused.
 pub enum Parsed {
@@ -28,22 +49,30 @@ pub enum Parsed {
     Refused(Refusal),
 }
 
+// Reading: digits, values, lines and rows at a place of the file, and the reader that goes through it.
+
 // A value of a line: the number, and the place behind the byte that ends it.
-pub enum Field {
+enum Field {
     Value(u32, usize),
     Bad,
 }
 
 // A line of values: the place behind it.
-pub enum Line {
+enum Line {
     Next(usize),
     Malformed,
 }
 
-// A file and a place in it.
-pub struct Reader<'a> {
-    pub file: &'a [u8],
-    pub at: usize,
+// A step through the file: over a line, to the place behind it; or the last, with what the file says.
+enum Step {
+    On(usize),
+    Done(Parsed),
+}
+
+// A file and the place in it where the next line begins.
+struct Reader<'a> {
+    file: &'a [u8],
+    at: usize,
 }
 
 fn widen(b: u8) -> u32
@@ -100,7 +129,7 @@ fn value_at(file: &[u8], at: usize, end: u8) -> Field
     let mut v = first;
     while d < 10 {
         v = v * 10 + d;
-        if 65535 < v {
+        if MAX_VALUE < v {
             return Field::Bad;
         }
         i += 1;
@@ -109,86 +138,46 @@ fn value_at(file: &[u8], at: usize, end: u8) -> Field
     ended_at(file, i, end, v)
 }
 
-// The reader of a file at a place.
-pub fn reader_at<'a>(file: &'a [u8], at: usize) -> Reader<'a>
-    ensures { λ r. ⌜ (r .file ≡ file .entry) × (r .at ≡ at) ⌝ }
-{
-    Reader { file, at }
-}
-
-// The value at a reader's place with the byte that ends it.
-pub fn next_value<'a>(r: Reader<'a>, end: u8) -> Field
-    ensures { λ v. ⌜ v ≡ valueAt (now (r .entry .file)) end (r .entry .at) ⌝ }
-{
-    value_at(r.file, r.at, end)
-}
-
-// The same for who has a file and a place, and no reader.
-fn value_from(file: &[u8], at: usize, end: u8) -> Field
-    ensures { λ r. ⌜ r ≡ valueAt (now (file .entry)) end at ⌝ }
-{
-    next_value(reader_at(file, at), end)
-}
-
 // The byte behind value c of a line.
 fn end_of(c: usize) -> u8
-    ensures { λ r. ⌜ r ≡ getD ends c 10 ⌝ }
+    ensures { λ r. ⌜ r ≡ getD ends c lineFeed ⌝ }
 {
-    if c < 10 {
-        return 44;
+    if c < LAST {
+        return COMMA;
     }
-    10
+    LINE_FEED
 }
 
 // The line at a place: its values to a row.
 fn line_at(file: &[u8], from: usize, row: &mut [u32]) -> Line
-    requires { ⌜ length (now row) ≡ 11 ⌝ }
+    requires { ⌜ length (now row) ≡ rowSize ⌝ }
     ensures { λ r. ⌜ LineSays (lineAt ends (now (file .entry)) from) r (now (row .exit)) ⌝ }
 {
     let mut at = from;
     let mut c = 0;
-    while c < 11 {
-        let end = end_of(c);
-        match value_from(file, at, end) {
-            Field::Value(v, next) => {
-                row[c] = v;
-                at = next;
-            }
-            Field::Bad => return Line::Malformed,
-        }
+    while c < ROW {
+        let Field::Value(v, next) = value_at(file, at, end_of(c)) else {
+            return Line::Malformed;
+        };
+        row[c] = v;
+        at = next;
         c += 1;
     }
     Line::Next(at)
 }
 
-// The line at a reader's place: its values to a row.
-pub fn next_line<'a, 'b>(r: Reader<'a>, row: &'b mut [u32]) -> Line
-    requires { ⌜ length (now row) ≡ 11 ⌝ }
-    ensures { λ l. ⌜ LineSays (lineAt ends (now (r .entry .file)) (r .entry .at)) l (now (row .exit)) ⌝ }
-{
-    line_at(r.file, r.at, row)
-}
-
-// The same for who has a file and a place, and no reader.
-fn line_from(file: &[u8], at: usize, row: &mut [u32]) -> Line
-    requires { ⌜ length (now row) ≡ 11 ⌝ }
-    ensures { λ l. ⌜ LineSays (lineAt ends (now (file .entry)) at) l (now (row .exit)) ⌝ }
-{
-    next_line(reader_at(file, at), row)
-}
-
 // The line at a place: its values to row r, if there is room for that row.
 fn row_at(file: &[u8], at: usize, rows: &mut [u32], r: usize) -> Line
-    requires { ⌜ length (now rows) ≡ 11264 ⌝ }
+    requires { ⌜ length (now rows) ≡ room ⌝ }
     ensures { λ l. ⌜ RowSays (lineAt ends (now (file .entry)) at) r l (now (rows .entry)) (now (rows .exit)) ⌝ }
 {
-    if r < 1024 {
-        let a = r * 11;
-        let e = a + 11;
-        return line_from(file, at, &mut rows[a..e]);
+    if r < MAX_ROWS {
+        let a = r * ROW;
+        let e = a + ROW;
+        return line_at(file, at, &mut rows[a..e]);
     }
-    let mut spare = [0u32; 11];
-    line_from(file, at, &mut spare)
+    let mut spare = [0u32; ROW];
+    line_at(file, at, &mut spare)
 }
 
 // Two lists agree in their first n bytes.
@@ -210,10 +199,10 @@ fn same_to(a: &[u8], b: &[u8], n: usize) -> bool
 fn named(file: &[u8]) -> bool
     ensures { λ r. ⌜ r ≡ startsNamed (now (file .entry)) ⌝ }
 {
-    if file.len() < 33 {
+    if file.len() < NAMES_SIZE {
         return false;
     }
-    same_to(file, &NAMES, 33)
+    same_to(file, &NAMES, NAMES_SIZE)
 }
 
 fn refuse(number: u32, place: u32) -> Parsed
@@ -222,30 +211,56 @@ fn refuse(number: u32, place: u32) -> Parsed
     Parsed::Refused(Refusal { number, place })
 }
 
-// Reads the lines behind the line of names.
+// The step from a place: the line there goes to row n. The file's end and a line that is none are the last step.
+fn step_at(file: &[u8], at: usize, rows: &mut [u32], n: usize) -> Step
+    requires { ⌜ (length (now rows) ≡ room) × (n ≤ maxBytes) ⌝ }
+    ensures { λ s. ⌜ StepSays (now (file .entry)) at n s (now (rows .entry)) (now (rows .exit)) ⌝ }
+{
+    if file.len() <= at {
+        return Step::Done(Parsed::Rows(n));
+    }
+    let Line::Next(next) = row_at(file, at, rows, n) else {
+        return Step::Done(refuse(3, n as u32 + 2));
+    };
+    Step::On(next)
+}
+
+// The reader of a file at a place.
+fn reader_at<'a>(file: &'a [u8], at: usize) -> Reader<'a>
+    ensures { λ r. ⌜ (r .file ≡ file .entry) × (r .at ≡ at) ⌝ }
+{
+    Reader { file, at }
+}
+
+// The step from a reader's place.
+fn next_row<'a, 'b>(r: Reader<'a>, rows: &'b mut [u32], n: usize) -> Step
+    requires { ⌜ (length (now rows) ≡ room) × (n ≤ maxBytes) ⌝ }
+    ensures { λ s. ⌜ StepSays (now (r .entry .file)) (r .entry .at) n s (now (rows .entry)) (now (rows .exit)) ⌝ }
+{
+    step_at(r.file, r.at, rows, n)
+}
+
+// Reads the lines behind the line of names: one reader goes through them, line by line.
 fn read_lines(file: &[u8], rows: &mut [u32]) -> Parsed
-    requires { ⌜ (length (now file) ≤ 65536) × (startsNamed (now file) ≡ true) × (length (now rows) ≡ 11264) ⌝ }
+    requires { ⌜ (length (now file) ≤ maxBytes) × (startsNamed (now file) ≡ true) × (length (now rows) ≡ room) ⌝ }
     ensures { λ r. ⌜ Parses (readFile (now (file .entry))) r (now (rows .exit)) ⌝ }
 {
-    let mut at = 33;
-    let mut r = 0;
-    while at < file.len() {
-        match row_at(file, at, rows, r) {
-            Line::Next(next) => {
-                at = next;
-            }
-            Line::Malformed => return refuse(3, r as u32 + 2),
+    let mut r = reader_at(file, NAMES_SIZE);
+    let mut n = 0;
+    loop {
+        match next_row(r, rows, n) {
+            Step::On(at) => r.at = at,
+            Step::Done(said) => return said,
         }
-        r += 1;
+        n += 1;
     }
-    Parsed::Rows(r)
 }
 
 // Reads a file to rows. Rows past the 1,024th are checked and counted, but not stored.
-pub fn parse(file: &[u8], rows: &mut [u32; 11264]) -> Parsed
+pub fn parse(file: &[u8], rows: &mut [u32; ROOM]) -> Parsed
     ensures { λ r. ⌜ Parses (readFile (now (file .entry))) r (now (rows .exit)) ⌝ }
 {
-    if 65536 < file.len() {
+    if MAX_BYTES < file.len() {
         return refuse(1, 0);
     }
     if named(file) {
@@ -253,6 +268,17 @@ pub fn parse(file: &[u8], rows: &mut [u32; 11264]) -> Parsed
     }
     refuse(2, 1)
 }
+
+// Writing: the length of a file, and digits, values, rows and lines to a place of the output.
+
+// The values that have a ready text, and the bytes of each. No value of accepted rows is larger.
+const TABLE: u32 = 264;
+
+const TEXT: usize = 5;
+
+// The ready texts: a value with its comma in four bytes, filled up with commas, and then how many of the four count.
+const TEXTS: [u8; 1320] =
+    *b"0,,,21,,,22,,,23,,,24,,,25,,,26,,,27,,,28,,,29,,,210,,311,,312,,313,,314,,315,,316,,317,,318,,319,,320,,321,,322,,323,,324,,325,,326,,327,,328,,329,,330,,331,,332,,333,,334,,335,,336,,337,,338,,339,,340,,341,,342,,343,,344,,345,,346,,347,,348,,349,,350,,351,,352,,353,,354,,355,,356,,357,,358,,359,,360,,361,,362,,363,,364,,365,,366,,367,,368,,369,,370,,371,,372,,373,,374,,375,,376,,377,,378,,379,,380,,381,,382,,383,,384,,385,,386,,387,,388,,389,,390,,391,,392,,393,,394,,395,,396,,397,,398,,399,,3100,4101,4102,4103,4104,4105,4106,4107,4108,4109,4110,4111,4112,4113,4114,4115,4116,4117,4118,4119,4120,4121,4122,4123,4124,4125,4126,4127,4128,4129,4130,4131,4132,4133,4134,4135,4136,4137,4138,4139,4140,4141,4142,4143,4144,4145,4146,4147,4148,4149,4150,4151,4152,4153,4154,4155,4156,4157,4158,4159,4160,4161,4162,4163,4164,4165,4166,4167,4168,4169,4170,4171,4172,4173,4174,4175,4176,4177,4178,4179,4180,4181,4182,4183,4184,4185,4186,4187,4188,4189,4190,4191,4192,4193,4194,4195,4196,4197,4198,4199,4200,4201,4202,4203,4204,4205,4206,4207,4208,4209,4210,4211,4212,4213,4214,4215,4216,4217,4218,4219,4220,4221,4222,4223,4224,4225,4226,4227,4228,4229,4230,4231,4232,4233,4234,4235,4236,4237,4238,4239,4240,4241,4242,4243,4244,4245,4246,4247,4248,4249,4250,4251,4252,4253,4254,4255,4256,4257,4258,4259,4260,4261,4262,4263,4";
 
 fn wide(x: u32) -> usize
     ensures { λ r. ⌜ r ≡ x ⌝ }
@@ -281,11 +307,11 @@ fn width(v: u32) -> u32
 
 // The length of the file of n rows.
 pub fn measure(xs: &[u32], n: usize) -> usize
-    requires { ⌜ (n * 11 ≤ length (now xs)) × (n ≤ 1024) ⌝ }
+    requires { ⌜ (n * rowSize ≤ length (now xs)) × (n ≤ maxRows) ⌝ }
     ensures { λ r. ⌜ r ≡ length (fileText (rowsFrom (now (xs .entry)) 0 n)) ⌝ }
 {
-    let m = n * 11;
-    let mut sum: u32 = 33;
+    let m = n * ROW;
+    let mut sum: u32 = NAMES_SIZE_32;
     let mut i = 0;
     while i < m {
         sum = sum + width(xs[i]) + 1;
@@ -378,30 +404,30 @@ fn copy_four(from: &[u8], i: usize, out: &mut [u8], at: usize)
 
 // Writes a value and a comma. Up to two bytes behind them change too: what is written next goes there.
 fn put_comma(v: u32, texts: &[u8], out: &mut [u8], at: usize) -> usize
-    requires { ⌜ (now texts ≡ shortTexts 0 264) × (at + length (valueText v 44) + 2 ≤ length (now out)) ⌝ }
-    ensures { λ r. ⌜ Spills (valueText v 44) (now (out .entry)) at r (now (out .exit)) ⌝ }
+    requires { ⌜ (now texts ≡ shortTexts 0 tableSize) × (at + length (valueText v comma) + 2 ≤ length (now out)) ⌝ }
+    ensures { λ r. ⌜ Spills (valueText v comma) (now (out .entry)) at r (now (out .exit)) ⌝ }
 {
-    if v < 264 {
-        let i = wide(v) * 5;
+    if v < TABLE {
+        let i = wide(v) * TEXT;
         copy_four(texts, i, out, at);
         return at + number_of(texts[i + 4]);
     }
-    put_value(v, 44, out, at)
+    put_value(v, COMMA, out, at)
 }
 
 // Writes the line of row r.
 fn put_row(xs: &[u32], r: usize, texts: &[u8], out: &mut [u8], from: usize) -> usize
-    requires { ⌜ (r * 11 + 11 ≤ length (now xs)) × (now texts ≡ shortTexts 0 264) × (from + length (rowText (now xs) r) ≤ length (now out)) ⌝ }
+    requires { ⌜ (r * rowSize + rowSize ≤ length (now xs)) × (now texts ≡ shortTexts 0 tableSize) × (from + length (rowText (now xs) r) ≤ length (now out)) ⌝ }
     ensures { λ p. ⌜ Puts (rowText (now (xs .entry)) r) (now (out .entry)) from p (now (out .exit)) ⌝ }
 {
-    let a = r * 11;
+    let a = r * ROW;
     let mut at = from;
     let mut c = 0;
-    while c < 10 {
+    while c < LAST {
         at = put_comma(xs[a + c], texts, out, at);
         c += 1;
     }
-    put_value(xs[a + 10], 10, out, at)
+    put_value(xs[a + LAST], LINE_FEED, out, at)
 }
 
 // Writes bytes to the start of a list.
@@ -419,7 +445,7 @@ pub fn put_bytes(bytes: &[u8], out: &mut [u8]) -> usize
 
 // Writes the line of names.
 fn put_names(out: &mut [u8]) -> usize
-    requires { ⌜ 33 ≤ length (now out) ⌝ }
+    requires { ⌜ namesSize ≤ length (now out) ⌝ }
     ensures { λ r. ⌜ Puts names (now (out .entry)) 0 r (now (out .exit)) ⌝ }
 {
     put_bytes(&NAMES, out)
@@ -427,7 +453,7 @@ fn put_names(out: &mut [u8]) -> usize
 
 // Writes the lines of n rows, with the table of texts.
 fn put_lines(xs: &[u32], n: usize, texts: &[u8], out: &mut [u8], from: usize) -> usize
-    requires { ⌜ (n * 11 ≤ length (now xs)) × (now texts ≡ shortTexts 0 264) × (from + length (rowLines (rowsFrom (now xs) 0 n)) ≤ length (now out)) ⌝ }
+    requires { ⌜ (n * rowSize ≤ length (now xs)) × (now texts ≡ shortTexts 0 tableSize) × (from + length (rowLines (rowsFrom (now xs) 0 n)) ≤ length (now out)) ⌝ }
     ensures { λ p. ⌜ Puts (rowLines (rowsFrom (now (xs .entry)) 0 n)) (now (out .entry)) from p (now (out .exit)) ⌝ }
 {
     let mut at = from;
@@ -441,7 +467,7 @@ fn put_lines(xs: &[u32], n: usize, texts: &[u8], out: &mut [u8], from: usize) ->
 
 // Writes the lines of n rows.
 fn put_rows(xs: &[u32], n: usize, out: &mut [u8], from: usize) -> usize
-    requires { ⌜ (n * 11 ≤ length (now xs)) × (from + length (rowLines (rowsFrom (now xs) 0 n)) ≤ length (now out)) ⌝ }
+    requires { ⌜ (n * rowSize ≤ length (now xs)) × (from + length (rowLines (rowsFrom (now xs) 0 n)) ≤ length (now out)) ⌝ }
     ensures { λ p. ⌜ Puts (rowLines (rowsFrom (now (xs .entry)) 0 n)) (now (out .entry)) from p (now (out .exit)) ⌝ }
 {
     put_lines(xs, n, &TEXTS, out, from)
@@ -449,7 +475,7 @@ fn put_rows(xs: &[u32], n: usize, out: &mut [u8], from: usize) -> usize
 
 // Writes the file of n rows.
 pub fn emit(xs: &[u32], n: usize, out: &mut [u8])
-    requires { ⌜ (n * 11 ≤ length (now xs)) × (n ≤ 1024) × (length (fileText (rowsFrom (now xs) 0 n)) ≤ length (now out)) ⌝ }
+    requires { ⌜ (n * rowSize ≤ length (now xs)) × (n ≤ maxRows) × (length (fileText (rowsFrom (now xs) 0 n)) ≤ length (now out)) ⌝ }
     ensures { λ _. ⌜ now (out .exit) ≡ overwrite (fileText (rowsFrom (now (xs .entry)) 0 n)) (now (out .entry)) ⌝ }
 {
     let at = put_names(out);

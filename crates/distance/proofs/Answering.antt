@@ -1,86 +1,144 @@
--- From the question to the labels, and from the last label to the answer.
-use Prim.Native.Nat.{ℕ, _+_, _*_, _-_, _≤_, _<_}
+-- From the question to the estimates, and from the last estimate to the answer.
+use Prim.Native.Nat.{ℕ, zero, suc, _+_, _*_, _-_, _≤_, _<_}
 use native.Mathlib.Omega.{arith}
-use mathlib.Core.Path.{_≡_, refl, sym, _∙_, ap}
-use mathlib.Core.List.{List, []}
+use native.Mathlib.Decide.{decLt}
+use native.Mathlib.Numerals.{add-one}
+use mathlib.Core.Path.{_≡_, sym, _∙_, ap}
+use mathlib.Core.List.{List, [], _∷_}
 use lib.ListN.{length, getD, take}
 use lib.Seq.{getD-take}
-use Rattle.model.specs.Limits.{maxTotal}
-use Rattle.model.specs.Blocks.{Block, joinsOf, lastBlock, count, blocksOf}
-use Rattle.model.specs.Verdicts.{verdict}
+use Rattle.model.specs.Limits.{maxTotal, maxJoins, summarySize, summaryWidth}
+use Rattle.model.specs.Blocks.{Block, blockAt, joinsOf, lastBlock, count, blocksOf}
+use Rattle.model.specs.Unfolding.{showLinks}
+use Rattle.model.specs.Chains.{fewest}
 use Rattle.model.specs.Summaries.{summary, summaries}
-use Rattle.model.specs.declared.Verdict.the-variants.{Accepted}
-use Rattle.theory.specs.Accepted.{Show}
-use Rattle.theory.proofs.Accepted.{accepted-show}
-use Rattle.theory.proofs.AtBlock.{joins-small}
-use Rattle.theory.proofs.Locality.{show-spot}
-use Rattle.theory.proofs.Trails.{after, after-under, steps-after, number-after}
-use Rattle.theory.proofs.Summing.{distance, distance-far, distance-none}
-use Rattle.theory.proofs.Detours.{fewest-told}
-use Rattle.theory.proofs.Places.{summaries-at}
-use Rattle.rules.specs.Index.{Indexed}
-use Rattle.distance.specs.declared.Answer.the-variants.{Steps, None}
-use Rattle.distance.specs.Copies.{copyAt, cueOf, Whole, Ready, Goes, source, KeptFrom, Risen}
-use Rattle.distance.specs.Answers.{answered, fewestIn}
+use Rattle.shows.specs.WellFormed.{Cue}
+use Rattle.shows.specs.Accepted.{Show}
+use Rattle.shows.proofs.AtBlock.{joins-small}
+use Rattle.shows.specs.Copies.{Part, Copy, number, Sound, IsPart, InCopy, part-copy, show-copy, part-at}
+use Rattle.shows.proofs.Ranges.{number-own}
+use Rattle.shows.proofs.Locality.{part-total, not-inside, Under}
+use Rattle.distances.specs.Tells.{Join, distance}
+use Rattle.distances.proofs.Detours.{fewest-told}
+use Rattle.shows.proofs.Trails.{part-at-part}
+use Rattle.distances.proofs.Places.{summaries-at, summaries-length}
+use Rattle.blocks.specs.Loaded.{Loaded, usesBegin}
+use Rattle.blocks.specs.Places.{blockOn, Found}
+use Rattle.blocks.specs.declared.Place.{Place}
+use Rattle.blocks.proofs.Loaded.{loaded-show}
+use Rattle.relax.specs.Edges.{numbers}
+use Rattle.distance.specs.Summaries.{HasSummaries}
+use Rattle.distance.specs.Copies.{stepOn, copyOn, TellsWhole, Common, Sunk}
+use Rattle.distance.proofs.Copies.{copy-suc, levels, here, here-sound, step-bounds, next-is, own-bounds, cue-is, cue-numbered, block-same, copy-same, parts-apart}
 
-pub said-far : (x : ℕ) → x < 4294967295 → Steps x ≡ answered (distance x)
-unfolding answered
-said-far x h = rw (distance-far x h) refl
+take-short : (n : ℕ) (w : List ℕ) → length (take n w) ≤ length w
+take-short zero w = omega arith
+take-short (suc n) [] = omega arith
+take-short (suc n) (x ∷ w) = omega (arith, take-short n w)
 
-pub said-none : (x : ℕ) → 4294967295 ≤ x → None ≡ answered (distance x)
-unfolding answered
-said-none x h = rw (distance-none x h) refl
-
-module _ (xs : List ℕ) (ok : verdict xs ≡ Accepted) where
+module _ {xs t : List ℕ} (g : Loaded xs t) where
   abbrev bs : List Block
   bs = blocksOf xs
 
   show : Show xs
-  show = accepted-show xs ok
+  show = loaded-show g
 
-  pub some-blocks : (1 ≤ length bs) × (length bs ≤ 128)
-  some-blocks = show .blocks
-
-  pub ready-at : (t work : List ℕ) (blocks : ℕ) → Indexed xs t → blocks ≡ length bs → take (64 * blocks) work ≡ summaries bs → Ready xs t work
-  ready-at t work blocks ix eb ew = record { ok = ok; ix = ix; below = λ m i j h x y. at m i j h x y }
+  -- A work area that begins with the summaries.
+  pub hasSummaries : (work : List ℕ) → take (summarySize * length bs) work ≡ summaries bs → HasSummaries xs t work
+  hasSummaries work e =
+      record {
+        loaded = g;
+        long = omega (arith, take-short (summarySize * length bs) work, ap length e, summaries-length bs);
+        below = λ m i j h x y. at m i j h x y;
+      }
     where
-      at : (m i j : ℕ) → m < length bs → (1 ≤ i) × (i ≤ joinsOf bs m) → (1 ≤ j) × (j ≤ joinsOf bs m)
-          → getD work (64 * m + 8 * (i - 1) + (j - 1)) 0 ≡ summary bs m i j
+      at : (m i j : ℕ) → m < length bs → Join bs m i → Join bs m j → numbers work m i j ≡ summary bs m i j
       at m i j h x y =
-          let few : joinsOf bs m ≤ 8 = joins-small m (show .good) in
-          sym (getD-take (64 * blocks) work (64 * m + 8 * (i - 1) + (j - 1)) 0 (omega arith))
-          ∙ ap (λ (w : List ℕ). getD w (64 * m + 8 * (i - 1) + (j - 1)) 0) ew
+          let few : joinsOf bs m ≤ maxJoins = joins-small m (show .good) in
+          sym (getD-take (summarySize * length bs) work (summarySize * m + summaryWidth * (i - 1) + (j - 1)) 0 (omega arith))
+          ∙ ap (λ (w : List ℕ). getD w (summarySize * m + summaryWidth * (i - 1) + (j - 1)) 0) e
           ∙ summaries-at bs m i j h (x .0) (omega arith) (y .0) (omega arith)
 
-  -- A path and an own cue that have a number.
-  pub goes-at : (path : List ℕ) (depth own : ℕ) → depth ≤ length path → depth ≤ 127 → 1 ≤ cueOf xs path depth own → Goes xs path depth own
-  goes-at path depth own long deep some =
-      let (s, a, b) = steps-after bs (show .good) (lastBlock bs) 0 [] (take depth path) own (λ e. omega arith) in
-      record { steps = s; long = long; deep = deep; low = a; high = b }
+  module _ {a b : List ℕ} {p q : Place} (from : Found xs t a p) (to : Found xs t b q) (r : ℕ)
+      (c : Common a (p .depth) b (q .depth) r) where
+    -- The copy that the two places share last.
+    first : r ≤ p .depth
+    first = c .first
 
-  number-is : (path : List ℕ) (depth own : ℕ) → Goes xs path depth own → cueOf xs path depth own ≡ source xs path depth own
-  number-is path depth own g = number-after bs (show .good) (lastBlock bs) 0 [] (take depth path) own (g .steps) (g .low) (g .high)
+    abbrev z : Copy
+    z = here g from r first
+
+    shared : copyOn xs t b r ≡ z
+    shared = sym (copy-same xs t a b r (c .same) r (omega arith)) ∙ levels g from r first .is
+
+    same-copy : copyOn xs t a r ≡ copyOn xs t b r
+    same-copy = copy-same xs t a b r (c .same) r (omega arith)
+
+    -- The next copy on the way down does not have the first place's cue.
+    module _ (less : r < q .depth) where
+      block-is : blockOn xs a r ≡ blockOn xs b r
+      block-is = block-same xs t a b r (c .same) r (omega arith)
+
+      block-begin : usesBegin t (blockOn xs a r) ≡ usesBegin t (blockOn xs b r)
+      block-begin = ap (usesBegin t) block-is
+
+      step : (1 ≤ stepOn xs t b r) × (stepOn xs t b r ≤ length (blockAt bs (blockOn xs a r) .uses))
+      step = rw block-is (step-bounds g to r less)
+
+      abbrev part : Part
+      part = part-at z (stepOn xs t b r)
+
+      member : IsPart z part
+      member = part-at-part z (stepOn xs t b r) (step .0) (step .1)
+
+      next : copyOn xs t b (r + 1) ≡ part-copy z part
+      next = rw add-one (copy-suc xs t b r ∙ ap (λ (y : Copy). part-copy y (part-at y (stepOn xs t b r))) shared)
+
+      outside : InCopy (copyOn xs t b (r + 1)) (p .cue) → ⊥
+      outside n = go (decLt r (p .depth))
+        where
+          m : InCopy (part-copy z part) (p .cue)
+          m = rw next at n
+
+          go : Dec (r < p .depth) → ⊥
+          go (yes h) =
+              let s = step-bounds g from r h in
+              let e : stepOn xs t a r ≡ stepOn xs t b r → getD a r 0 ≡ getD b r 0 = λ e. omega (arith, s, step, block-begin) in
+              parts-apart (here-sound g from r first) (stepOn xs t a r) (stepOn xs t b r) (p .cue) (s .0) (s .1) (step .0) (step .1)
+              (λ o. c .differ h less (e o))
+              (rw (next-is g from r first) at (rw add-one at (cue-numbered g from (r + 1) (omega arith)))) m
+          go (no h) =
+              let e : r ≡ p .depth = omega arith in
+              let y : copyOn xs t a (p .depth) ≡ z = ap (copyOn xs t a) (sym e) ∙ levels g from r first .is in
+              let o : copyOn xs t a (p .depth) .block .own ≡ z .block .own = ap (λ (x : Copy). x .block .own) y in
+              let i : Cue (z .block) (p .own) = omega (arith, own-bounds g from) in
+              let k : number z (p .own) ≡ p .cue = ap (λ (x : Copy). number x (p .own)) (sym y) ∙ cue-is g from in
+              let sound : Sound z = here-sound g from r first in
+              not-inside sound part (p .cue) member (rw k at (number-own (sound .fit) (p .own) i))
+              (omega (arith, m, part-total sound part member))
 
   few-cues : count bs ≤ maxTotal
   unfolding count
   few-cues = show .totals (lastBlock bs)
 
-  -- The label at the end of the way down is the answer.
-  pub between-is : (other : List ℕ) (deep own : ℕ) (path : List ℕ) (depth aim : ℕ) (d : List ℕ) (x : ℕ) → Goes xs other deep own
-      → Goes xs path depth aim → x ≡ getD d aim 0 → Whole xs (copyAt xs path depth) (source xs other deep own) d
-      → fewestIn xs (cueOf xs other deep own) (cueOf xs path depth aim) ≡ answered (distance x)
-  between-is other deep own path depth aim d x from to ex told =
-      ap answered
-      (rw (number-is other deep own from, number-is path depth aim to, ex)
-      (fewest-told bs (show .good) (show .no-joins) few-cues {y = copyAt xs path depth}
-      (after-under (show-spot bs) (take depth path) (to .steps)) (source xs other deep own) aim (getD d aim 0) (to .low) (to .high)
-      (told aim (omega (arith, to .low, to .high)))))
+  -- The estimate at the end of the way down is the answer.
+  answer-is : {b : List ℕ} {q : Place} (to : Found xs t b q) (s : ℕ) (d : List ℕ) (x : ℕ) → x ≡ getD d (q .own) 0
+      → TellsWhole xs (copyOn xs t b (q .depth)) s d → fewest (showLinks bs) (count bs) s (q .cue) ≡ distance x
+  answer-is {b} {q} to s d x ex told =
+      let h : q .depth ≤ q .depth = omega arith in
+      let v = levels g to (q .depth) h in
+      let u : Under (show-copy bs) (copyOn xs t b (q .depth)) = rw (v .is) (v .under) in
+      let o = own-bounds g to in
+      rw (← cue-is g to, ex)
+      (fewest-told bs (show .good) (show .no-joins) few-cues {y = copyOn xs t b (q .depth)}
+      u s (q .own) (getD d (q .own) 0) (o .0) (o .1)
+      (told (q .own) (omega (arith, o))))
 
--- The labels of the show, which are those at level 0 of every path, and what was kept.
-pub whole-first : (xs other : List ℕ) (deep own : ℕ) (path kept d : List ℕ) → Risen xs other deep own 0 kept d
-    → Whole xs (copyAt xs path 0) (source xs other deep own) d
-unfolding after
-whole-first xs other deep own path kept d r = r .inside
-
-pub kept-first : (xs other : List ℕ) (deep own : ℕ) (kept d : List ℕ) → Risen xs other deep own 0 kept d → KeptFrom xs other deep own kept 1
-kept-first xs other deep own kept d r j a b = r .levels j (omega arith) b
+  -- Down the levels that two places share, and on to the second.
+  pub answered : {a b : List ℕ} {p q : Place} → Found xs t a p → Found xs t b q → (r : ℕ) → Common a (p .depth) b (q .depth) r
+      → (d e : List ℕ) (n x : ℕ)
+      → n ≡ q .own → x ≡ getD e n 0 → TellsWhole xs (copyOn xs t a r) (p .cue) d → Sunk xs t b r (q .depth) d e
+      → fewest (showLinks bs) (count bs) (p .cue) (q .cue) ≡ distance x
+  answered {p = p} from to r c d e n x en ex told sunk =
+      answer-is to (p .cue) e x (ex ∙ ap (λ (k : ℕ). getD e k 0) en)
+      (sunk (p .cue) (rw (same-copy from to r c) at told) (λ h k. outside from to r c h k))

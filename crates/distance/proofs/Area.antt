@@ -1,57 +1,154 @@
--- The work area as it is filled: the summaries of the blocks so far, and what was there before behind them.
-use Prim.Native.Nat.{ℕ, suc, _+_, _*_, _-_, _≤_}
+-- The work area as it is filled: the summaries of the blocks so far, and what was there before
+-- behind them.
+use Prim.Native.Nat.{ℕ, suc, _+_, _*_, _-_, _≤_, _<_}
 use native.Mathlib.Omega.{arith}
 use native.Mathlib.Numerals.{add-one}
 use mathlib.Core.Path.{_≡_, refl, sym, _∙_, ap}
 use mathlib.Core.List.{List, _++_, flatMap, append-assoc}
-use lib.ListN.{length, take, drop, replicate, length-append, length-drop, length-replicate}
-use lib.Seq.{take-at, drop-at, drop-drop, length-take-le}
-use Rattle.model.specs.Limits.{summarySize, workSize}
+use lib.ListN.{length, getD, take, drop, replicate, length-append, length-drop, length-replicate}
+use lib.Seq.{take-at, drop-at, drop-drop, getD-take, length-take-le}
+use Rattle.model.specs.Limits.{noChain, maxBlocks, maxJoins, summarySize, summaryWidth, workSize}
 use Rattle.model.specs.Lists.{range, overwrite}
-use Rattle.model.specs.Blocks.{Block}
+use Rattle.model.specs.Blocks.{Block, joinsOf, blocksOf, lastBlock}
 use Rattle.model.specs.Summaries.{summaryOf, summaries, workAfter}
-use Rattle.theory.specs.WellFormed.{Good}
-use Rattle.theory.proofs.AtBlock.{joins-small}
-use Rattle.theory.proofs.Places.{summariesTo, summariesTo-next, summariesTo-length, summariesTo-at, summaries-all, summaries-length}
-use Rattle.distance.specs.Starts.{Below}
+use Rattle.shows.specs.WellFormed.{Good}
+use Rattle.shows.proofs.AtBlock.{joins-small}
+use Rattle.distances.specs.Tells.{summariesTo}
+use Rattle.distances.proofs.Places.{summariesTo-next, summariesTo-length, summariesTo-at, summaries-all, summaries-length}
+use Rattle.blocks.specs.Loaded.{Loaded}
+use Rattle.blocks.proofs.Loaded.{loaded-show}
+use Rattle.distance.specs.Summaries.{partOf, withPart, RowsFilled, PartFilled, Below}
+use Rattle.distance.proofs.Summaries.{filled-begin, filled-done}
 
--- A part of 64 numbers from place 64 × k on has become other numbers.
+-- How many blocks there are, by the last of them.
+pub block-count : {xs t : List ℕ} (n : ℕ) → Loaded xs t → n ≡ lastBlock (blocksOf xs)
+    → (n + 1 ≡ length (blocksOf xs)) × (n + 1 ≤ maxBlocks)
+unfolding lastBlock
+block-count n g e = omega (arith, loaded-show g .blocks)
+
+-- Block k's part as the code lends it, and the work area with other numbers put in there.
+pub part-lent : (w : List ℕ) (k : ℕ) → take (summarySize * k + summarySize - summarySize * k) (drop (summarySize * k) w) ≡ partOf w k
+part-lent w k = let d : summarySize * k + summarySize - summarySize * k ≡ summarySize = omega arith in rw d
+
 pub part-put : (w v s : List ℕ) (k : ℕ) → v ≡ s
-    → take (64 * k) w ++ (v ++ drop (64 * k + 64 - 64 * k) (drop (64 * k) w)) ≡ take (64 * k) w ++ (s ++ drop (64 * k + 64) w)
-part-put w v s k e = let d : 64 * k + 64 - 64 * k ≡ 64 = omega arith in rw (d, drop-drop, e)
+    → take (summarySize * k) w ++ (v ++ drop (summarySize * k + summarySize - summarySize * k) (drop (summarySize * k) w)) ≡ withPart w k s
+part-put w v s k e = let d : summarySize * k + summarySize - summarySize * k ≡ summarySize = omega arith in rw (d, drop-drop, e)
+
+-- A part that was put in is there, the rest is as it was, and a second one takes its place.
+module _ (w v : List ℕ) (k : ℕ) (long : summarySize * k + summarySize ≤ length w) where
+  front : length (take (summarySize * k) w) ≡ summarySize * k
+  front = length-take-le (summarySize * k) w (omega arith)
+
+  behind : drop (summarySize * k) (withPart w k v) ≡ v ++ drop (summarySize * k + summarySize) w
+  behind = drop-at (take (summarySize * k) w) (v ++ drop (summarySize * k + summarySize) w) (summarySize * k) front
+
+  pub with-before : take (summarySize * k) (withPart w k v) ≡ take (summarySize * k) w
+  with-before = take-at (take (summarySize * k) w) (v ++ drop (summarySize * k + summarySize) w) (summarySize * k) front
+
+  pub with-below : (bs : List Block) → Good bs → Below bs k w → Below bs k (withPart w k v)
+  with-below bs good below m i j h x y =
+      let few : joinsOf bs m ≤ maxJoins = joins-small m good in
+      let l : summarySize * m + summaryWidth * (i - 1) + (j - 1) < summarySize * k = omega arith in
+      sym (getD-take (summarySize * k) (withPart w k v) (summarySize * m + summaryWidth * (i - 1) + (j - 1)) 0 l)
+      ∙ ap (λ (z : List ℕ). getD z (summarySize * m + summaryWidth * (i - 1) + (j - 1)) 0) with-before
+      ∙ getD-take (summarySize * k) w (summarySize * m + summaryWidth * (i - 1) + (j - 1)) 0 l
+      ∙ below m i j h x y
+
+  module _ (size : length v ≡ summarySize) where
+    pub part-with : partOf (withPart w k v) k ≡ v
+    part-with = ap (take summarySize) behind ∙ take-at v (drop (summarySize * k + summarySize) w) summarySize size
+
+    pub with-with : (u : List ℕ) → withPart (withPart w k v) k u ≡ withPart w k u
+    with-with u =
+        let e : drop (summarySize * k + summarySize) (withPart w k v) ≡ drop (summarySize * k + summarySize) w =
+        sym (drop-drop summarySize (summarySize * k) (withPart w k v)) ∙ ap (drop summarySize) behind ∙ drop-at v
+        (drop (summarySize * k + summarySize) w) summarySize size in
+        rw (with-before, e)
+
+-- A block's part at first: no chain anywhere.
+pub partFilled-begin : (bs : List Block) (k : ℕ) (w v u : List ℕ) → summarySize * k + summarySize ≤ length w
+    → v ≡ replicate (length (take (summarySize * k + summarySize - summarySize * k) (drop (summarySize * k) w))) noChain
+    → u ≡ take (summarySize * k) w ++ (v ++ drop (summarySize * k + summarySize - summarySize * k) (drop (summarySize * k) w))
+    → PartFilled bs k 0 w u
+partFilled-begin bs k w v u long ev eu =
+    let n : length (take (summarySize * k + summarySize - summarySize * k) (drop (summarySize * k) w)) ≡ summarySize =
+    ap length (part-lent w k) ∙ length-take-le summarySize (drop (summarySize * k) w)
+    (omega (arith, length-drop (summarySize * k) w)) in
+    record {
+      part =
+          replicate summarySize noChain;
+      is = eu ∙ part-put w v (replicate summarySize noChain) k
+          (ev ∙ ap (λ (m : ℕ). replicate m noChain) n);
+      filled = filled-begin bs k;
+    }
+
+-- The same of the work area as it is then.
+pub partFilled-same : (bs : List Block) (k : ℕ) {w u : List ℕ} {i : ℕ} → summarySize * k + summarySize ≤ length w
+    → PartFilled bs k i w u → PartFilled bs k i u u
+partFilled-same bs k {w} {u} long s =
+    record {
+      part = s .part;
+      is = s .is ∙ sym (ap (λ (z : List ℕ). withPart z k (s .part)) (s .is) ∙ with-with w (s .part) k long (s .filled .size) (s .part));
+      filled = s .filled;
+    }
+
+-- One row more, and all.
+module _ (bs : List Block) (k : ℕ) {w u : List ℕ} {i : ℕ} (long : summarySize * k + summarySize ≤ length w)
+    (s : PartFilled bs k i w u) where
+  pub partFilled-rows : RowsFilled bs k i (partOf u k)
+  partFilled-rows = rw (s .is, part-with w (s .part) k long (s .filled .size)) (s .filled)
+
+  pub partFilled-below : Good bs → Below bs k w → Below bs k u
+  partFilled-below good below = rw (s .is) (with-below w (s .part) k long bs good below)
+
+  pub partFilled-on : {x : List ℕ} → PartFilled bs k (i + 1) u x → PartFilled bs k (i + 1) w x
+  partFilled-on {x} r =
+      record {
+        part = r .part;
+        is = r .is ∙ ap (λ (z : List ℕ). withPart z k (r .part)) (s .is) ∙ with-with w (s .part) k long (s .filled .size) (r .part);
+        filled = r .filled;
+      }
+
+pub partFilled-done : (bs : List Block) (k : ℕ) {w u x : List ℕ} {i j : ℕ} → summarySize * k + summarySize ≤ length w
+    → PartFilled bs k i w u → PartFilled bs k j u x
+    → j ≡ joinsOf bs k → x ≡ withPart w k (summaryOf bs k)
+partFilled-done bs k {w} {u} {x} long s r e =
+    r .is ∙ ap (λ (z : List ℕ). withPart z k (r .part)) (s .is) ∙ with-with w (s .part) k long (s .filled .size) (r .part)
+    ∙ ap (withPart w k) (filled-done bs k _ (r .part) e (r .filled))
 
 module _ (bs : List Block) (w₀ : List ℕ) where
   -- The area with the summaries of the first k blocks.
   abbrev pub area : ℕ → List ℕ
-  area k = summariesTo bs k ++ drop (64 * k) w₀
+  area k = summariesTo bs k ++ drop (summarySize * k) w₀
 
-  pub area-none : w₀ ≡ area 0
+  pub area-begin : w₀ ≡ area 0
   unfolding summariesTo range flatMap
-  area-none = refl
+  area-begin = refl
 
-  pub area-length : (k : ℕ) → 64 * k ≤ length w₀ → length (area k) ≡ length w₀
+  pub area-length : (k : ℕ) → summarySize * k ≤ length w₀ → length (area k) ≡ length w₀
   area-length k h =
-      omega (arith, length-append (summariesTo bs k) (drop (64 * k) w₀), length-drop (64 * k) w₀, summariesTo-length bs k)
+      omega (arith, length-append (summariesTo bs k) (drop (summarySize * k) w₀), length-drop (summarySize * k) w₀, summariesTo-length bs k)
 
   pub area-below : (k : ℕ) (w : List ℕ) → Good bs → w ≡ area k → Below bs k w
   area-below k w good e m i j h x y =
       rw e
-      (summariesTo-at bs k (drop (64 * k) w₀) m i j h (x .0) (omega (arith, joins-small m good)) (y .0) (omega (arith, joins-small m good)))
+      (summariesTo-at bs k (drop (summarySize * k) w₀) m i j h (x .0) (omega (arith, joins-small m good)) (y .0) (omega (arith, joins-small m good)))
 
-  area-rest : (k n : ℕ) → drop (64 * k + n) (area k) ≡ drop (64 * k + n) w₀
+  area-rest : (k n : ℕ) → drop (summarySize * k + n) (area k) ≡ drop (summarySize * k + n) w₀
   area-rest k n =
-      sym (drop-drop n (64 * k) (area k))
-      ∙ ap (drop n) (drop-at (summariesTo bs k) (drop (64 * k) w₀) (64 * k) (summariesTo-length bs k))
-      ∙ drop-drop n (64 * k) w₀
+      sym (drop-drop n (summarySize * k) (area k))
+      ∙ ap (drop n) (drop-at (summariesTo bs k) (drop (summarySize * k) w₀) (summarySize * k) (summariesTo-length bs k))
+      ∙ drop-drop n (summarySize * k) w₀
 
-  pub area-more : (k : ℕ) (w u : List ℕ) → w ≡ area k → u ≡ take (64 * k) w ++ (summaryOf bs k ++ drop (64 * k + 64) w) → u ≡ area (k + 1)
-  area-more k w u e f =
-      let p : 64 * suc k ≡ 64 * k + 64 = omega arith in
+  pub area-on : (k : ℕ) (w u : List ℕ) → w ≡ area k
+      → u ≡ take (summarySize * k) w ++ (summaryOf bs k ++ drop (summarySize * k + summarySize) w) → u ≡ area (k + 1)
+  area-on k w u e f =
+      let p : summarySize * suc k ≡ summarySize * k + summarySize = omega arith in
       f
       ∙ (rw (
         e,
-        take-at (summariesTo bs k) (drop (64 * k) w₀) (64 * k) (summariesTo-length bs k),
-        area-rest k 64,
+        take-at (summariesTo bs k) (drop (summarySize * k) w₀) (summarySize * k) (summariesTo-length bs k),
+        area-rest k summarySize,
         add-one,
         p,
         summariesTo-next bs k,
@@ -59,23 +156,29 @@ module _ (bs : List Block) (w₀ : List ℕ) where
       ))
 
   -- Zeros behind the last block's numbers, up to the area's end.
-  pub area-all : (w u z : List ℕ) (b : ℕ) → b ≡ length bs → 64 * b ≤ 16384 → 16384 ≤ length w₀ → w ≡ area b
-      → z ≡ replicate (length (take (16384 - 64 * b) (drop (64 * b) w))) 0
-      → u ≡ take (64 * b) w ++ (z ++ drop (16384 - 64 * b) (drop (64 * b) w)) → u ≡ workAfter bs w₀
+  pub area-done : (w u z : List ℕ) (b : ℕ) → b ≡ length bs → summarySize * b ≤ workSize → workSize ≤ length w₀ → w ≡ area b
+      → z ≡ replicate (length (take (workSize - summarySize * b) (drop (summarySize * b) w))) 0
+      → u ≡ take (summarySize * b) w ++ (z ++ drop (workSize - summarySize * b) (drop (summarySize * b) w)) → u ≡ workAfter bs w₀
   unfolding workAfter overwrite
-  area-all w u z b eb few long ew ez eu =
-      let n : length (take (16384 - 64 * b) (drop (64 * b) (area b))) ≡ 16384 - 64 * b =
-      length-take-le (16384 - 64 * b) (drop (64 * b) (area b)) (omega (arith, length-drop (64 * b) (area b), area-length b (omega arith))) in
-      let s : 64 * b + (16384 - 64 * b) ≡ 16384 = omega arith in
+  area-done w u z b eb few long ew ez eu =
+      let n : length (take (workSize - summarySize * b) (drop (summarySize * b) (area b))) ≡ workSize - summarySize * b =
+      length-take-le (workSize - summarySize * b) (drop (summarySize * b) (area b))
+      (omega (arith, length-drop (summarySize * b) (area b), area-length b (omega arith))) in
+      let s : summarySize * b + (workSize - summarySize * b) ≡ workSize = omega arith in
       let o : summaries bs ≡ summariesTo bs b = rw eb (summaries-all bs) in
-      let l : length (summariesTo bs b ++ replicate (16384 - 64 * b) 0) ≡ 16384 =
-      omega (arith, length-append (summariesTo bs b) (replicate (16384 - 64 * b) 0), summariesTo-length bs b, length-replicate {A = ℕ} (16384 - 64 * b) 0) in
+      let l : length (summariesTo bs b ++ replicate (workSize - summarySize * b) 0) ≡ workSize =
+      omega (
+        arith,
+        length-append (summariesTo bs b) (replicate (workSize - summarySize * b) 0),
+        summariesTo-length bs b,
+        length-replicate {A = ℕ} (workSize - summarySize * b) 0,
+      ) in
       eu
       ∙ (rw (
         ez,
         ew,
         n,
-        take-at (summariesTo bs b) (drop (64 * b) w₀) (64 * b) (summariesTo-length bs b),
+        take-at (summariesTo bs b) (drop (summarySize * b) w₀) (summarySize * b) (summariesTo-length bs b),
         drop-drop,
         area-rest b,
         s,
@@ -86,11 +189,11 @@ module _ (bs : List Block) (w₀ : List ℕ) where
       ))
 
 -- What the fewest question asks of the work area: it begins with the summaries.
-pub area-summaries : (bs : List Block) (w : List ℕ) → take (64 * length bs) (workAfter bs w) ≡ summaries bs
+pub area-summaries : (bs : List Block) (w : List ℕ) → take (summarySize * length bs) (workAfter bs w) ≡ summaries bs
 unfolding workAfter overwrite
 area-summaries bs w =
     rw append-assoc
     (take-at (summaries bs)
     (replicate (workSize - summarySize * length bs) 0
     ++ drop (length (summaries bs ++ replicate (workSize - summarySize * length bs) 0)) w)
-    (64 * length bs) (summaries-length bs))
+    (summarySize * length bs) (summaries-length bs))

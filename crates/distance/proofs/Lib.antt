@@ -1,11 +1,10 @@
--- Laws of labels under relaxation, of what they begin with, of the rows' edges, and of the work area.
-pub mod Beginning
-pub mod Edges
-pub mod Filling
+-- Laws of what estimates begin with, of settled estimates, of the work area, and of copies on the
+-- way up and down.
+pub mod Starts
+pub mod Settled
+pub mod Summaries
 pub mod Area
-pub mod Tracing
-pub mod Levels
-pub mod Ways
+pub mod Copies
 pub mod Telling
-pub mod Climbing
+pub mod Ways
 pub mod Answering

@@ -1,185 +1,191 @@
--- The copies along a path: which block each is a copy of, by which row its next step goes, and which of them hold a cue.
-use Prim.Native.Nat.{ℕ, zero, suc, _+_, _*_, _-_, _≤_, _<_}
+-- Up along the rows of a place, level by level, and down along them or along others.
+use Prim.Native.Nat.{ℕ, _+_, _*_, _-_, _≤_, _<_}
 use native.Mathlib.Omega.{arith}
-use native.Mathlib.Decide.{decLt}
-use mathlib.Core.Path.{_≡_, refl, _∙_, ap}
-use mathlib.Core.List.{List, [], _∷_, map}
-use lib.ListN.{length, getD, take, length-map}
-use lib.Seq.{take-suc, take-take, getD-take, length-take-le}
-use Rattle.model.specs.Rows.{cell}
-use Rattle.model.specs.Blocks.{Use, Block, blockAt, sumOver, total, lastBlock, blocksOf}
-use Rattle.model.specs.Lists.{range}
-use Rattle.model.specs.Verdicts.{verdict}
-use Rattle.model.specs.declared.Verdict.the-variants.{Accepted}
-use Rattle.theory.specs.Accepted.{Show}
-use Rattle.theory.proofs.Accepted.{accepted-show}
-use Rattle.theory.proofs.Members.{range-length, range-at}
-use Rattle.theory.proofs.Ranges.{Copy, Spot, meets, part-use}
-use Rattle.theory.proofs.BlockAt.{spot}
-use Rattle.theory.proofs.Locality.{Sound, Part, Numbered, part-spot, part-total, part-numbered, Under, itself, part-of, under-sound, show-spot, show-sound}
-use Rattle.theory.proofs.Trails.{useAt as useOf, part-at, part-at-part, after, Steps, ends, goes, after-snoc}
-use Rattle.rules.specs.Index.{useAt, Indexed}
-use Rattle.distance.specs.Copies.{stepRow, blockOn, copyAt}
-use Rattle.distance.proofs.Edges.{uses-at}
+use native.Mathlib.Decide.{ℕ-discrete, decLt}
+use native.Mathlib.Numerals.{add-one}
+use mathlib.Core.Path.{_≡_, refl, sym, _∙_, ap}
+use mathlib.Core.Logic.{inl, inr}
+use mathlib.Core.List.{List}
+use lib.ListN.{getD}
+use Rattle.model.specs.Limits.{noChain, maxJoins, summaryWidth}
+use Rattle.model.specs.Blocks.{Use, Block, blockAt, joinsOf, ownOf, blocksOf}
+use Rattle.shows.specs.WellFormed.{Cue}
+use Rattle.shows.specs.Copies.{Part, Copy, number, InCopy, part-copy, show-copy}
+use Rattle.shows.proofs.BlockAt.{joinsOf-at, ownOf-at}
+use Rattle.shows.proofs.Locality.{part-of}
+use Rattle.distances.specs.Walks.{each-one}
+use Rattle.distances.proofs.Detours.{BeginsFor, begins-nowhere}
+use Rattle.verdicts.specs.Index.{useAt}
+use Rattle.blocks.specs.Loaded.{Loaded}
+use Rattle.blocks.specs.Places.{blockOn, Found}
+use Rattle.blocks.specs.declared.Place.{Place}
+use Rattle.blocks.proofs.Loaded.{joins-few}
+use Rattle.estimates.specs.Starts.{Beginnings, Nowhere, Either, Started, Merged}
+use Rattle.estimates.proofs.Starts.{started-same, started-merged}
+use Rattle.relax.specs.Edges.{BlockEdge, cueCount, SettledOver, Only, SpreadIn}
+use Rattle.distance.specs.Starts.{RowKept, JoinsKept}
+use Rattle.distance.specs.Summaries.{HasSummaries}
+use Rattle.distance.specs.Copies.{copyOn, TellsInside, TellsWhole, TellsJoins, KeptFrom, Risen, Source, Sunk, FromKept, FromAbove}
+use Rattle.distance.proofs.Copies.{block-suc, top-sound, Level, levels, here, part-on, is-part, part-use-is, next-is, own-bounds, cue-is, numbered-up, cue-numbered}
+use Rattle.distance.proofs.Telling.{start-told, rise-told, sink-told, source-own, source-part}
 
-mapped-at : {B : Type 0} (f : ℕ → B) (l : List ℕ) (i : ℕ) (x : B) → i < length l → getD (map f l) i x ≡ f (getD l i 0)
-mapped-at f [] i x h = absurd (omega arith)
-mapped-at f (y ∷ l) zero x h = refl
-mapped-at f (y ∷ l) (suc i) x h = mapped-at f l i x (omega arith)
+-- What was kept for a level stays as other levels are kept.
+kept-other : (y : Copy) (s j l m p : ℕ) (kept d more : List ℕ) → l < j → m ≤ maxJoins → RowKept kept l d p m more
+    → TellsJoins y s kept j
+    → TellsJoins y s more j
+kept-other y s j l m p kept d more h few r told i a b = rw (r .else (summaryWidth * j + (i - 1)) (inr (omega arith))) (told i a b)
 
--- Each step of a path is a use of the copy that it goes on from.
-steps-at : (z : Spot) (path : List ℕ) → Steps z path → (l : ℕ) → l < length path
-    → (1 ≤ getD path l 0) × (getD path l 0 ≤ length (after z (take l path) .block .uses))
-unfolding after
-steps-at z [] ends l h = absurd (omega arith)
-steps-at z (p ∷ path) (goes x y s) zero h = (x, y)
-steps-at z (p ∷ path) (goes x y s) (suc l) h = steps-at (part-spot z (part-at z p)) path s l (omega arith)
-
-module _ (xs t : List ℕ) (ok : verdict xs ≡ Accepted) (ix : Indexed xs t) where
+module _ {xs t work : List ℕ} (r : HasSummaries xs t work) {rows : List ℕ} {q : Place} (f : Found xs t rows q) where
   abbrev bs : List Block
   bs = blocksOf xs
 
-  abbrev top : Spot
-  top = show-spot bs
+  abbrev g : Loaded xs t
+  g = r .loaded
 
-  show : Show xs
-  show = accepted-show xs ok
+  abbrev block : ℕ → ℕ
+  block l = blockOn xs rows l
 
-  pub whole : Sound top
-  unfolding show
-  whole = show-sound bs (show .good) (show .no-joins)
+  abbrev copy : ℕ → Copy
+  copy l = copyOn xs t rows l
 
-  -- The use that step p of block k goes by, and its row.
-  module _ (k : ℕ) (known : k < length bs) (p : ℕ) (low : 1 ≤ p) (high : p ≤ length (blockAt bs k .uses)) where
-    uses-here : blockAt bs k .uses ≡ map (useAt xs bs) (range (getD t (4 * k + 1) 0) (getD t (4 * k + 2) 0 - getD t (4 * k + 1) 0))
-    uses-here = uses-at xs t [] (show .good) (ix .at) k known
+  abbrev level : (l : ℕ) → l ≤ q .depth → Level g rows l
+  level l h = levels g f l h
 
-    pub row-in : (getD t (4 * k + 1) 0 ≤ stepRow t k p) × (stepRow t k p < getD t (4 * k + 2) 0)
-    row-in =
-        let n : length (blockAt bs k .uses) ≡ getD t (4 * k + 2) 0 - getD t (4 * k + 1) 0 =
-        ap length uses-here ∙ length-map (range (getD t (4 * k + 1) 0) (getD t (4 * k + 2) 0 - getD t (4 * k + 1) 0)) (useAt xs bs)
-        ∙ range-length (getD t (4 * k + 1) 0) (getD t (4 * k + 2) 0 - getD t (4 * k + 1) 0) in
-        omega arith
+  -- What estimates say at the joins of the copy at level l is kept.
+  kept-here : (l : ℕ) (kept d more : List ℕ) → l ≤ q .depth → TellsInside (copy l) (q .cue) d
+      → JoinsKept bs (block l) kept l d more → TellsJoins (copy l) (q .cue) more l
+  kept-here l kept d more h told w i a b =
+      let y : Copy = copy l in
+      let ej : y .block .joins ≡ joinsOf bs (block l) =
+      ap (λ (z : Copy). z .block .joins) (level l h .is) ∙ sym (joinsOf-at bs (block l)) in
+      let eo : y .block .own ≡ ownOf bs (block l) = ap (λ (z : Copy). z .block .own) (level l h .is) ∙ sym (ownOf-at bs (block l)) in
+      let c : ownOf bs (block l) + 1 + (i - 1) ≡ y .block .own + i = omega arith in
+      rw (w .at (i - 1) (omega arith), c) (told (y .block .own + i) (omega arith))
 
-    pub use-row : useOf (blockAt bs k .uses) p ≡ useAt xs bs (stepRow t k p)
-    unfolding useOf
-    use-row =
-        let r = row-in in
-        let e : getD t (4 * k + 1) 0 + (p - 1) ≡ stepRow t k p = omega arith in
-        let n : length (range (getD t (4 * k + 1) 0) (getD t (4 * k + 2) 0 - getD t (4 * k + 1) 0)) ≡ getD t (4 * k + 2) 0 - getD t (4 * k + 1) 0 =
-        range-length (getD t (4 * k + 1) 0) (getD t (4 * k + 2) 0 - getD t (4 * k + 1) 0) in
-        rw uses-here
-        (mapped-at (useAt xs bs) (range (getD t (4 * k + 1) 0) (getD t (4 * k + 2) 0 - getD t (4 * k + 1) 0)) (p - 1) _ (omega arith)
-        ∙ ap (useAt xs bs) (range-at (getD t (4 * k + 1) 0) (getD t (4 * k + 2) 0 - getD t (4 * k + 1) 0) (p - 1) (omega arith) ∙ e))
-
-    pub use-block : useOf (blockAt bs k .uses) p .block ≡ cell xs (stepRow t k p) 2
-    unfolding useAt
-    use-block = ap (λ (u : Use). u .block) use-row
-
-  -- The copy at level l of a path is one of block k.
-  pub record Level (path : List ℕ) (l k : ℕ) : Type 0 where
-    pub known : k < length bs
-    pub base : ℕ
-    pub met : List ℕ
-    pub is : copyAt xs path l ≡ spot bs k base met
-    pub under : Under top (spot bs k base met)
-
-  abbrev pub copy : {path : List ℕ} {l k : ℕ} → Level path l k → Spot
-  copy {path} {l} {k} v = spot bs k (v .base) (v .met)
-
-  -- The next step: the copy that stands for the p-th use.
-  pub level-next : {path : List ℕ} {l k : ℕ} → Level path l k → l < length path → 1 ≤ getD path l 0
-      → getD path l 0 ≤ length (blockAt bs k .uses) → Level path (suc l) (cell xs (stepRow t k (getD path l 0)) 2)
-  level-next {path} {l} {k} v h low high =
-      let y : Spot = spot bs k (v .base) (v .met) in
-      let p : Copy = part-at y (getD path l 0) in
-      let m : Part y p = part-at-part y (getD path l 0) low high in
-      let e : useOf (blockAt bs k .uses) (getD path l 0) .block ≡ cell xs (stepRow t k (getD path l 0)) 2 =
-      use-block k (v .known) (getD path l 0) low high in
-      let lower : useOf (blockAt bs k .uses) (getD path l 0) .block < length bs =
-      part-use (under-sound whole (v .under) .fit) p m .lower in
-      record {
-        known = rw e at lower;
-        base = p .base;
-        met = meets y p;
-        is = ap (after top) (take-suc path l 0 h) ∙ after-snoc top (take l path) (getD path l 0)
-            ∙ ap (λ (z : Spot). part-spot z (part-at z (getD path l 0))) (v .is) ∙ ap (λ (b : ℕ). spot bs b (p .base) (meets y p)) e;
-        under = rw (← e) (part-of y (v .under) p m refl);
-      }
-
-  -- All levels of a path whose steps are uses.
-  module _ (path : List ℕ) (depth : ℕ) (steps : Steps top (take depth path)) (long : depth ≤ length path) where
-    step-in : {l k : ℕ} → l < depth → Level path l k → (1 ≤ getD path l 0) × (getD path l 0 ≤ length (blockAt bs k .uses))
-    step-in {l} {k} h v =
-        let n : length (take depth path) ≡ depth = length-take-le depth path long in
-        let q : getD (take depth path) l 0 ≡ getD path l 0 = getD-take depth path l 0 h in
-        let c : take l (take depth path) ≡ take l path = take-take l depth path (omega arith) in
-        let e : after top (take l path) .block .uses ≡ blockAt bs k .uses = ap (λ (z : Spot). z .block .uses) (v .is) in
-        rw (q, c, e) at (steps-at top (take depth path) steps l (omega arith))
-
-    pub levels : (l : ℕ) → l ≤ depth → Level path l (blockOn xs t path (lastBlock bs) l)
-    unfolding blockOn after lastBlock
-    levels zero h = record { known = omega (arith, show .blocks); base = 0; met = []; is = refl; under = itself refl }
-    levels (suc l) h =
-        let v : Level path l (blockOn xs t path (lastBlock bs) l) = levels l (omega arith) in
-        let s = step-in (omega arith) v in
-        level-next v (omega arith) (s .0) (s .1)
-
-    pub step-at : (l : ℕ) → l < depth
-        → (1 ≤ getD path l 0) × (getD path l 0 ≤ length (blockAt bs (blockOn xs t path (lastBlock bs) l) .uses))
-    step-at l h = step-in h (levels l (omega arith))
-
-    -- The copy at the next level is the part that the step goes to.
-    pub next-is : (l : ℕ) → l < depth → copyAt xs path (suc l) ≡ part-spot (copyAt xs path l) (part-at (copyAt xs path l) (getD path l 0))
-    next-is l h = ap (after top) (take-suc path l 0 (omega arith)) ∙ after-snoc top (take l path) (getD path l 0)
-
-    abbrev here : (l : ℕ) → l ≤ depth → Spot
-    here l h = spot bs (blockOn xs t path (lastBlock bs) l) (levels l h .base) (levels l h .met)
-
-    pub next-part : (l : ℕ) (h : l < depth) (k : l ≤ depth) → copyAt xs path (suc l) ≡ part-spot (here l k) (part-at (here l k) (getD path l 0))
-    next-part l h k = next-is l h ∙ ap (λ (z : Spot). part-spot z (part-at z (getD path l 0))) (levels l k .is)
-
-    pub is-part : (l : ℕ) (h : l < depth) (k : l ≤ depth) → Part (here l k) (part-at (here l k) (getD path l 0))
-    is-part l h k = part-at-part (here l k) (getD path l 0) (step-at l h .0) (step-at l h .1)
-
-    -- Every copy on the way to a cue has its number.
-    pub numbered-at : (s n l : ℕ) → l + n ≡ depth → Numbered (copyAt xs path depth) s → Numbered (copyAt xs path l) s
-    numbered-at s zero l e h = let q : depth ≡ l = omega arith in rw q at h
-    numbered-at s (suc n) l e h =
-        let low : l < depth = omega arith in
-        let k : l ≤ depth = omega arith in
-        let y : Spot = here l k in
-        let below : Numbered (copyAt xs path (suc l)) s = numbered-at s n (suc l) (omega arith) h in
-        rw (levels l k .is)
-        (part-numbered (under-sound whole (levels l k .under)) (part-at y (getD path l 0)) (is-part l low k) s
-        (rw (next-part l low k) at below))
-
--- Two parts of a copy by different steps share no number.
-sum-take : (f : ℕ → ℕ) (us : List Use) (n m : ℕ) → n < m → n < length us
-    → sumOver f (take n us) + f (getD us n (record { block = 0; at = [] }) .block) ≤ sumOver f (take m us)
-unfolding sumOver
-sum-take f [] n m h l = absurd (omega arith)
-sum-take f (u ∷ us) n zero h l = absurd (omega arith)
-sum-take f (u ∷ us) zero (suc m) h l = omega arith
-sum-take f (u ∷ us) (suc n) (suc m) h l = omega (arith, sum-take f us n m (omega arith) (omega arith))
-
-module _ {z : Spot} (g : Sound z) where
-  ordered-apart : (p q s : ℕ) → 1 ≤ p → p < q → q ≤ length (z .block .uses) → Numbered (part-spot z (part-at z p)) s
-      → Numbered (part-spot z (part-at z q)) s → ⊥
-  unfolding useOf
-  ordered-apart p q s low less high a b =
-      omega (
-        arith,
-        a,
-        b,
-        sum-take (total (z .blocks)) (z .block .uses) (p - 1) (q - 1) (omega arith) (omega arith),
-        part-total g (part-at z p) (part-at-part z p low (omega arith)),
-      )
-
-  pub parts-apart : (p q s : ℕ) → 1 ≤ p → p ≤ length (z .block .uses) → 1 ≤ q → q ≤ length (z .block .uses) → (p ≡ q → ⊥)
-      → Numbered (part-spot z (part-at z p)) s → Numbered (part-spot z (part-at z q)) s → ⊥
-  parts-apart p q s lp hp lq hq n a b = go (decLt p q)
+  -- At the place's own level.
+  pub risen-start : (k : ℕ) (kept d more : List ℕ) → k ≡ block (q .depth)
+      → SpreadIn bs work k (Only (q .own)) d
+      → JoinsKept bs k kept (q .depth) d more → Risen xs t rows q (q .depth) more d
+  risen-start k kept d more ek sp w =
+      let h : q .depth ≤ q .depth = omega arith in
+      let v = level (q .depth) h in
+      let eo : copy (q .depth) .block .own ≡ blockAt bs (block (q .depth)) .own = ap (λ (z : Copy). z .block .own) (v .is) in
+      let c : Cue (blockAt bs (block (q .depth))) (q .own) = omega (arith, own-bounds g f) in
+      let n : number (here g f (q .depth) h) (q .own) ≡ q .cue = ap (λ (z : Copy). number z (q .own)) (sym (v .is)) ∙ cue-is g f in
+      let told : TellsInside (copy (q .depth)) (q .cue) d =
+      rw (v .is) (rw n at (start-told r (block (q .depth)) (v .base) (v .met) (v .under) (q .own) d c (rw ek at sp))) in
+      record { inside = told; levels = λ j a b. at j a b (kept-here (q .depth) kept d more h told (rw ek at w)) }
     where
-      go : Dec (p < q) → ⊥
-      go (yes h) = ordered-apart p q s lp h hq a b
-      go (no h) = ordered-apart q p s lq (omega (arith, n)) hp b a
+      at : (j : ℕ) → q .depth ≤ j → j ≤ q .depth → TellsJoins (copy (q .depth)) (q .cue) more (q .depth)
+          → TellsJoins (copy j) (q .cue) more j
+      at j a b p = let e : j ≡ q .depth = omega arith in rw e p
+
+  next-copy : (l : ℕ) (k : l ≤ q .depth) → copy (l + 1) ≡ part-copy (here g f l k) (part-on g f l k)
+  next-copy l k = rw add-one (next-is g f l k)
+
+  -- One level up.
+  pub risen-on : (l : ℕ) (kept e d more : List ℕ) → l < q .depth → Risen xs t rows q (l + 1) kept e
+      → SpreadIn bs work (block l) (FromKept xs rows l kept) d
+      → JoinsKept bs (block l) kept l d more → Risen xs t rows q l more d
+  risen-on l kept e d more h below sp w =
+      let k : l ≤ q .depth = omega arith in
+      let v = level l k in
+      let next : copy (l + 1) ≡ part-copy (here g f l k) (part-on g f l k) = next-copy l k in
+      let inside : InCopy (part-copy (here g f l k) (part-on g f l k)) (q .cue) =
+      rw next at (cue-numbered g f (l + 1) (omega arith)) in
+      let told : TellsJoins (part-copy (here g f l k) (part-on g f l k)) (q .cue) kept (l + 1) =
+      rw next at (below .levels (l + 1) (omega arith) (omega arith)) in
+      let now : TellsInside (copy l) (q .cue) d =
+      rw (v .is)
+      (rise-told r (block l) (v .base) (v .met) (v .under) (part-on g f l k) (is-part g f l h k) (q .cue) (l + 1) kept d inside told
+      (rw (← part-use-is g f l h k) at sp)) in
+      record { inside = now; levels = λ j a b. at j a b (ℕ-discrete j l) (kept-here l kept d more k now w) }
+    where
+      at : (j : ℕ) → l ≤ j → j ≤ q .depth → Dec (j ≡ l) → TellsJoins (copy l) (q .cue) more l → TellsJoins (copy j) (q .cue) more j
+      at j a b (yes e) now = rw e now
+      at j a b (no n) now =
+          let few : joinsOf bs (block l) ≤ maxJoins = joins-few g (block l) (level l (omega arith) .known) in
+          kept-other (copy j) (q .cue) j l (joinsOf bs (block l)) (ownOf bs (block l) + 1) kept d more (omega (arith, n)) few w
+          (below .levels j (omega (arith, n)) b)
+
+  -- One level down, by what the joins have and by what else is begun with.
+  module _ (l : ℕ) (h : l < q .depth) (low : l ≤ q .depth) (s : ℕ) (d e : List ℕ) (told : TellsWhole xs (copy l) s d) where
+    abbrev part : Part
+    part = part-on g f l low
+
+    sunk-by : (S : Beginnings) → BeginsFor each-one (show-copy bs) (part-copy (here g f l low) part) noChain s S
+        → SpreadIn bs work (block (l + 1))
+        (Either (FromAbove xs rows l d) S) e → TellsWhole xs (copy (l + 1)) s e
+    sunk-by S begins sp =
+        let v = level l low in
+        let eu : useAt xs bs (getD rows l 0) ≡ part .of = sym (part-use-is g f l h low) in
+        let eb : block (l + 1) ≡ part .of .block = (rw add-one (block-suc xs rows l)) ∙ ap (λ (u : Use). u .block) eu in
+        rw (next-copy l low)
+        (sink-told r (block l) (v .base) (v .met) (v .under) part (is-part g f l h low) S s d e (rw (v .is) at told) begins (rw (eb, eu) at sp))
+
+    -- No copy from here on has s.
+    pub alone-told : (InCopy (copy (l + 1)) s → ⊥)
+        → SpreadIn bs work (block (l + 1))
+        (FromAbove xs rows l d) e → TellsWhole xs (copy (l + 1)) s e
+    alone-told out sp =
+        sunk-by Nowhere
+        (begins-nowhere each-one (top-sound g) (part-of (here g f l low) (level l low .under) part (is-part g f l h low) refl) noChain s
+        (λ n. out (rw (next-copy l low) n)))
+        (record { start = sp .start; begins = started-same (λ a x i. inl i) (λ a x i. back a x i) (sp .begins); settled = sp .settled })
+      where
+        back : (a x : ℕ) → Either (FromAbove xs rows l d) Nowhere a x
+            → FromAbove xs rows l d a x
+        back a x (inl i) = i
+        back a x (inr i) = absurd i
+
+  -- What estimates at level l begin with on account of the place's cue.
+  source-begins : (l : ℕ) (h : l ≤ q .depth) (kept : List ℕ) → KeptFrom xs t rows q kept 0
+      → BeginsFor each-one (show-copy bs) (here g f l h) noChain (q .cue) (Source xs rows q l kept)
+  source-begins l h kept keeps = go (decLt l (q .depth))
+    where
+      go : Dec (l < q .depth) → BeginsFor each-one (show-copy bs) (here g f l h) noChain (q .cue) (Source xs rows q l kept)
+      go (yes less) =
+          source-part r (block l) (level l h .base) (level l h .met) (level l h .under) rows q l kept (q .cue) less (part-on g f l h)
+          (is-part g f l less h) (part-use-is g f l less h) (rw (next-copy l h) at (cue-numbered g f (l + 1) (omega arith)))
+          (rw (next-copy l h) at (keeps (l + 1) (omega arith) (omega arith)))
+      go (no end) =
+          let e : l ≡ q .depth = omega arith in
+          let z : copy (q .depth) ≡ here g f l h = ap copy (sym e) ∙ level l h .is in
+          let o : copy (q .depth) .block .own ≡ blockAt bs (block l) .own = ap (λ (y : Copy). y .block .own) z in
+          source-own r (block l) (level l h .base) (level l h .met) (level l h .under) rows q l kept (q .cue) (omega arith)
+          (omega (arith, own-bounds g f)) (ap (λ (y : Copy). number y (q .own)) (sym z) ∙ cue-is g f)
+
+  -- Down the place's own rows.
+  pub shared-told : (l : ℕ) (kept d e : List ℕ) → l < q .depth → KeptFrom xs t rows q kept 0 → TellsWhole xs (copy l) (q .cue) d
+      → SpreadIn bs work (block (l + 1))
+      (Either (FromAbove xs rows l d) (Source xs rows q (l + 1) kept)) e
+      → TellsWhole xs (copy (l + 1)) (q .cue) e
+  shared-told l kept d e h keeps told sp =
+      let k : l ≤ q .depth = omega arith in
+      let k′ : l + 1 ≤ q .depth = omega arith in
+      let is : here g f (l + 1) k′ ≡ part-copy (here g f l k) (part-on g f l k) = sym (level (l + 1) k′ .is) ∙ next-copy l k in
+      sunk-by l h k (q .cue) d e told (Source xs rows q (l + 1) kept) (rw is at (source-begins (l + 1) k′ kept keeps)) sp
+
+  -- The same with the estimates as the code has them: entered, with the source put in, settled.
+  pub shared-on : (l : ℕ) (kept d c b e : List ℕ) → l < q .depth → KeptFrom xs t rows q kept 0 → TellsWhole xs (copy l) (q .cue) d
+      → Started (cueCount bs (block (l + 1))) (FromAbove xs rows l d) c
+      → Merged (Source xs rows q (l + 1) kept) c b → SettledOver (BlockEdge bs work (block (l + 1))) b e
+      → TellsWhole xs (copy (l + 1)) (q .cue) e
+  shared-on l kept d c b e h keeps told entered put settled =
+      shared-told l kept d e h keeps told (record { start = b; begins = started-merged entered put; settled = settled })
+
+  pub sunk-on : (a l : ℕ) (d₀ d c e : List ℕ) → l < q .depth → a ≤ l → Sunk xs t rows a l d₀ d
+      → Started (cueCount bs (block (l + 1))) (FromAbove xs rows l d) c
+      → SettledOver (BlockEdge bs work (block (l + 1))) c e → Sunk xs t rows a (l + 1) d₀ e
+  sunk-on a l d₀ d c e h le before entered settled s told out =
+      alone-told l h (omega arith) s d e (before s told (λ k n. out (omega arith) n)) (λ n. out (omega arith) (up n))
+      (record { start = c; begins = entered; settled = settled })
+    where
+      up : InCopy (copy (l + 1)) s → InCopy (copy (a + 1)) s
+      up n = let z : a + 1 + (l - a) ≡ l + 1 = omega arith in numbered-up g f s (l - a) (a + 1) (omega arith) (rw z n)
+
+-- At first.
+pub whole-first : {xs t rows : List ℕ} {q : Place} {kept d : List ℕ} → Risen xs t rows q 0 kept d
+    → TellsWhole xs (copyOn xs t rows 0) (q .cue) d
+unfolding copyOn
+whole-first r = r .inside

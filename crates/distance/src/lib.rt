@@ -1,56 +1,52 @@
-// The fewest follow-ons between two cues, without unfolding: labels relaxed over one block at a time.
-use labels::NO_CHAIN;
-use labels::clear;
-use labels::gather;
-use labels::get;
-use labels::place;
-use labels::put;
-use labels::put_met;
-use relax::ENTRY;
+// The fewest follow-ons between two cues, without unfolding the show. Estimates are relaxed over
+// one block at a time, as Bellman and Ford do it. A block's summary has the distances between its
+// joins, which are a rule's external nodes; with it a use counts as edges between the cues that it
+// names. From s the way goes up the derivation tree, copy by copy to the show, and from there down
+// to the copy of t.
+//
+// Others call `summarise`, which fills the work area with the summaries of all blocks, and
+// `fewest`, which answers the question.
+use blocks::Place;
+use blocks::wide;
+use estimates::ESTIMATES;
+use estimates::NO_CHAIN;
+use estimates::clear;
+use estimates::gather;
+use estimates::put;
+use estimates::put_met;
 use relax::JOINS;
-use relax::ROW;
 use relax::SUMMARY;
+use relax::clear_block;
 use relax::from_cue;
-use relax::joins_of;
-use relax::own_of;
 use relax::settle;
 ghost use mathlib.Core.Path.{_≡_};
 ghost use Prim.Native.Nat.{_+_, _*_, _-_, _≤_, _<_};
-ghost use mathlib.Core.Bool.{true, false};
 ghost use mathlib.Core.List.{_++_};
 ghost use lib.ListN.{length, take, drop, replicate};
-ghost use Rattle.labels.specs.Starts.{Either, Merged};
-ghost use Rattle.relax.specs.Blocks.{joinsBy, ownBy, BlockEdge, Spread};
-ghost use Rattle.distance.specs.Starts.{JoinsAt, PassedOn, RowKept, Below};
-ghost use Rattle.distance.specs.Copies.{stepRow, Traced, Fits, cuesBy, FromRow, Source, heldOn, copyAt, cueOf, Whole, Ready, Goes, source, KeptFrom, Risen};
-ghost use Rattle.model.specs.Blocks.{blocksOf, lastBlock};
-ghost use Rattle.model.specs.Verdicts.{verdict};
+ghost use Rattle.model.specs.Limits.{maxDepth, workSize, summarySize, summaryWidth};
+ghost use Rattle.model.specs.Blocks.{joinsOf, blocksOf, count};
+ghost use Rattle.model.specs.Unfolding.{showLinks};
+ghost use Rattle.model.specs.Chains.{fewest};
 ghost use Rattle.model.specs.Summaries.{summaryOf, summaries, workAfter};
-ghost use Rattle.theory.proofs.Summing.{distance};
-ghost use Rattle.distance.specs.Answers.{answered, fewestIn};
-ghost use Rattle.theory.proofs.Places.{summariesTo};
-ghost use Rattle.model.specs.declared.Verdict.the-variants.{Accepted};
-ghost use Rattle.rules.specs.Index.{Indexed};
+ghost use Rattle.distances.specs.Tells.{summariesTo, distance};
+ghost use Rattle.blocks.specs.Loaded.{Loaded, IsBlock};
+ghost use Rattle.blocks.specs.Places.{blockOn, UsesTo, Found};
+ghost use Rattle.estimates.specs.Starts.{Started, Merged, estimatesSize};
+ghost use Rattle.relax.specs.Edges.{cueCount, SpreadIn};
+ghost use Rattle.distance.specs.Starts.{JoinsAt, RowKept, JoinsKept};
+ghost use Rattle.distance.specs.Summaries.{partOf, RowsFilled, Below, PartFilled, HasSummaries};
+ghost use Rattle.distance.specs.Copies.{FromKept, FromAbove, copyOn, TellsWhole, keptSize, Risen, Source, Common, Sunk};
 
-// Numbers in the work area.
+// Numbers in the work area, and estimates kept on the way up: eight for each level.
 const WORK: usize = 16384;
-
-// Copies inside each other at most, what is kept for them, and labels: one for each cue of a block, and one at 0.
-const LEVELS: usize = 128;
 
 const KEPT: usize = 1024;
 
-const LABELS: usize = 264;
+// Summaries.
 
-// The fewest follow-ons from one cue to another, or none.
-pub enum Answer {
-    Steps(u32),
-    None,
-}
-
-// Row i of a block's numbers: the m labels from cue p on.
+// Row i of some numbers, eight to a row: the m estimates from cue p on.
 fn keep_row(v: &mut [u32], i: usize, d: &[u32], p: usize, m: usize)
-    requires { ⌜ (8 * i + m ≤ length (now v)) × (p + m ≤ length (now d)) ⌝ }
+    requires { ⌜ (summaryWidth * i + m ≤ length (now v)) × (p + m ≤ length (now d)) ⌝ }
     ensures { λ _. ⌜ RowKept (now (v .entry)) i (now (d .entry)) p m (now (v .exit)) ⌝ }
 {
     let mut j = 0;
@@ -60,68 +56,64 @@ fn keep_row(v: &mut [u32], i: usize, d: &[u32], p: usize, m: usize)
     }
 }
 
-// The 64 numbers of block k, by those of the lower blocks in the work area. Labels are kept in d.
-fn block_numbers(xs: &[u32], t: &[u32], work: &[u32], k: usize, d: &mut [u32]) -> [u32; SUMMARY]
-    requires { ⌜ (verdict (now xs) ≡ Accepted) × Indexed (now xs) (now t) × (k < length (blocksOf (now xs)))
-        × Below (blocksOf (now xs)) k (now work) × (length (now d) ≡ 264) ⌝ }
-    ensures { λ r. ⌜ r ≡ summaryOf (blocksOf (now (xs .entry))) k ⌝ }
-{
-    let own = own_of(xs, t, k);
-    let m = joins_of(xs, t, k);
-    let mut v = [NO_CHAIN; SUMMARY];
-    let mut i = 0;
-    while i < m {
-        from_cue(xs, t, work, k, own + m, own + 1 + i, d);
-        keep_row(&mut v, i, d, own + 1, m);
-        i += 1;
-    }
-    v
-}
-
-// A block's part of the work area.
-fn fill(part: &mut [u32], v: [u32; SUMMARY])
-    requires { ⌜ length (now part) ≡ 64 ⌝ }
-    ensures { λ _. ⌜ now (part .exit) ≡ v ⌝ }
-{
-    let mut i = 0;
-    while i < SUMMARY {
-        part[i] = v[i];
-        i += 1;
-    }
-}
-
-// Zeros in a part of the work area.
-fn wipe(part: &mut [u32])
-    ensures { λ _. ⌜ now (part .exit) ≡ replicate (length (now (part .entry))) 0 ⌝ }
+// One number in the whole of a part of the work area.
+fn fill(part: &mut [u32], x: u32)
+    ensures { λ _. ⌜ now (part .exit) ≡ replicate (length (now (part .entry))) x ⌝ }
 {
     let mut i = 0;
     while i < part.len() {
-        part[i] = 0;
+        part[i] = x;
         i += 1;
     }
 }
 
-// The summaries of block k, behind those of the lower blocks.
-fn summarise_block(xs: &[u32], t: &[u32], k: usize, d: &mut [u32], work: &mut [u32])
-    requires { ⌜ (verdict (now xs) ≡ Accepted) × Indexed (now xs) (now t) × (k < length (blocksOf (now xs)))
-        × Below (blocksOf (now xs)) k (now work) × (length (now d) ≡ 264) × (64 * k + 64 ≤ length (now work)) ⌝ }
-    ensures { λ _. ⌜ now (work .exit) ≡ take (64 * k) (now (work .entry)) ++ (summaryOf (blocksOf (now (xs .entry))) k ++ drop
-        (64 * k + 64) (now (work .entry))) ⌝ }
+// Row i of block k's summary: the distances from its join i + 1. Estimates are kept in d.
+fn summarise_join(
+    xs: &[u32],
+    t: &[u32; blocks::INDEX],
+    k: usize,
+    i: usize,
+    d: &mut [u32],
+    work: &mut [u32],
+)
+    requires { ⌜ Loaded (now xs) (now t) × IsBlock (now xs) k × (i < joinsOf (blocksOf (now xs)) k) × (length (now d) ≡ estimatesSize)
+        × (summarySize * k + summarySize ≤ length (now work)) × Below (blocksOf (now xs)) k (now work)
+        × RowsFilled (blocksOf (now xs)) k i (partOf (now work) k) ⌝ }
+    ensures { λ _. ⌜ PartFilled (blocksOf (now (xs .entry))) k (i + 1) (now (work .entry)) (now (work .exit)) ⌝ }
 {
-    let v = block_numbers(xs, t, work, k, d);
+    let first = wide(blocks::own(xs, t, k)) + 1;
+    let m = blocks::joins(xs, t, k);
+    from_cue(xs, t, work, k, first + i, d);
     let a = SUMMARY * k;
     let e = a + SUMMARY;
-    fill(&mut work[a..e], v);
+    keep_row(&mut work[a..e], i, d, first, m);
+}
+
+// The summary of block k, behind those of the lower blocks.
+fn summarise_block(xs: &[u32], t: &[u32; blocks::INDEX], k: usize, d: &mut [u32], work: &mut [u32])
+    requires { ⌜ Loaded (now xs) (now t) × IsBlock (now xs) k × (length (now d) ≡ estimatesSize)
+        × (summarySize * k + summarySize ≤ length (now work)) × Below (blocksOf (now xs)) k (now work) ⌝ }
+    ensures { λ _. ⌜ now (work .exit) ≡ take (summarySize * k) (now (work .entry)) ++ (summaryOf (blocksOf (now (xs .entry))) k ++ drop
+        (summarySize * k + summarySize) (now (work .entry))) ⌝ }
+{
+    let a = SUMMARY * k;
+    let e = a + SUMMARY;
+    fill(&mut work[a..e], NO_CHAIN);
+    let m = blocks::joins(xs, t, k);
+    let mut i = 0;
+    while i < m {
+        summarise_join(xs, t, k, i, d, work);
+        i += 1;
+    }
 }
 
 // The summaries of every block.
-fn summarise_blocks(xs: &[u32], t: &[u32], blocks: usize, work: &mut [u32])
-    requires { ⌜ (verdict (now xs) ≡ Accepted) × Indexed (now xs) (now t) × (blocks ≡ length (blocksOf (now xs)))
-        × (16384 ≤ length (now work)) ⌝ }
-    ensures { λ _. ⌜ now (work .exit) ≡ summariesTo (blocksOf (now (xs .entry))) blocks ++ drop (64 * blocks) (now
+fn summarise_blocks(xs: &[u32], t: &[u32; blocks::INDEX], blocks: usize, work: &mut [u32])
+    requires { ⌜ Loaded (now xs) (now t) × (blocks ≡ length (blocksOf (now xs))) × (workSize ≤ length (now work)) ⌝ }
+    ensures { λ _. ⌜ now (work .exit) ≡ summariesTo (blocksOf (now (xs .entry))) blocks ++ drop (summarySize * blocks) (now
         (work .entry)) ⌝ }
 {
-    let mut d = [0u32; LABELS];
+    let mut d = [0u32; ESTIMATES];
     let mut k = 0;
     while k < blocks {
         summarise_block(xs, t, k, &mut d, work);
@@ -130,343 +122,237 @@ fn summarise_blocks(xs: &[u32], t: &[u32], blocks: usize, work: &mut [u32])
 }
 
 // The work area: the summaries of every block, then zeros up to its 16,384 numbers.
-pub fn summarise(xs: &[u32], t: &[u32; 512], blocks: usize, work: &mut [u32])
-    requires { ⌜ (verdict (now xs) ≡ Accepted) × Indexed (now xs) (now t) × (blocks ≡ length (blocksOf (now xs)))
-        × (16384 ≤ length (now work)) ⌝ }
+pub fn summarise(xs: &[u32], t: &[u32; blocks::INDEX], work: &mut [u32])
+    requires { ⌜ Loaded (now xs) (now t) × (workSize ≤ length (now work)) ⌝ }
     ensures { λ _. ⌜ now (work .exit) ≡ workAfter (blocksOf (now (xs .entry))) (now (work .entry)) ⌝ }
 {
+    let blocks = blocks::last(xs, t) + 1;
     summarise_blocks(xs, t, blocks, work);
     let a = SUMMARY * blocks;
-    wipe(&mut work[a..WORK]);
+    fill(&mut work[a..WORK], 0);
 }
 
-// Labels to begin with at m cues from p on.
+// The way up. Level 0 is the show, and row l of a place's rows leads from level l to level l + 1.
+
+// The estimates at the joins of block k, kept for level l.
+fn keep_joins(xs: &[u32], t: &[u32; blocks::INDEX], k: usize, l: usize, d: &[u32], kept: &mut [u32])
+    requires { ⌜ Loaded (now xs) (now t) × IsBlock (now xs) k × (l ≤ maxDepth) × (length (now d) ≡ estimatesSize)
+        × (length (now kept) ≡ keptSize) ⌝ }
+    ensures { λ _. ⌜ JoinsKept (blocksOf (now (xs .entry))) k (now (kept .entry)) l (now (d .entry)) (now (kept .exit)) ⌝ }
+{
+    let own = wide(blocks::own(xs, t, k));
+    let m = blocks::joins(xs, t, k);
+    keep_row(kept, l, d, own + 1, m);
+}
+
+// What was kept for level l + 1, at the cues of the use that leads there.
+fn put_kept(
+    xs: &[u32],
+    t: &[u32; blocks::INDEX],
+    rows: &[u32],
+    l: usize,
+    kept: &[u32],
+    d: &mut [u32],
+)
+    requires { ⌜ Loaded (now xs) (now t) × UsesTo (now xs) (now rows) (l + 1) × (l < maxDepth) × (length (now kept) ≡ keptSize)
+        × (length (now d) ≡ estimatesSize) ⌝ }
+    ensures { λ _. ⌜ Merged (FromKept (now (xs .entry)) (now (rows .entry)) l (now (kept .entry))) (now (d .entry)) (now (d .exit)) ⌝ }
+{
+    let r = wide(rows[l]);
+    let m = blocks::joins(xs, t, blocks::used(xs, r));
+    put_met(xs, r, kept, JOINS * (l + 1), m, d);
+}
+
+// One level up: the estimates of the block at level l from what was kept for level l + 1.
+fn rise_one(
+    xs: &[u32],
+    t: &[u32; blocks::INDEX],
+    work: &[u32],
+    rows: &[u32],
+    l: usize,
+    kept: &mut [u32],
+    d: &mut [u32],
+)
+    requires { ⌜ HasSummaries (now xs) (now t) (now work) × UsesTo (now xs) (now rows) (l + 1) × (l < maxDepth)
+        × (length (now kept) ≡ keptSize) × (length (now d) ≡ estimatesSize) ⌝ }
+    ensures { λ _. ⌜ SpreadIn (blocksOf (now (xs .entry))) (now (work .entry)) (blockOn (now (xs .entry)) (now (rows .entry)) l)
+        (FromKept (now (xs .entry)) (now (rows .entry)) l (now (kept .entry))) (now (d .exit))
+        × JoinsKept (blocksOf (now (xs .entry))) (blockOn (now (xs .entry)) (now (rows .entry)) l) (now (kept .entry)) l (now (d .exit)) (now (kept .exit)) ⌝ }
+{
+    let k = blocks::block_on(xs, t, rows, l);
+    clear_block(xs, t, k, d);
+    put_kept(xs, t, rows, l, kept, d);
+    settle(xs, t, work, k, d);
+    keep_joins(xs, t, k, l, d, kept);
+}
+
+// The estimates of the show from the cue of a place, and what each copy on the way has at its
+// joins.
+fn climb(
+    xs: &[u32],
+    t: &[u32; blocks::INDEX],
+    work: &[u32],
+    from: Place,
+    rows: &[u32],
+    kept: &mut [u32],
+    d: &mut [u32],
+)
+    requires { ⌜ HasSummaries (now xs) (now t) (now work) × Found (now xs) (now t) (now rows) from × (length (now kept) ≡ keptSize)
+        × (length (now d) ≡ estimatesSize) ⌝ }
+    ensures { λ _. ⌜ Risen (now (xs .entry)) (now (t .entry)) (now (rows .entry)) from 0 (now (kept .exit)) (now (d .exit)) ⌝ }
+{
+    from_cue(xs, t, work, from.block, wide(from.own), d);
+    keep_joins(xs, t, from.block, from.depth, d, kept);
+    let mut l = from.depth;
+    while 0 < l {
+        l -= 1;
+        rise_one(xs, t, work, rows, l, kept, d);
+    }
+}
+
+// The way down.
+
+// Estimates to begin with at m cues from p on.
 fn put_joins(p: usize, e: &[u32], m: usize, d: &mut [u32])
-    requires { ⌜ p + m < 1099511627776 ⌝ }
+    requires { ⌜ (p + m ≤ length (now d)) × (m ≤ length (now e)) ⌝ }
     ensures { λ _. ⌜ Merged (JoinsAt p (now (e .entry)) m) (now (d .entry)) (now (d .exit)) ⌝ }
 {
     let mut i = 0;
     while i < m {
-        put(d, p + i, get(e, i));
+        put(d, p + i, e[i]);
         i += 1;
     }
 }
 
-// The use row of step p of block k.
-fn step_row(t: &[u32], k: usize, p: usize) -> usize
-    requires { ⌜ (k ≤ 4294967295) × (p ≤ 4294967295) ⌝ }
-    ensures { λ r. ⌜ (r ≡ stepRow (now (t .entry)) k p) × (r ≤ 8589934590) ⌝ }
+// From the estimates at level l to those that the block at level l + 1 begins with: its joins have
+// what the cues that they meet have.
+fn enter(xs: &[u32], t: &[u32; blocks::INDEX], rows: &[u32], l: usize, d: &mut [u32])
+    requires { ⌜ Loaded (now xs) (now t) × UsesTo (now xs) (now rows) (l + 1) × (length (now d) ≡ estimatesSize) ⌝ }
+    ensures { λ _. ⌜ Started (cueCount (blocksOf (now (xs .entry))) (blockOn (now (xs .entry)) (now (rows .entry)) (l + 1)))
+        (FromAbove (now (xs .entry)) (now (rows .entry)) l (now (d .entry))) (now (d .exit)) ⌝ }
 {
-    let e = place(t, ENTRY * k + 1) + p;
-    if 0 < e {
-        return e - 1;
-    }
-    0
+    let r = wide(rows[l]);
+    let k = blocks::used(xs, r);
+    let own = wide(blocks::own(xs, t, k));
+    let m = blocks::joins(xs, t, k);
+    let mut e = [0u32; JOINS];
+    gather(xs, r, d, m, &mut e);
+    clear(d, own + m);
+    put_joins(own + 1, &e, m, d);
 }
 
-// The blocks along a path from block k.
-fn trace(xs: &[u32], t: &[u32], k: u32, path: &[u32], depth: usize, ks: &mut [u32])
-    requires { ⌜ (depth < length (now ks)) × (depth ≤ 127) ⌝ }
-    ensures { λ _. ⌜ Traced (now (xs .entry)) (now (t .entry)) (now (path .entry)) k depth (now (ks .exit)) ⌝ }
-{
-    ks[0] = k;
-    let mut l = 0;
-    while l < depth {
-        let r = step_row(t, place(ks, l), place(path, l));
-        ks[l + 1] = get(xs, r * ROW + 2);
-        l += 1;
-    }
-}
-
-// The labels of block k from what was kept for level l at the cues of its use row r.
-fn rise_one(
-    xs: &[u32],
-    t: &[u32],
-    work: &[u32],
-    k: usize,
-    r: usize,
-    l: usize,
-    kept: &[u32],
-    d: &mut [u32],
-)
-    requires { ⌜ Fits (now xs) (now t) k × (r ≤ 8589934590) × (l ≤ 127) × (length (now d) ≡ 264) ⌝ }
-    ensures { λ _. ⌜ Spread (BlockEdge (now (xs .entry)) (now (t .entry)) (now (work .entry)) k) (cuesBy (now (xs .entry))
-        (now (t .entry)) k) (FromRow (now (xs .entry)) (now (t .entry)) r l (now (kept .entry))) (now (d .exit)) ⌝ }
-{
-    let m = joins_of(xs, t, place(xs, r * ROW + 2));
-    clear(d, own_of(xs, t, k) + joins_of(xs, t, k));
-    put_met(xs, r * ROW + 3, kept, JOINS * l, m, d);
-    settle(xs, t, work, k, d);
-}
-
-// The labels at the joins of block k, kept for level l.
-fn keep_joins(xs: &[u32], t: &[u32], k: usize, l: usize, d: &[u32], kept: &mut [u32])
-    requires { ⌜ Fits (now xs) (now t) k × (l ≤ 127) × (length (now d) ≡ 264) × (length (now kept) ≡ 1024) ⌝ }
-    ensures { λ _. ⌜ RowKept (now (kept .entry)) l (now (d .entry)) (ownBy (now (xs .entry)) (now (t .entry)) k + 1) (joinsBy
-        (now (xs .entry)) (now (t .entry)) k) (now (kept .exit)) ⌝ }
-{
-    let own = own_of(xs, t, k);
-    let m = joins_of(xs, t, k);
-    keep_row(kept, l, d, own + 1, m);
-}
-
-// Whether the part by step p of a copy at level l still holds the cue at the end of a path.
-fn still_holds(holds: bool, l: usize, path: &[u32], depth: usize, p: usize) -> bool
-    ensures { λ r. ⌜ r ≡ heldOn holds l (now (path .entry)) depth p ⌝ }
-{
-    if holds {
-        if l < depth {
-            let q = place(path, l);
-            if q == p {
-                return true;
-            }
-        }
-    }
-    false
-}
-
-// What labels of block k at level l begin with on account of the cue at the end of a path.
+// What estimates at level l of a place begin with on account of its cue: what was kept at the use
+// that leads on, or 0 at the cue itself.
 fn put_source(
     xs: &[u32],
-    t: &[u32],
-    k: usize,
-    holds: bool,
+    t: &[u32; blocks::INDEX],
+    from: Place,
+    rows: &[u32],
     l: usize,
-    path: &[u32],
-    depth: usize,
-    own: usize,
     kept: &[u32],
     d: &mut [u32],
 )
-    requires { ⌜ (k < 128) × (l ≤ 127) ⌝ }
-    ensures { λ _. ⌜ Merged (Source (now (xs .entry)) (now (t .entry)) k holds l (now (path .entry)) depth own
-        (now (kept .entry))) (now (d .entry)) (now (d .exit)) ⌝ }
+    requires { ⌜ Loaded (now xs) (now t) × Found (now xs) (now t) (now rows) from × (l ≤ from .depth) × (length (now kept) ≡ keptSize)
+        × (length (now d) ≡ estimatesSize) ⌝ }
+    ensures { λ _. ⌜ Merged (Source (now (xs .entry)) (now (rows .entry)) from l (now (kept .entry))) (now (d .entry)) (now (d .exit)) ⌝ }
 {
-    if holds {
-        if l < depth {
-            let r = step_row(t, k, place(path, l));
-            let m = joins_of(xs, t, place(xs, r * ROW + 2));
-            put_met(xs, r * ROW + 3, kept, JOINS * (l + 1), m, d);
-        } else {
-            put(d, own, 0);
-        }
+    if l < from.depth {
+        put_kept(xs, t, rows, l, kept, d);
+    } else {
+        put(d, wide(from.own), 0);
     }
 }
 
-// From the labels of a block to those of block k, which its use row r names, at level l: what its joins have, and the cue at the path's end.
-fn sink_one(
+// Down the first levels of a place's own rows: from the estimates of the show to those of the whole
+// show at the given level.
+fn sink_shared(
     xs: &[u32],
-    t: &[u32],
+    t: &[u32; blocks::INDEX],
     work: &[u32],
-    k: usize,
-    r: usize,
-    holds: bool,
-    l: usize,
-    path: &[u32],
-    depth: usize,
-    own: usize,
+    from: Place,
+    rows: &[u32],
+    shared: usize,
     kept: &[u32],
     d: &mut [u32],
 )
-    requires { ⌜ Fits (now xs) (now t) k × (r ≤ 8589934590) × (l ≤ 127) × (length (now d) ≡ 264) ⌝ }
-    ensures { λ _. ⌜ Spread (BlockEdge (now (xs .entry)) (now (t .entry)) (now (work .entry)) k) (cuesBy (now (xs .entry))
-        (now (t .entry)) k) (Either
-        (PassedOn (now (xs .entry)) (r * 11 + 3) (now (d .entry)) (ownBy (now (xs .entry)) (now (t .entry)) k + 1) (joinsBy (now (xs .entry)) (now (t .entry)) k))
-        (Source (now (xs .entry)) (now (t .entry)) k holds l (now (path .entry)) depth own (now (kept .entry)))) (now
-        (d .exit)) ⌝ }
+    requires { ⌜ HasSummaries (now xs) (now t) (now work) × Found (now xs) (now t) (now rows) from × (shared ≤ from .depth)
+        × (length (now kept) ≡ keptSize) × (length (now d) ≡ estimatesSize)
+        × Risen (now xs) (now t) (now rows) from 0 (now kept) (now d) ⌝ }
+    ensures { λ _. ⌜ TellsWhole (now (xs .entry)) (copyOn (now (xs .entry)) (now (t .entry)) (now (rows .entry)) shared) (from .cue)
+        (now (d .exit)) ⌝ }
 {
-    let first = own_of(xs, t, k);
-    let m = joins_of(xs, t, k);
-    let mut e = [0u32; JOINS];
-    gather(xs, r * ROW + 3, d, m, &mut e);
-    clear(d, first + m);
-    put_joins(first + 1, &e, m, d);
-    put_source(xs, t, k, holds, l, path, depth, own, kept, d);
-    settle(xs, t, work, k, d);
-}
-
-// Up along a path from its end: ks are the blocks along it.
-fn rise(
-    xs: &[u32],
-    t: &[u32],
-    work: &[u32],
-    ks: &[u32],
-    path: &[u32],
-    depth: usize,
-    own: usize,
-    kept: &mut [u32],
-    d: &mut [u32],
-)
-    requires { ⌜ Ready (now xs) (now t) (now work) × Goes (now xs) (now path) depth own
-        × Traced (now xs) (now t) (now path) (lastBlock (blocksOf (now xs))) depth (now ks) × (length (now kept) ≡ 1024)
-        × (length (now d) ≡ 264) × Risen (now xs) (now path) depth own depth (now kept) (now d) ⌝ }
-    ensures { λ _. ⌜ Risen (now (xs .entry)) (now (path .entry)) depth own 0 (now (kept .exit)) (now (d .exit)) ⌝ }
-{
-    let mut l = depth;
-    while 0 < l {
-        l -= 1;
-        let k = place(ks, l);
-        let r = step_row(t, k, place(path, l));
-        rise_one(xs, t, work, k, r, l + 1, kept, d);
-        keep_joins(xs, t, k, l, d, kept);
-    }
-}
-
-// The labels of the show from own cue own at the end of a path, and what each copy on the path has at its joins.
-fn climb(
-    xs: &[u32],
-    t: &[u32],
-    work: &[u32],
-    last: u32,
-    path: &[u32],
-    depth: usize,
-    own: usize,
-    kept: &mut [u32],
-    d: &mut [u32],
-)
-    requires { ⌜ Ready (now xs) (now t) (now work) × Goes (now xs) (now path) depth own
-        × (last ≡ lastBlock (blocksOf (now xs))) × (length (now kept) ≡ 1024) × (length (now d) ≡ 264) ⌝ }
-    ensures { λ _. ⌜ Risen (now (xs .entry)) (now (path .entry)) depth own 0 (now (kept .exit)) (now (d .exit)) ⌝ }
-{
-    let mut ks = [0u32; LEVELS];
-    trace(xs, t, last, path, depth, &mut ks);
-    let k = place(&ks, depth);
-    from_cue(
-        xs,
-        t,
-        work,
-        k,
-        own_of(xs, t, k) + joins_of(xs, t, k),
-        own,
-        d,
-    );
-    keep_joins(xs, t, k, depth, d, kept);
-    rise(xs, t, work, &ks, path, depth, own, kept, d);
-}
-
-// Down along another path: labels of the whole show at ever deeper copies.
-fn sink(
-    xs: &[u32],
-    t: &[u32],
-    work: &[u32],
-    last: usize,
-    other: &[u32],
-    deep: usize,
-    own: usize,
-    kept: &[u32],
-    path: &[u32],
-    depth: usize,
-    aim: usize,
-    d: &mut [u32],
-)
-    requires { ⌜ Ready (now xs) (now t) (now work) × Goes (now xs) (now other) deep own × Goes (now xs) (now path) depth aim
-        × (last ≡ lastBlock (blocksOf (now xs))) × KeptFrom (now xs) (now other) deep own (now kept) 1
-        × (length (now d) ≡ 264)
-        × Whole (now xs) (copyAt (now xs) (now path) 0) (source (now xs) (now other) deep own) (now d) ⌝ }
-    ensures { λ _. ⌜ Whole (now (xs .entry)) (copyAt (now (xs .entry)) (now (path .entry)) depth) (source (now (xs .entry))
-        (now (other .entry)) deep own) (now (d .exit)) ⌝ }
-{
-    let mut k = last;
-    let mut holds = true;
     let mut l = 0;
-    while l < depth {
-        let p = place(path, l);
-        let r = step_row(t, k, p);
-        k = place(xs, r * ROW + 2);
-        holds = still_holds(holds, l, other, deep, p);
-        sink_one(xs, t, work, k, r, holds, l + 1, other, deep, own, kept, d);
+    while l < shared {
+        enter(xs, t, rows, l, d);
         l += 1;
+        put_source(xs, t, from, rows, l, kept, d);
+        settle(xs, t, work, blocks::block_on(xs, t, rows, l), d);
     }
 }
 
-// The last of up to 128 blocks.
-fn last_of(blocks: usize) -> u32
-    requires { ⌜ (1 ≤ blocks) × (blocks ≤ 128) ⌝ }
-    ensures { λ r. ⌜ r ≡ blocks - 1 ⌝ }
-{
-    let k = blocks - 1;
-    k as u32
-}
-
-// What a label says.
-fn said(x: u32) -> Answer
-    ensures { λ r. ⌜ r ≡ answered (distance x) ⌝ }
-{
-    if x < NO_CHAIN {
-        return Answer::Steps(x);
-    }
-    Answer::None
-}
-
-// The label of own cue aim at the end of path, from own cue own at the end of other.
-fn between(
+// Down to a place from one of its levels, past which no copy has the cue that the estimates are
+// about.
+fn sink_alone(
     xs: &[u32],
-    t: &[u32],
+    t: &[u32; blocks::INDEX],
     work: &[u32],
-    last: u32,
-    other: &[u32],
-    deep: usize,
-    own: usize,
-    path: &[u32],
-    depth: usize,
-    aim: usize,
-) -> u32
-    requires { ⌜ Ready (now xs) (now t) (now work) × Goes (now xs) (now other) deep own × Goes (now xs) (now path) depth aim
-        × (last ≡ lastBlock (blocksOf (now xs))) ⌝ }
-    ensures { λ r. ⌜ fewestIn (now (xs .entry)) (cueOf (now (xs .entry)) (now (other .entry)) deep own) (cueOf
-        (now (xs .entry)) (now (path .entry)) depth aim) ≡ answered (distance r) ⌝ }
+    to: Place,
+    rows: &[u32],
+    level: usize,
+    d: &mut [u32],
+)
+    requires { ⌜ HasSummaries (now xs) (now t) (now work) × Found (now xs) (now t) (now rows) to × (level ≤ to .depth)
+        × (length (now d) ≡ estimatesSize) ⌝ }
+    ensures { λ _. ⌜ Sunk (now (xs .entry)) (now (t .entry)) (now (rows .entry)) level (to .depth) (now (d .entry)) (now (d .exit)) ⌝ }
 {
-    let mut kept = [0u32; KEPT];
-    let mut d = [0u32; LABELS];
-    climb(xs, t, work, last, other, deep, own, &mut kept, &mut d);
-    sink(
-        xs,
-        t,
-        work,
-        last as usize,
-        other,
-        deep,
-        own,
-        &kept,
-        path,
-        depth,
-        aim,
-        &mut d,
-    );
-    get(&d, aim)
+    let mut l = level;
+    while l < to.depth {
+        enter(xs, t, rows, l, d);
+        l += 1;
+        settle(xs, t, work, blocks::block_on(xs, t, rows, l), d);
+    }
 }
 
-// The fewest follow-ons from own cue own at the end of other to own cue aim at the end of path; the work area has the summaries.
+// The question.
+
+// How many rows two places have in common: so many levels below the show do they share a copy.
+fn common(a: &[u32], n: usize, b: &[u32], m: usize) -> usize
+    requires { ⌜ (n ≤ length (now a)) × (m ≤ length (now b)) ⌝ }
+    ensures { λ r. ⌜ Common (now (a .entry)) n (now (b .entry)) m r ⌝ }
+{
+    let mut i = 0;
+    while i < n {
+        if i == m {
+            return i;
+        }
+        if a[i] != b[i] {
+            return i;
+        }
+        i += 1;
+    }
+    i
+}
+
+// The fewest follow-ons from the cue of one place to the cue of another, each with the rows that
+// lead there, or 4,294,967,295 for none. The work area has the summaries.
 pub fn fewest(
     xs: &[u32],
-    t: &[u32; 512],
-    blocks: usize,
-    other: &[u32],
-    deep: usize,
-    own: u32,
-    path: &[u32],
-    depth: usize,
-    aim: u32,
+    t: &[u32; blocks::INDEX],
+    from: Place,
+    up: &[u32],
+    to: Place,
+    down: &[u32],
     work: &[u32],
-) -> Answer
-    requires { ⌜ (verdict (now xs) ≡ Accepted) × Indexed (now xs) (now t) × (blocks ≡ length (blocksOf (now xs)))
-        × (take (64 * blocks) (now work) ≡ summaries (blocksOf (now xs))) ⌝ }
-    requires { ⌜ (deep ≤ length (now other)) × (deep ≤ 127) × (1 ≤ cueOf (now xs) (now other) deep own) ⌝ }
-    requires { ⌜ (depth ≤ length (now path)) × (depth ≤ 127) × (1 ≤ cueOf (now xs) (now path) depth aim) ⌝ }
-    ensures { λ r. ⌜ r ≡ fewestIn (now (xs .entry)) (cueOf (now (xs .entry)) (now (other .entry)) deep own) (cueOf
-        (now (xs .entry)) (now (path .entry)) depth aim) ⌝ }
+) -> u32
+    requires { ⌜ Loaded (now xs) (now t) × Found (now xs) (now t) (now up) from × Found (now xs) (now t) (now down) to
+        × (take (summarySize * length (blocksOf (now xs))) (now work) ≡ summaries (blocksOf (now xs))) ⌝ }
+    ensures { λ r. ⌜ fewest (showLinks (blocksOf (now (xs .entry)))) (count (blocksOf (now (xs .entry)))) (from .cue) (to .cue) ≡ distance r ⌝ }
 {
-    let last = last_of(blocks);
-    said(between(
-        xs,
-        t,
-        work,
-        last,
-        other,
-        deep,
-        own as usize,
-        path,
-        depth,
-        aim as usize,
-    ))
+    let mut kept = [0u32; KEPT];
+    let mut d = [0u32; ESTIMATES];
+    climb(xs, t, work, from, up, &mut kept, &mut d);
+    let shared = common(up, from.depth, down, to.depth);
+    sink_shared(xs, t, work, from, up, shared, &kept, &mut d);
+    sink_alone(xs, t, work, to, down, shared, &mut d);
+    d[wide(to.own)]
 }

@@ -2,8 +2,8 @@
 -- In the field's terms a show is a straight-line hyperedge replacement grammar: a block is a rule, its joins are the external
 -- nodes of the rule's right-hand side and its own cues the internal ones, a link is a terminal edge and a use is a nonterminal edge.
 -- The last block is the start graph.
-use Prim.Native.Nat.{ℕ, zero, suc, _+_, _-_}
-use mathlib.Core.Bool.{Bool, true, false}
+use Prim.Native.Nat.{ℕ, _+_, _-_}
+use mathlib.Core.Bool.{true, false}
 use mathlib.Core.List.{List, [], _∷_, _++_}
 use lib.ListN.{length, getD, take}
 use lib.Dec.{eqb}

@@ -36,6 +36,6 @@ searchFrom E t zero n cs = Unreachable
 searchFrom E t (suc many) n cs = elim (isIn t cs) [ true ↦ Far n | false ↦ searchFrom E t many (suc n) (successors E cs) ]
 
 -- The length of the shortest chain from s to t among so many cues. A chain that repeats no cue has fewer links than there are cues,
--- so longer ones need no search. That it is the length of a chain, and none is shorter, is a theorem (crates/theory).
+-- so longer ones need no search. That it is the length of a chain, and none is shorter, is a theorem (crates/distances).
 unfoldable pub fewest : List Link → ℕ → ℕ → ℕ → Distance
 fewest E cues s t = searchFrom (followed E) t cues 0 (s ∷ [])

@@ -1,7 +1,7 @@
 -- Paths and numbers. Document 01, "Unfolding": "The path of a cue is the list of use positions (1 for the block's first use) from the
 -- show down to the copy that owns it". In the field's terms: an address in the derivation tree.
-use Prim.Native.Nat.{ℕ, zero, suc, _+_, _-_}
-use mathlib.Core.Bool.{Bool, true, false}
+use Prim.Native.Nat.{ℕ, suc, _+_, _-_}
+use mathlib.Core.Bool.{true, false}
 use mathlib.Core.List.{List, [], _∷_}
 use lib.ListN.{length}
 use lib.Dec.{eqb}

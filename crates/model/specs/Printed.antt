@@ -3,7 +3,6 @@
 use Prim.Native.Nat.{ℕ, zero, suc, _+_, _/_, _%_}
 use mathlib.Core.Bool.{Bool, true, false}
 use mathlib.Core.List.{List, [], _∷_, _++_, map, flatMap}
-use lib.ListN.{length}
 use lib.Dec.{ltb}
 use Rattle.model.specs.Choice.{ifLt, ifEq}
 use Rattle.model.specs.Limits.{maxLabel}

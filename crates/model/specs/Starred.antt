@@ -11,19 +11,7 @@ use Rattle.model.specs.Blocks.{Link, blocksOf, total}
 use Rattle.model.specs.Verdicts.{refusal}
 use Rattle.model.specs.Unfolding.{showLinks}
 use Rattle.model.specs.Answers.{returned, given}
-use Rattle.model.specs.Questions.{
-  Outcome,
-  answer,
-  refuse,
-  readAsked,
-  writeAsked,
-  countAsked,
-  locateAsked,
-  numberAsked,
-  outAsked,
-  inAsked,
-  fewestAsked,
-}
+use Rattle.model.specs.Questions.{answer, refuse, readAsked, writeAsked, countAsked, locateAsked, numberAsked, outAsked, inAsked, fewestAsked}
 use Rattle.model.specs.Printed.{triples, printed}
 use Rattle.model.specs.Ring.{ring, ringFile, ringPrinted, opening}
 

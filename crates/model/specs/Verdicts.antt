@@ -2,10 +2,10 @@
 use Prim.Native.Nat.{ℕ, zero, suc, _+_, _%_}
 use mathlib.Core.Bool.{Bool, true, false}
 use mathlib.Core.List.{List, [], _∷_, _++_}
-use lib.ListN.{length, getD}
+use lib.ListN.{length}
 use Rattle.model.specs.Choice.{ifLt, ifEq, ifTrue}
 use Rattle.model.specs.Limits.{rowSize, maxRows, maxBytes, maxTotal}
-use Rattle.model.specs.Text.{names, ends, LineValues, Values, Malformed, valuesOf, linesOf}
+use Rattle.model.specs.Text.{names, ends, Values, Malformed, valuesOf, linesOf}
 use Rattle.model.specs.Rows.{Row, rowCount, rowsOf}
 use Rattle.model.specs.Rules.{Seen, start, fault, after}
 use Rattle.model.specs.Blocks.{Block, joinsOf, ownOf, total, blocksOf}

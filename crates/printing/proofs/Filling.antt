@@ -7,7 +7,7 @@ use mathlib.Core.Logic.{_⊎_, inl, inr}
 use mathlib.Core.List.{List, [], _∷_, _++_, flatMap}
 use lib.ListN.{length}
 use Rattle.model.specs.Choice.{ifLt}
-use Rattle.theory.proofs.Choices.{lt-then}
+use Rattle.basics.proofs.Choices.{lt-then}
 use Rattle.codec.specs.Writing.{Puts}
 use Rattle.codec.proofs.Stores.{puts-long, Stored, stored-begin, stored-on}
 use Rattle.printing.specs.Stream.{lineOf, marksFrom, linesFrom, FirstMark, Fills}

@@ -9,7 +9,7 @@ use Rattle.model.specs.Lists.{overwrite}
 use Rattle.model.specs.Printed.{numberText, valuesText}
 use Rattle.codec.specs.Writing.{Puts}
 use Rattle.codec.proofs.Stores.{puts-byte, puts-both, puts-as, puts-long, puts-over}
-use Rattle.printing.specs.Stream.{endedText, lineOf, Begins}
+use Rattle.printing.specs.Stream.{endedText, lineOf, StartsWith}
 use Rattle.printing.proofs.Numbers.{number-long}
 
 -- A number and the byte behind it take at most 11 bytes.
@@ -59,7 +59,7 @@ unfolding lineOf
 line-long u p = values-long u _ 22 _ (pair-long (p / 256) (p % 256))
 
 -- A text that is stored from the start on stands there; and so does one with another behind it.
-pub begins : (w o p : List ℕ) (r : ℕ) → Puts w o 0 r p → length w ≤ length o → Begins w r p
+pub begins : (w o p : List ℕ) (r : ℕ) → Puts w o 0 r p → length w ≤ length o → StartsWith w r p
 unfolding overwrite
 begins w o p r s h =
     let l : length w ≡ r = omega (arith, s .place) in
@@ -69,5 +69,5 @@ begins w o p r s h =
     }
 
 pub titled : (t b o p q : List ℕ) (at r k : ℕ) → Puts t o 0 at p → Puts b p at r q → length b ≤ k → length t + k ≤ length o
-    → Begins (t ++ b) r q
+    → StartsWith (t ++ b) r q
 titled t b o p q at r k s z h l = begins (t ++ b) o q r (puts-both s z) (omega (arith, length-append t b))

@@ -8,7 +8,7 @@ use mathlib.Core.List.{List, [], _∷_}
 use lib.ListN.{getD}
 use Rattle.model.specs.Choice.{ifTrue}
 use Rattle.model.specs.Lists.{range, keep}
-use Rattle.theory.proofs.Choices.{lt-yes, lt-no, eq-then, eq-else, true-then, true-else}
+use Rattle.basics.proofs.Choices.{lt-yes, lt-no, eq-then, eq-else, true-then, true-else}
 use Rattle.printing.specs.Stream.{marked, marksFrom, FirstMark}
 
 module _ (m : List ℕ) where

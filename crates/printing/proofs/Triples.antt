@@ -10,7 +10,7 @@ use Rattle.model.specs.Blocks.{Link, Block, count}
 use Rattle.model.specs.Unfolding.{showLinks}
 use Rattle.model.specs.Lists.{range, keep}
 use Rattle.model.specs.Printed.{isTriple, triplesOf, triples, valuesText, linksTitle, cuesTitle, showText}
-use Rattle.theory.proofs.Choices.{lt-then, lt-else, true-else}
+use Rattle.basics.proofs.Choices.{lt-then, lt-else, true-else}
 use Rattle.triples.specs.Marks.{Marked}
 use Rattle.printing.specs.Stream.{linkLine, cueLines, lineOf, marked, marksFrom, linesFrom}
 use Rattle.printing.proofs.Marks.{is-marked, not-marked}

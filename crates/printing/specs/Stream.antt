@@ -54,6 +54,6 @@ pub record Fills (m : List ℕ) (u p e : ℕ) (out : List ℕ) (place used : ℕ
   pub gets-on : 33 ≤ length out → p < e → p < place
 
 -- A text stands at the start of a list.
-pub record Begins (w : List ℕ) (used : ℕ) (out : List ℕ) : Type 0 where
+pub record StartsWith (w : List ℕ) (used : ℕ) (out : List ℕ) : Type 0 where
   pub fits : used ≤ length out
   pub text : take used out ≡ w

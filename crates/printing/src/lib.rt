@@ -6,7 +6,8 @@ ghost use Prim.Native.Nat.{_+_, _≤_, _<_, _%_};
 ghost use lib.ListN.{length};
 ghost use Rattle.model.specs.Printed.{numberText, valuesText, linksTitle, cuesTitle, refusalText};
 ghost use Rattle.codec.specs.Writing.{Puts};
-ghost use Rattle.printing.specs.Stream.{endedText, lineOf, FirstMark, Fills, Begins};
+ghost use Rattle.printing.specs.Stream.{endedText, lineOf, FirstMark, Fills, StartsWith};
+ghost use Rattle.triples.specs.Marks.{marksSize};
 
 // The titles.
 const LINKS: [u8; 14] = *b"from,to,label\n";
@@ -84,7 +85,7 @@ pub fn put_line(from: u32, to: u32, label: u32, out: &mut [u8], at: usize) -> us
 
 // Writes the line of the link from cue u that a place of the table stands for.
 fn put_place(u: u32, p: usize, out: &mut [u8], at: usize) -> usize
-    requires { ⌜ (p < 256256) × (at + 33 ≤ length (now out)) ⌝ }
+    requires { ⌜ (p < marksSize) × (at + 33 ≤ length (now out)) ⌝ }
     ensures { λ r. ⌜ Puts (lineOf u p) (now (out .entry)) at r (now (out .exit)) ⌝ }
 {
     let to = (p / 256) as u32;
@@ -94,7 +95,7 @@ fn put_place(u: u32, p: usize, out: &mut [u8], at: usize) -> usize
 
 // The first marked place from p on, or e if there is none below e.
 fn next(m: &[u8; MARKS], p: usize, e: usize) -> usize
-    requires { ⌜ (p ≤ e) × (e ≤ 256256) ⌝ }
+    requires { ⌜ (p ≤ e) × (e ≤ marksSize) ⌝ }
     ensures { λ r. ⌜ FirstMark (now (m .entry)) p e r ⌝ }
 {
     let mut i = p;
@@ -109,7 +110,7 @@ fn next(m: &[u8; MARKS], p: usize, e: usize) -> usize
 
 // Puts the lines of the marked places from p up to e into a buffer, as long as there is room for any line.
 pub fn fill(m: &[u8; MARKS], u: u32, p: usize, e: usize, out: &mut [u8]) -> Filled
-    requires { ⌜ (p ≤ e) × (e ≤ 256256) ⌝ }
+    requires { ⌜ (p ≤ e) × (e ≤ marksSize) ⌝ }
     ensures { λ r. ⌜ Fills (now (m .entry)) u p e (now (out .entry)) (r .place) (r .used) (now (out .exit)) ⌝ }
 {
     let mut place = next(m, p, e);
@@ -126,14 +127,14 @@ pub fn fill(m: &[u8; MARKS], u: u32, p: usize, e: usize, out: &mut [u8]) -> Fill
 
 // Puts the title of the links at the start of a buffer.
 pub fn put_links_title(out: &mut [u8; 64]) -> usize
-    ensures { λ r. ⌜ Begins linksTitle r (now (out .exit)) ⌝ }
+    ensures { λ r. ⌜ StartsWith linksTitle r (now (out .exit)) ⌝ }
 {
     codec::put_bytes(&LINKS, out)
 }
 
 // Puts the count of cues there, with its title.
 pub fn put_count(cues: u32, out: &mut [u8; 64]) -> usize
-    ensures { λ r. ⌜ Begins (cuesTitle ++ valuesText (cues ∷ [])) r (now (out .exit)) ⌝ }
+    ensures { λ r. ⌜ StartsWith (cuesTitle ++ valuesText (cues ∷ [])) r (now (out .exit)) ⌝ }
 {
     let at = codec::put_bytes(&CUES, out);
     put_one(cues, out, at)
@@ -141,7 +142,7 @@ pub fn put_count(cues: u32, out: &mut [u8; 64]) -> usize
 
 // Puts a refusal there, with its title.
 pub fn put_refusal(refusal: Refusal, out: &mut [u8; 64]) -> usize
-    ensures { λ r. ⌜ Begins (refusalText refusal) r (now (out .exit)) ⌝ }
+    ensures { λ r. ⌜ StartsWith (refusalText refusal) r (now (out .exit)) ⌝ }
 {
     let number = refusal.number;
     let place = refusal.place;

@@ -1,3 +1,4 @@
--- The laws that the proofs cite.
-pub mod Laws
+-- The laws of relaxation over a block.
+pub mod Rounds
+pub mod Edges
 pub mod Lines

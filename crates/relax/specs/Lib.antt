@@ -1,3 +1,3 @@
 -- What the contracts of this crate are stated with.
 pub mod Lines
-pub mod Blocks
+pub mod Edges

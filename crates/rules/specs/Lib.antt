@@ -1,2 +1,2 @@
-pub mod Index
-pub mod Passing
+pub mod Cells
+pub mod Faults

@@ -1,350 +1,264 @@
-// The check of lent rows, refusals 4 to 10 with their places, and the index of blocks that every question shares.
-//
-// The index is one table of four numbers for each block k, at 4 * k and on: the row that opens it, the first row behind its links, the
-// first row behind its uses, and its total. Rows are counted from 0 here. A total that is too large is kept as 2,147,483,648.
+// Checks 5 to 8 of one row, in lent rows at place p: the refusal's number, or 0.
 ghost use mathlib.Core.Path.{_≡_};
-ghost use mathlib.Core.Bool.{true};
-ghost use Prim.Native.Nat.{ℕ, _+_, _*_, _-_, _≤_, _<_};
-ghost use lib.ListN.{length, getD, replicate};
-ghost use Rattle.rules.specs.Passing.{capped, joinsAt, manyOf, Many, cuesOf, putAt, notedOpen, notedUse, noted, nextState, Scanned, ownAt, standsAt, passesAt, rowNumber, placeFrom, rowsIn, judged, IsChecked, cuesBy};
-ghost use Rattle.model.specs.Verdicts.{refused};
-use model::Refusal;
-use model::Verdict;
+ghost use Prim.Native.Nat.{_+_, _-_, _≤_, _<_};
+ghost use lib.ListN.{length};
+ghost use Rattle.model.specs.Choice.{ifLt};
+ghost use Rattle.model.specs.Rules.{every, isCue, isZero, differs, distinct};
+ghost use Rattle.rules.specs.Cells.{cells, keyBelow};
+ghost use Rattle.rules.specs.Faults.{namedFault, openFault, linkOrder, useOrder, linkFault, useFault, faultOf};
 
-const ROW: usize = 11;
+// The limits of the model, by their names there.
+const MAX_JOINS: u32 = 8;
 
-const MAX_ROWS: usize = 1024;
+const MAX_OWN: u32 = 255;
 
-const MAX_TOTAL: u64 = 2147483647;
+const MAX_LABEL: u32 = 255;
 
-const MAX_TOTAL_32: u32 = 2147483647;
+const MAX_BLOCKS: u32 = 128;
 
-// The verdict on rows, and how many blocks they open.
-pub struct Checked {
-    pub verdict: Verdict,
-    pub blocks: u32,
-}
-
-// What is carried from row to row: how many blocks are open, how many cues the last of them has, the kind of the last row.
-pub struct State {
-    pub blocks: u32,
-    pub cues: u32,
-    pub kind: u32,
-}
-
-// The first fault of 5 to 8 that was found, or 0, and its row, counted from 1; and how many blocks were opened.
-pub struct Scan {
-    pub fault: u32,
-    pub row: u32,
-    pub blocks: u32,
-}
-
-fn wide(x: u32) -> usize
-    ensures { λ r. ⌜ (r ≡ x) × (r < 4294967296) ⌝ }
+// The n numbers from p on are all cues of a block that has so many.
+fn every_cue(xs: &[u32], p: usize, n: usize, cues: u32) -> bool
+    requires { ⌜ p + n ≤ length (now xs) ⌝ }
+    ensures { λ r. ⌜ r ≡ every (isCue cues) (cells (now (xs .entry)) p n) ⌝ }
 {
-    x as usize
-}
-
-fn long(x: u32) -> u64
-    ensures { λ r. ⌜ (r ≡ x) × (r < 4294967296) ⌝ }
-{
-    x as u64
-}
-
-// A number by its place, 0 past the end.
-pub fn get(xs: &[u32], i: usize) -> u32
-    ensures { λ r. ⌜ r ≡ getD (now (xs .entry)) i 0 ⌝ }
-{
-    if i < xs.len() { xs[i] } else { 0 }
-}
-
-// A number of the table put in at its place.
-fn put(t: &mut [u32; 512], i: usize, v: u32)
-    ensures { λ _. ⌜ now (t .exit) ≡ putAt (now (t .entry)) i v ⌝ }
-{
-    if i < 512 {
-        t[i] = v;
-    }
-}
-
-// The sum of two totals, held to one more than the largest.
-fn add_totals(a: u32, b: u32) -> u32
-    ensures { λ r. ⌜ r ≡ capped (a + b) ⌝ }
-{
-    let sum = long(a) + long(b);
-    if MAX_TOTAL < sum {
-        return 2147483648;
-    }
-    sum as u32
-}
-
-// The joins of block k, which the row that opens it has.
-fn joins_at(xs: &[u32], t: &[u32; 512], k: u32) -> usize
-    ensures { λ r. ⌜ r ≡ joinsAt (now (xs .entry)) (now (t .entry)) k ⌝ }
-{
-    let f = wide(get(t, wide(k) * 4));
-    wide(get(xs, f * ROW + 2))
-}
-
-// The own cues of block k.
-fn own_at(xs: &[u32], t: &[u32; 512], k: u32) -> u32
-    ensures { λ r. ⌜ r ≡ ownAt (now (xs .entry)) (now (t .entry)) k ⌝ }
-{
-    let f = wide(get(t, wide(k) * 4));
-    get(xs, f * ROW + 3)
-}
-
-// How many joins the block has that a use at p names.
-fn many_of(xs: &[u32], t: &[u32; 512], p: usize, blocks: u32) -> usize
-    requires { ⌜ p + 11 ≤ length (now xs) ⌝ }
-    ensures { λ r. ⌜ Many (manyOf (now (xs .entry)) (now (t .entry)) p blocks) r ⌝ }
-{
-    if xs[p + 1] != 2 {
-        return 0;
-    }
-    let label = xs[p + 2];
-    if label >= blocks {
-        return 0;
-    }
-    let j = joins_at(xs, t, label);
-    if 8 < j {
-        return 0;
-    }
-    j
-}
-
-// How many cues a block has.
-fn cues_of(own: u32, joins: u32) -> u32
-    ensures { λ r. ⌜ r ≡ cuesOf own joins ⌝ }
-{
-    if 255 < own {
-        return 0;
-    }
-    if 8 < joins {
-        return 0;
-    }
-    own + joins
-}
-
-// What an opening at row r puts into the table.
-fn note_open(t: &mut [u32; 512], at: usize, r: u32, own: u32)
-    requires { ⌜ (r < 1024) × (at < 17179869184) ⌝ }
-    ensures { λ _. ⌜ now (t .exit) ≡ notedOpen (now (t .entry)) at r own ⌝ }
-{
-    put(t, at, r);
-    put(t, at + 1, r + 1);
-    put(t, at + 2, r + 1);
-    put(t, at + 3, own);
-}
-
-// What a use of block k adds to the total.
-fn note_use(t: &mut [u32; 512], at: usize, k: usize)
-    requires { ⌜ (at < 17179869184) × (k < 4294967296) ⌝ }
-    ensures { λ _. ⌜ now (t .exit) ≡ notedUse (now (t .entry)) at k ⌝ }
-{
-    let used = get(t, k * 4 + 3);
-    let total = add_totals(get(t, at + 3), used);
-    put(t, at + 3, total);
-}
-
-// The table after row r, which has passed.
-fn note(t: &mut [u32; 512], block: u32, kind: u32, label: u32, own: u32, r: u32)
-    requires { ⌜ r < 1024 ⌝ }
-    ensures { λ _. ⌜ now (t .exit) ≡ noted (now (t .entry)) block kind label own r ⌝ }
-{
-    let at = block as usize * 4;
-    if kind == 0 {
-        note_open(t, at, r, own);
-        return;
-    }
-    put(t, at + 2, r + 1);
-    if kind == 1 {
-        put(t, at + 1, r + 1);
-        return;
-    }
-    note_use(t, at, label as usize);
-}
-
-// What is carried on after the row at p, which has passed.
-fn next_state(xs: &[u32], p: usize, s: State) -> State
-    requires { ⌜ (p + 11 ≤ length (now xs)) × (s .blocks ≤ 1024) ⌝ }
-    ensures { λ r. ⌜ r ≡ nextState (now (xs .entry)) p s ⌝ }
-{
-    let kind = xs[p + 1];
-    if kind == 0 {
-        return State {
-            blocks: s.blocks + 1,
-            cues: cues_of(xs[p + 3], xs[p + 2]),
-            kind: kind,
-        };
-    }
-    State {
-        blocks: s.blocks,
-        cues: s.cues,
-        kind: kind,
-    }
-}
-
-// The row before row r, or the first.
-fn row_before(r: usize) -> usize
-    ensures { λ p. ⌜ p ≡ r - 1 ⌝ }
-{
-    if r == 0 {
-        return 0;
-    }
-    r - 1
-}
-
-// Checks 5 to 8 of n rows in one pass, with the index of what was read in a table that was empty.
-pub fn pass(xs: &[u32], n: usize, t: &mut [u32; 512]) -> Scan
-    requires { ⌜ (n * 11 ≤ length (now xs)) × (n ≤ 1024) × (now t ≡ replicate 512 0) ⌝ }
-    ensures { λ r. ⌜ Scanned (now (xs .entry)) n (now (t .exit)) r ⌝ }
-{
-    let mut s = State {
-        blocks: 0,
-        cues: 0,
-        kind: 0,
-    };
-    let mut r = 0;
-    while r < n {
-        let p = r * ROW;
-        let many = many_of(xs, t, p, s.blocks);
-        let k = row::fault(xs, p, row_before(r) * ROW, s.blocks, s.cues, s.kind, many);
-        if k != 0 {
-            return Scan {
-                fault: k,
-                row: (r + 1) as u32,
-                blocks: s.blocks,
-            };
+    let mut i = 0;
+    while i < n {
+        let x = xs[p + i];
+        if x < 1 {
+            return false;
         }
-        note(t, xs[p], xs[p + 1], xs[p + 2], xs[p + 3], r as u32);
-        s = next_state(xs, p, s);
-        r += 1;
-    }
-    Scan {
-        fault: 0,
-        row: 0,
-        blocks: s.blocks,
-    }
-}
-
-// Check 9 of block k.
-fn stands(xs: &[u32], t: &[u32; 512], blocks: u32, k: u32) -> bool
-    requires { ⌜ k < 4294967295 ⌝ }
-    ensures { λ r. ⌜ r ≡ standsAt (now (xs .entry)) (now (t .entry)) blocks k ⌝ }
-{
-    let joins = joins_at(xs, t, k);
-    if k + 1 != blocks {
-        return 0 < joins;
-    }
-    if joins != 0 {
-        return false;
-    }
-    0 < own_at(xs, t, k)
-}
-
-// Check 9 or 10 of block k.
-fn passes(xs: &[u32], t: &[u32; 512], blocks: u32, k: u32, number: u32) -> bool
-    requires { ⌜ k < 4294967295 ⌝ }
-    ensures { λ r. ⌜ r ≡ passesAt number (now (xs .entry)) (now (t .entry)) blocks k ⌝ }
-{
-    if number == 9 {
-        return stands(xs, t, blocks, k);
-    }
-    if MAX_TOTAL_32 < get(t, wide(k) * 4 + 3) {
-        return false;
+        if cues < x {
+            return false;
+        }
+        i += 1;
     }
     true
 }
 
-// The number of a row that has so many rows before it.
-fn row_number(r: u32) -> u32
-    ensures { λ p. ⌜ p ≡ rowNumber r ⌝ }
+// Number i, or 0 where it is one of the first `many`.
+fn left_over(x: u32, i: usize, many: usize) -> u32
+    ensures { λ r. ⌜ r ≡ ifLt i many 0 x ⌝ }
 {
-    if r < 1024 {
-        return r + 1;
+    if i < many {
+        return 0;
     }
-    0
+    x
 }
 
-// The opening row of the first block that fails check 9 or 10, or 0.
-fn check_blocks(xs: &[u32], t: &[u32; 512], blocks: u32, number: u32) -> u32
-    ensures { λ p. ⌜ p ≡ placeFrom (passesAt number (now (xs .entry)) (now (t .entry)) blocks) (now (t .entry)) 0 blocks ⌝ }
+// Of the eight numbers from p on, all behind the first `many` are 0. All eight are read, with no exit: that is the fastest.
+fn every_zero(xs: &[u32], p: usize, many: usize) -> bool
+    requires { ⌜ (p + 8 ≤ length (now xs)) × (many ≤ 8) ⌝ }
+    ensures { λ r. ⌜ r ≡ every isZero (cells (now (xs .entry)) (p + many) (8 - many)) ⌝ }
 {
-    let mut k = 0;
-    while k < blocks {
-        let fine = passes(xs, t, blocks, k, number);
-        if !fine {
-            return row_number(get(t, wide(k) * 4));
+    let mut all = 0;
+    let mut i = 0;
+    while i < 8 {
+        all = all | left_over(xs[p + i], i, many);
+        i += 1;
+    }
+    all == 0
+}
+
+// The n numbers from p on all differ from x.
+fn every_other(xs: &[u32], p: usize, n: usize, x: u32) -> bool
+    requires { ⌜ p + n ≤ length (now xs) ⌝ }
+    ensures { λ r. ⌜ r ≡ every (differs x) (cells (now (xs .entry)) p n) ⌝ }
+{
+    let mut i = 0;
+    while i < n {
+        if x == xs[p + i] {
+            return false;
         }
-        k += 1;
+        i += 1;
+    }
+    true
+}
+
+// No number stands twice among them: each differs from all before it.
+fn all_distinct(xs: &[u32], p: usize, n: usize) -> bool
+    requires { ⌜ p + n ≤ length (now xs) ⌝ }
+    ensures { λ r. ⌜ r ≡ distinct (cells (now (xs .entry)) p n) ⌝ }
+{
+    let mut i = 1;
+    while i < n {
+        let x = xs[p + i];
+        let apart = every_other(xs, p, i, x);
+        if !apart {
+            return false;
+        }
+        i += 1;
+    }
+    true
+}
+
+// The n columns from p on and then label a come before those from q on and label b.
+fn is_below(xs: &[u32], p: usize, q: usize, n: usize, a: u32, b: u32) -> bool
+    requires { ⌜ (p + n ≤ length (now xs)) × (q + n ≤ length (now xs)) ⌝ }
+    ensures { λ r. ⌜ r ≡ keyBelow (now (xs .entry)) p q n a b ⌝ }
+{
+    let mut i = 0;
+    while i < n {
+        let x = xs[p + i];
+        let y = xs[q + i];
+        if x < y {
+            return true;
+        }
+        if x != y {
+            return false;
+        }
+        i += 1;
+    }
+    a < b
+}
+
+// Checks 6 and 7 of the columns of a link or a use that names so many cues.
+fn named_fault(xs: &[u32], p: usize, many: usize, cues: u32) -> u32
+    requires { ⌜ (p + 11 ≤ length (now xs)) × (many ≤ 8) ⌝ }
+    ensures { λ r. ⌜ r ≡ namedFault (now (xs .entry)) p many cues ⌝ }
+{
+    if every_cue(xs, p + 3, many, cues) {
+        if every_zero(xs, p + 3, many) {
+            if all_distinct(xs, p + 3, many) {
+                return 0;
+            }
+            return 7;
+        }
+        return 6;
+    }
+    6
+}
+
+fn open_fault(xs: &[u32], p: usize, blocks: u32) -> u32
+    requires { ⌜ p + 11 ≤ length (now xs) ⌝ }
+    ensures { λ r. ⌜ r ≡ openFault (now (xs .entry)) p blocks ⌝ }
+{
+    if xs[p] != blocks {
+        return 5;
+    }
+    if blocks >= MAX_BLOCKS {
+        return 5;
+    }
+    if MAX_JOINS < xs[p + 2] {
+        return 6;
+    }
+    if MAX_OWN < xs[p + 3] {
+        return 6;
+    }
+    if every_zero(xs, p + 3, 1) {
+        return 0;
+    }
+    6
+}
+
+// Check 8 of a link: q is the place of the row before, and before its kind.
+fn link_order(xs: &[u32], p: usize, q: usize, before: u32) -> u32
+    requires { ⌜ (p + 11 ≤ length (now xs)) × (q + 11 ≤ length (now xs)) ⌝ }
+    ensures { λ r. ⌜ r ≡ linkOrder (now (xs .entry)) p q before ⌝ }
+{
+    if before != 1 {
+        return 0;
+    }
+    if is_below(xs, q + 3, p + 3, 2, xs[q + 2], xs[p + 2]) {
+        return 0;
+    }
+    8
+}
+
+// Check 8 of a use.
+fn use_order(xs: &[u32], p: usize, q: usize, before: u32) -> u32
+    requires { ⌜ (p + 11 ≤ length (now xs)) × (q + 11 ≤ length (now xs)) ⌝ }
+    ensures { λ r. ⌜ r ≡ useOrder (now (xs .entry)) p q before ⌝ }
+{
+    if before != 2 {
+        return 0;
+    }
+    if is_below(xs, p + 3, q + 3, 8, xs[p + 2], xs[q + 2]) {
+        return 8;
     }
     0
 }
 
-// How many rows are lent: 0 if they meet refusal 4.
-fn rows_in(xs: &[u32]) -> usize
-    ensures { λ n. ⌜ n ≡ rowsIn (now (xs .entry)) ⌝ }
+fn link_fault(xs: &[u32], p: usize, q: usize, blocks: u32, cues: u32, before: u32) -> u32
+    requires { ⌜ (p + 11 ≤ length (now xs)) × (q + 11 ≤ length (now xs)) ⌝ }
+    ensures { λ r. ⌜ r ≡ linkFault (now (xs .entry)) p q blocks cues before ⌝ }
 {
-    if xs.len() % ROW != 0 {
-        return 0;
+    let block = xs[p];
+    if block >= blocks {
+        return 5;
     }
-    if MAX_ROWS < xs.len() / ROW {
-        return 0;
+    if block + 1 != blocks {
+        return 5;
     }
-    xs.len() / ROW
+    if before >= 2 {
+        return 5;
+    }
+    let label = xs[p + 2];
+    if label < 1 {
+        return 6;
+    }
+    if MAX_LABEL < label {
+        return 6;
+    }
+    let k = named_fault(xs, p, 2, cues);
+    if k != 0 {
+        return k;
+    }
+    link_order(xs, p, q, before)
 }
 
-fn refuse(number: u32, place: u32) -> Verdict
-    ensures { λ v. ⌜ v ≡ refused number place ⌝ }
+// many is how many joins the block has that the use names.
+fn use_fault(
+    xs: &[u32],
+    p: usize,
+    q: usize,
+    blocks: u32,
+    cues: u32,
+    before: u32,
+    many: usize,
+) -> u32
+    requires { ⌜ (p + 11 ≤ length (now xs)) × (q + 11 ≤ length (now xs)) × (many ≤ 8) ⌝ }
+    ensures { λ r. ⌜ r ≡ useFault (now (xs .entry)) p q blocks cues before many ⌝ }
 {
-    Verdict::Refused(Refusal {
-        number: number,
-        place: place,
-    })
+    let block = xs[p];
+    if block >= blocks {
+        return 5;
+    }
+    if block + 1 != blocks {
+        return 5;
+    }
+    if xs[p + 2] >= block {
+        return 6;
+    }
+    let k = named_fault(xs, p, many, cues);
+    if k != 0 {
+        return k;
+    }
+    use_order(xs, p, q, before)
 }
 
-// The verdict on n rows, after the pass over them.
-fn judge(xs: &[u32], t: &[u32; 512], n: usize, fault: u32, row: u32, blocks: u32) -> Verdict
-    ensures { λ v. ⌜ v ≡ judged (now (xs .entry)) (now (t .entry)) n fault row blocks ⌝ }
+// The row at p where the rows before it open so many blocks, the current block has so many cues, and the row before, at q, has the kind
+// before: the number of the first of checks 5 to 8 that it fails, or 0.
+pub fn fault(
+    xs: &[u32],
+    p: usize,
+    q: usize,
+    blocks: u32,
+    cues: u32,
+    before: u32,
+    many: usize,
+) -> u32
+    requires { ⌜ (p + 11 ≤ length (now xs)) × (q + 11 ≤ length (now xs)) × (many ≤ 8) ⌝ }
+    ensures { λ r. ⌜ r ≡ faultOf (now (xs .entry)) p q blocks cues before many ⌝ }
 {
-    if n == 0 {
-        return refuse(4, 0);
+    let kind = xs[p + 1];
+    if kind == 0 {
+        return open_fault(xs, p, blocks);
     }
-    if fault != 0 {
-        return refuse(fault, row);
+    if kind == 1 {
+        return link_fault(xs, p, q, blocks, cues, before);
     }
-    let ends = check_blocks(xs, t, blocks, 9);
-    if ends != 0 {
-        return refuse(9, ends);
+    if kind == 2 {
+        return use_fault(xs, p, q, blocks, cues, before, many);
     }
-    let totals = check_blocks(xs, t, blocks, 10);
-    if totals != 0 {
-        return refuse(10, totals);
-    }
-    Verdict::Accepted
-}
-
-// The verdict on lent rows, and the index of their blocks in a table that was empty.
-pub fn check(xs: &[u32], t: &mut [u32; 512]) -> Checked
-    requires { ⌜ now t ≡ replicate 512 0 ⌝ }
-    ensures { λ r. ⌜ IsChecked (now (xs .entry)) (now (t .exit)) r ⌝ }
-{
-    let n = rows_in(xs);
-    let s = pass(xs, n, t);
-    let verdict = judge(xs, t, n, s.fault, s.row, s.blocks);
-    Checked {
-        verdict: verdict,
-        blocks: s.blocks,
-    }
-}
-
-// The total of the last of some blocks, by the index.
-pub fn cues(t: &[u32; 512], blocks: u32) -> u32
-    ensures { λ r. ⌜ r ≡ cuesBy (now (t .entry)) blocks ⌝ }
-{
-    if blocks == 0 {
-        return 0;
-    }
-    get(t, wide(blocks - 1) * 4 + 3)
+    5
 }

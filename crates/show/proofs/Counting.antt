@@ -1,16 +1,16 @@
--- Counting: the cues of the table are those of the show.
+-- Counting: the total of the last block is the count.
 use Prim.Native.Nat.{ℕ}
 use mathlib.Core.Path.{_≡_}
 use mathlib.Core.List.{List}
+use Rattle.model.specs.Blocks.{blocksOf, count}
 use Rattle.model.specs.Answers.{ofCount}
 use Rattle.model.specs.Questions.{countAsked}
+use Rattle.model.specs.declared.Verdict.{Verdict}
 use Rattle.model.specs.declared.Verdict.the-variants.{Accepted}
 use Rattle.model.specs.declared.CountAnswer.the-variants.{Cues}
-use Rattle.rules.specs.Passing.{IsChecked, cuesBy}
-use Rattle.rules.specs.declared.Checked.{Checked}
-use Rattle.rules.proofs.Checking.{cues-law}
-use Rattle.answers.proofs.Laws.{said-yes, asked-yes}
+use Rattle.verdicts.specs.Passing.{IsChecked}
+use Rattle.answers.proofs.Outcomes.{asked-yes}
 
-pub count-yes : (xs t : List ℕ) (r : Checked) (c : IsChecked xs t r) (n : ℕ) → r .verdict ≡ Accepted → n ≡ cuesBy t (r .blocks) → ofCount (Cues n) ≡ countAsked xs
+pub count-yes : (xs t : List ℕ) (v : Verdict) (c : IsChecked xs t v) (n : ℕ) → v ≡ Accepted → n ≡ count (blocksOf xs) → ofCount (Cues n) ≡ countAsked xs
 unfolding ofCount countAsked
-count-yes xs t r c n e h = asked-yes xs t r c _ _ _ e (rw (h, cues-law xs t r c (said-yes xs t r c e)))
+count-yes xs t v c n e h = asked-yes xs t v c _ _ _ e (rw h)

@@ -2,6 +2,7 @@
 use Prim.Native.Nat.{ℕ, _≤_}
 use native.Mathlib.Omega.{arith}
 use mathlib.Core.Path.{_≡_, refl, sym, _∙_, ap}
+use mathlib.Core.Bool.{true}
 use mathlib.Core.List.{List}
 use lib.ListN.{length, getD}
 use Rattle.model.specs.Blocks.{blocksOf, count}
@@ -13,11 +14,11 @@ use Rattle.model.specs.Questions.{Outcome, outcome, refuse, answer, distanceVal
 use Rattle.model.specs.declared.Verdict.the-variants.{Accepted}
 use Rattle.model.specs.declared.FewestAnswer.{FewestAnswer}
 use Rattle.model.specs.declared.FewestAnswer.the-variants.{Steps, None, Refused as FewestRefused}
-use Rattle.theory.specs.Demand.{Shortest}
-use Rattle.theory.proofs.Accepted.{accepted-show}
-use Rattle.theory.proofs.Fewest.{show-shortest}
+use Rattle.distances.specs.Demand.{Shortest}
+use Rattle.shows.proofs.Accepted.{accepted-show}
+use Rattle.distances.proofs.Fewest.{show-shortest}
 use Rattle.show.specs.Demand.{unfolded, IsFewest}
-use Rattle.answers.proofs.Laws.{on-yes, has-room, has-cue, cue-yes}
+use Rattle.answers.proofs.Outcomes.{on-yes, has-room, has-cue, cue-test}
 
 -- The answer of a distance.
 unfoldable answerOf : Distance → FewestAnswer
@@ -64,8 +65,8 @@ module _ (xs : List ℕ) (s t : ℕ) (work after : List ℕ) (r : FewestAnswer) 
       (e
       ∙ on-yes xs (λ f. refuse f work) _ v
       ∙ sym (has-room work _ 16384 room)
-      ∙ sym (has-cue work _ (blocksOf xs) s (cue-yes (count (blocksOf xs)) s low high))
-      ∙ sym (has-cue work _ (blocksOf xs) t (cue-yes (count (blocksOf xs)) t low′ high′)))
+      ∙ sym (has-cue work _ (blocksOf xs) s (count (blocksOf xs)) true (cue-test (count (blocksOf xs)) s low high) refl refl)
+      ∙ sym (has-cue work _ (blocksOf xs) t (count (blocksOf xs)) true (cue-test (count (blocksOf xs)) t low′ high′) refl refl))
 
   pub demand-3 : IsFewest xs s t r
   unfolding answerOf

@@ -28,12 +28,12 @@ use Rattle.model.specs.Answers.{ofRead}
 use Rattle.model.specs.Questions.{Outcome, outcome, refuse, onAccepted, readAsked}
 use Rattle.model.specs.declared.Refusal.{Refusal}
 use Rattle.model.specs.declared.ReadAnswer.the-variants.{Refused as ReadRefused}
-use Rattle.theory.proofs.Choices.{lt-then, lt-else, eq-then}
-use Rattle.theory.proofs.Files.{read-written}
+use Rattle.basics.proofs.Choices.{lt-then, lt-else, eq-then}
+use Rattle.shows.proofs.Files.{read-written}
 use Rattle.codec.specs.Parsing.{Parses}
 use Rattle.codec.specs.declared.Parsed.{Parsed}
 use Rattle.codec.specs.declared.Parsed.the-variants.{Rows, Refused as Unparsed}
-use Rattle.answers.specs.Ready.{readNumbers}
+use Rattle.answers.specs.Asked.{readNumbers}
 
 -- What is answered, by what the lines of the file say.
 asked-numbers : (f out xs : List ℕ) → readFile f ≡ Numbers xs → readAsked f out ≡ readNumbers xs out

@@ -7,7 +7,7 @@ use Rattle.model.specs.Unfolding.{showLinks}
 use Rattle.model.specs.Chains.{Chain, followed}
 use Rattle.model.specs.declared.FewestAnswer.{FewestAnswer}
 use Rattle.model.specs.declared.FewestAnswer.the-variants.{Steps, None}
-use Rattle.theory.specs.Demand.{NoChain}
+use Rattle.distances.specs.Demand.{NoChain}
 
 -- The links of the unfolded show.
 abbrev pub unfolded : List ℕ → List Link

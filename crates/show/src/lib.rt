@@ -4,7 +4,8 @@
 ghost use mathlib.Core.Path.{_≡_};
 ghost use Rattle.model.specs.Answers.{ofRead, ofWrite, ofCount, ofLocate, ofNumber, ofList, ofFewest};
 ghost use Rattle.model.specs.Questions.{outcome, readAsked, writeAsked, countAsked, locateAsked, numberAsked, outAsked, inAsked, fewestAsked};
-ghost use Rattle.answers.specs.Linked.{listAsked};
+ghost use Rattle.answers.specs.Asked.{listAsked};
+use blocks::INDEX;
 use codec::Parsed;
 use model::CountAnswer;
 use model::FewestAnswer;
@@ -16,16 +17,20 @@ use model::Refusal;
 use model::Verdict;
 use model::WriteAnswer;
 
+// The values of a row, the most rows of a show, and the numbers of them all.
+const ROW: usize = 11;
+
+const MAX_ROWS: usize = 1024;
+
+const ROOM: usize = 11264;
+
 // The count of cues.
 pub fn count(rows: &[u32]) -> CountAnswer
     ensures { λ r. ⌜ ofCount r ≡ countAsked (now (rows .entry)) ⌝ }
 {
-    let mut table = [0u32; 512];
-    let checked = rules::check(rows, &mut table);
-    let blocks = checked.blocks;
-    let verdict = checked.verdict;
-    match verdict {
-        Verdict::Accepted => CountAnswer::Cues(rules::cues(&table, blocks)),
+    let mut table = [0u32; INDEX];
+    match verdicts::check(rows, &mut table) {
+        Verdict::Accepted => CountAnswer::Cues(blocks::count(rows, &table)),
         Verdict::Refused(refusal) => CountAnswer::Refused(refusal),
     }
 }
@@ -34,12 +39,9 @@ pub fn count(rows: &[u32]) -> CountAnswer
 pub fn locate(rows: &[u32], n: u32, path: &mut [u32]) -> LocateAnswer
     ensures { λ r. ⌜ outcome (ofLocate r) (now (path .exit)) ≡ locateAsked (now (rows .entry)) n (now (path .entry)) ⌝ }
 {
-    let mut table = [0u32; 512];
-    let checked = rules::check(rows, &mut table);
-    let blocks = checked.blocks;
-    let verdict = checked.verdict;
-    match verdict {
-        Verdict::Accepted => answers::locate_in(rows, &table, blocks, n, path),
+    let mut table = [0u32; INDEX];
+    match verdicts::check(rows, &mut table) {
+        Verdict::Accepted => answers::locate_in(rows, &table, n, path),
         Verdict::Refused(refusal) => LocateAnswer::Refused(refusal),
     }
 }
@@ -48,12 +50,9 @@ pub fn locate(rows: &[u32], n: u32, path: &mut [u32]) -> LocateAnswer
 pub fn number(rows: &[u32], path: &[u32], own: u32) -> NumberAnswer
     ensures { λ r. ⌜ ofNumber r ≡ numberAsked (now (rows .entry)) (now (path .entry)) own ⌝ }
 {
-    let mut table = [0u32; 512];
-    let checked = rules::check(rows, &mut table);
-    let blocks = checked.blocks;
-    let verdict = checked.verdict;
-    match verdict {
-        Verdict::Accepted => answers::number_in(rows, &table, blocks, path, own),
+    let mut table = [0u32; INDEX];
+    match verdicts::check(rows, &mut table) {
+        Verdict::Accepted => answers::number_in(rows, &table, path, own),
         Verdict::Refused(refusal) => NumberAnswer::Refused(refusal),
     }
 }
@@ -62,17 +61,17 @@ pub fn number(rows: &[u32], path: &[u32], own: u32) -> NumberAnswer
 pub fn read(file: &[u8], rows: &mut [u32]) -> ReadAnswer
     ensures { λ r. ⌜ outcome (ofRead r) (now (rows .exit)) ≡ readAsked (now (file .entry)) (now (rows .entry)) ⌝ }
 {
-    let mut numbers = [0u32; 11264];
+    let mut numbers = [0u32; ROOM];
     match codec::parse(file, &mut numbers) {
         Parsed::Refused(refusal) => ReadAnswer::Refused(refusal),
         Parsed::Rows(many) => {
-            if 1024 < many {
+            if MAX_ROWS < many {
                 return ReadAnswer::Refused(Refusal {
                     number: 4,
                     place: 0,
                 });
             }
-            let end = many * 11;
+            let end = many * ROW;
             answers::read_rows(&numbers[0..end], rows)
         }
     }
@@ -82,10 +81,8 @@ pub fn read(file: &[u8], rows: &mut [u32]) -> ReadAnswer
 pub fn write(rows: &[u32], out: &mut [u8]) -> WriteAnswer
     ensures { λ r. ⌜ outcome (ofWrite r) (now (out .exit)) ≡ writeAsked (now (rows .entry)) (now (out .entry)) ⌝ }
 {
-    let mut table = [0u32; 512];
-    let checked = rules::check(rows, &mut table);
-    let verdict = checked.verdict;
-    match verdict {
+    let mut table = [0u32; INDEX];
+    match verdicts::check(rows, &mut table) {
         Verdict::Accepted => answers::write_rows(rows, out),
         Verdict::Refused(refusal) => WriteAnswer::Refused(refusal),
     }
@@ -95,12 +92,9 @@ pub fn write(rows: &[u32], out: &mut [u8]) -> WriteAnswer
 fn list(rows: &[u32], inward: bool, v: u32, n: u32, page: &mut [u32]) -> ListAnswer
     ensures { λ r. ⌜ outcome (ofList r) (now (page .exit)) ≡ listAsked inward (now (rows .entry)) v n (now (page .entry)) ⌝ }
 {
-    let mut table = [0u32; 512];
-    let checked = rules::check(rows, &mut table);
-    let blocks = checked.blocks;
-    let verdict = checked.verdict;
-    match verdict {
-        Verdict::Accepted => answers::list_of(rows, &table, blocks, inward, v, n, page),
+    let mut table = [0u32; INDEX];
+    match verdicts::check(rows, &mut table) {
+        Verdict::Accepted => answers::list_of(rows, &table, inward, v, n, page),
         Verdict::Refused(refusal) => ListAnswer::Refused(refusal),
     }
 }
@@ -123,12 +117,9 @@ pub fn list_in(rows: &[u32], v: u32, n: u32, page: &mut [u32]) -> ListAnswer
 pub fn fewest(rows: &[u32], s: u32, t: u32, work: &mut [u32]) -> FewestAnswer
     ensures { λ r. ⌜ outcome (ofFewest r) (now (work .exit)) ≡ fewestAsked (now (rows .entry)) s t (now (work .entry)) ⌝ }
 {
-    let mut table = [0u32; 512];
-    let checked = rules::check(rows, &mut table);
-    let blocks = checked.blocks;
-    let verdict = checked.verdict;
-    match verdict {
-        Verdict::Accepted => answers::fewest_in(rows, &table, blocks, s, t, work),
+    let mut table = [0u32; INDEX];
+    match verdicts::check(rows, &mut table) {
+        Verdict::Accepted => answers::fewest_in(rows, &table, s, t, work),
         Verdict::Refused(refusal) => FewestAnswer::Refused(refusal),
     }
 }

@@ -76,19 +76,16 @@ fn tell_2(given: &mut [u32], a: u32, b: u32) -> u64
     requires { ⌜ 3 ≤ length (now given) ⌝ }
     ensures { λ r. ⌜ (r ≡ 0) × (now (given .exit) ≡ overwrite (a ∷ b ∷ []) (now (given .entry))) ⌝ }
 {
-    given[0] = a;
     given[1] = b;
-    0
+    tell_1(given, a)
 }
 
 fn tell_3(given: &mut [u32], a: u32, b: u32, c: u32) -> u64
     requires { ⌜ 3 ≤ length (now given) ⌝ }
     ensures { λ r. ⌜ (r ≡ 0) × (now (given .exit) ≡ overwrite (a ∷ b ∷ c ∷ []) (now (given .entry))) ⌝ }
 {
-    given[0] = a;
-    given[1] = b;
     given[2] = c;
-    0
+    tell_2(given, a, b)
 }
 
 // What is told of a list: cues written, whether there are more (0 or 1).

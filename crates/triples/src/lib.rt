@@ -1,12 +1,16 @@
 // The links from one cue as a table of marks, without unfolding: for the program that prints them.
+// `follow` makes it.
+use blocks::INDEX;
+use blocks::Place;
+use blocks::wide;
 ghost use mathlib.Core.Path.{_≡_};
 ghost use Prim.Native.Nat.{_+_, _≤_, _<_};
 ghost use lib.ListN.{length, take};
 ghost use Rattle.model.specs.Blocks.{blocksOf, count};
 ghost use Rattle.model.specs.Unfolding.{showLinks};
-ghost use Rattle.links.specs.Answer.{labelledCues};
-ghost use Rattle.cues.specs.Found.{Holds};
-ghost use Rattle.triples.specs.Marks.{Blank, marksAll, Within, Aims, sourceOf, TableTo, Marked, Says, GroupEnd};
+ghost use Rattle.lists.specs.Answer.{labelledCues};
+ghost use Rattle.blocks.specs.Loaded.{Loaded};
+ghost use Rattle.triples.specs.Marks.{marksSize, printedCues, Blank, marksAll, PageWithin, Aims, TableTo, Marked, Says, GroupEnd};
 
 // The places of a table: 256 for each cue from 0 to 1,000, the most of a show that is printed.
 const WIDTH: usize = 256;
@@ -20,25 +24,14 @@ const LAST: u32 = 255;
 
 const GROUP: u32 = 16;
 
-// The most steps of a path.
+// The most uses that lead to a place.
 const DEPTH: usize = 127;
 
-// A cue by its path's length and own cue, in a show of so many blocks.
-struct Source {
-    blocks: u32,
-    depth: usize,
-    own: u32,
-}
-
-fn wide(x: u32) -> usize
-    ensures { λ r. ⌜ r ≡ x ⌝ }
-{
-    x as usize
-}
+// ---- a page
 
 // Marks a label of the first n cues of a page.
 fn mark_cues(page: &[u32; CUES], n: usize, label: usize, m: &mut [u8; MARKS])
-    requires { ⌜ (n ≤ 1000) × (label < 256) × Within (now page) n × (length (now m) ≡ 256256) ⌝ }
+    requires { ⌜ (n ≤ printedCues) × (label < 256) × PageWithin (now page) n × (length (now m) ≡ marksSize) ⌝ }
     ensures { λ _. ⌜ now (m .exit) ≡ marksAll (take n (now (page .entry))) label (now (m .entry)) ⌝ }
 {
     let mut i = 0;
@@ -49,40 +42,39 @@ fn mark_cues(page: &[u32; CUES], n: usize, label: usize, m: &mut [u8; MARKS])
     }
 }
 
+// ---- the labels
+
 // Marks the cues that links with one more label lead to.
 fn mark_label(
     xs: &[u32],
-    t: &[u32; 512],
-    z: Source,
-    path: &[u32; DEPTH],
+    t: &[u32; INDEX],
+    place: Place,
+    rows: &[u32; DEPTH],
     label: u32,
     m: &mut [u8; MARKS],
 )
-    requires { ⌜ Aims (now xs) (now t) (now path) (z .blocks) (z .depth) (z .own) × (1 ≤ label) × (label < 256) × TableTo (now xs) (now path) (z .depth) (z .own) label (now m) ⌝ }
-    ensures { λ _. ⌜ TableTo (now (xs .entry)) (now (path .entry)) (z .depth) (z .own) (label + 1) (now (m .exit)) ⌝ }
+    requires { ⌜ Aims (now xs) (now t) (now rows) place × (1 ≤ label) × (label < 256) × TableTo (now xs) (place .cue) label (now m) ⌝ }
+    ensures { λ _. ⌜ TableTo (now (xs .entry)) (place .cue) (label + 1) (now (m .exit)) ⌝ }
 {
     let mut page = [0u32; CUES];
-    let listed = links::list_labels(
-        xs,
-        t,
-        z.blocks,
-        label,
-        label,
-        path,
-        z.depth,
-        z.own,
-        &mut page,
-    );
+    let listed = lists::list_labels(xs, t, label, label, place, rows, &mut page);
     mark_cues(&page, wide(listed.written), wide(label), m);
 }
 
 // Whether a link with a label from lo to hi leads from the cue.
-fn has_labels(xs: &[u32], t: &[u32; 512], z: Source, path: &[u32; DEPTH], lo: u32, hi: u32) -> bool
-    requires { ⌜ Aims (now xs) (now t) (now path) (z .blocks) (z .depth) (z .own) ⌝ }
-    ensures { λ r. ⌜ Says r (labelledCues lo hi (blocksOf (now (xs .entry))) (sourceOf (now (xs .entry)) (now (path .entry)) (z .depth) (z .own))) ⌝ }
+fn has_labels(
+    xs: &[u32],
+    t: &[u32; INDEX],
+    place: Place,
+    rows: &[u32; DEPTH],
+    lo: u32,
+    hi: u32,
+) -> bool
+    requires { ⌜ Aims (now xs) (now t) (now rows) place ⌝ }
+    ensures { λ r. ⌜ Says r (labelledCues lo hi (blocksOf (now (xs .entry))) (place .cue)) ⌝ }
 {
     let mut page = [0u32; 1];
-    let listed = links::list_labels(xs, t, z.blocks, lo, hi, path, z.depth, z.own, &mut page);
+    let listed = lists::list_labels(xs, t, lo, hi, place, rows, &mut page);
     let written = listed.written;
     0 < written
 }
@@ -90,19 +82,19 @@ fn has_labels(xs: &[u32], t: &[u32; 512], z: Source, path: &[u32; DEPTH], lo: u3
 // Marks the labels from lo to hi.
 fn mark_labels(
     xs: &[u32],
-    t: &[u32; 512],
-    z: Source,
-    path: &[u32; DEPTH],
+    t: &[u32; INDEX],
+    place: Place,
+    rows: &[u32; DEPTH],
     lo: u32,
     hi: u32,
     m: &mut [u8; MARKS],
 )
-    requires { ⌜ Aims (now xs) (now t) (now path) (z .blocks) (z .depth) (z .own) × (1 ≤ lo) × GroupEnd lo hi × TableTo (now xs) (now path) (z .depth) (z .own) lo (now m) ⌝ }
-    ensures { λ _. ⌜ TableTo (now (xs .entry)) (now (path .entry)) (z .depth) (z .own) (hi + 1) (now (m .exit)) ⌝ }
+    requires { ⌜ Aims (now xs) (now t) (now rows) place × (1 ≤ lo) × GroupEnd lo hi × TableTo (now xs) (place .cue) lo (now m) ⌝ }
+    ensures { λ _. ⌜ TableTo (now (xs .entry)) (place .cue) (hi + 1) (now (m .exit)) ⌝ }
 {
     let mut label = lo;
     while label <= hi {
-        mark_label(xs, t, z, path, label, m);
+        mark_label(xs, t, place, rows, label, m);
         label += 1;
     }
 }
@@ -110,19 +102,19 @@ fn mark_labels(
 // The same, where a look at all of them at once may spare it.
 fn mark_group(
     xs: &[u32],
-    t: &[u32; 512],
-    z: Source,
-    path: &[u32; DEPTH],
+    t: &[u32; INDEX],
+    place: Place,
+    rows: &[u32; DEPTH],
     lo: u32,
     hi: u32,
     m: &mut [u8; MARKS],
 )
-    requires { ⌜ Aims (now xs) (now t) (now path) (z .blocks) (z .depth) (z .own) × (1 ≤ lo) × GroupEnd lo hi × TableTo (now xs) (now path) (z .depth) (z .own) lo (now m) ⌝ }
-    ensures { λ _. ⌜ TableTo (now (xs .entry)) (now (path .entry)) (z .depth) (z .own) (hi + 1) (now (m .exit)) ⌝ }
+    requires { ⌜ Aims (now xs) (now t) (now rows) place × (1 ≤ lo) × GroupEnd lo hi × TableTo (now xs) (place .cue) lo (now m) ⌝ }
+    ensures { λ _. ⌜ TableTo (now (xs .entry)) (place .cue) (hi + 1) (now (m .exit)) ⌝ }
 {
-    let some = has_labels(xs, t, z, path, lo, hi);
+    let some = has_labels(xs, t, place, rows, lo, hi);
     if some {
-        mark_labels(xs, t, z, path, lo, hi, m);
+        mark_labels(xs, t, place, rows, lo, hi, m);
     }
 }
 
@@ -139,21 +131,23 @@ fn group_end(lo: u32) -> u32
 }
 
 // Marks all labels, group by group.
-fn mark_all(xs: &[u32], t: &[u32; 512], z: Source, path: &[u32; DEPTH], m: &mut [u8; MARKS])
-    requires { ⌜ Aims (now xs) (now t) (now path) (z .blocks) (z .depth) (z .own) × TableTo (now xs) (now path) (z .depth) (z .own) 1 (now m) ⌝ }
-    ensures { λ _. ⌜ TableTo (now (xs .entry)) (now (path .entry)) (z .depth) (z .own) 256 (now (m .exit)) ⌝ }
+fn mark_all(xs: &[u32], t: &[u32; INDEX], place: Place, rows: &[u32; DEPTH], m: &mut [u8; MARKS])
+    requires { ⌜ Aims (now xs) (now t) (now rows) place × TableTo (now xs) (place .cue) 1 (now m) ⌝ }
+    ensures { λ _. ⌜ TableTo (now (xs .entry)) (place .cue) 256 (now (m .exit)) ⌝ }
 {
     let mut lo = 1;
     while lo <= LAST {
         let hi = group_end(lo);
-        mark_group(xs, t, z, path, lo, hi, m);
+        mark_group(xs, t, place, rows, lo, hi, m);
         lo = hi + 1;
     }
 }
 
+// ---- the table of a cue
+
 // A table without marks.
 fn clear(m: &mut [u8; MARKS])
-    requires { ⌜ length (now m) ≡ 256256 ⌝ }
+    requires { ⌜ length (now m) ≡ marksSize ⌝ }
     ensures { λ _. ⌜ Blank (now (m .exit)) ⌝ }
 {
     let mut i = 0;
@@ -164,17 +158,12 @@ fn clear(m: &mut [u8; MARKS])
 }
 
 // Makes the table of cue u of a show with at most 1,000 cues.
-pub fn follow(xs: &[u32], t: &[u32; 512], blocks: u32, u: u32, m: &mut [u8; MARKS])
-    requires { ⌜ Holds (now xs) (now t) blocks u × (count (blocksOf (now xs)) ≤ 1000) × (length (now m) ≡ 256256) ⌝ }
+pub fn follow(xs: &[u32], t: &[u32; INDEX], u: u32, m: &mut [u8; MARKS])
+    requires { ⌜ Loaded (now xs) (now t) × (1 ≤ u) × (u ≤ count (blocksOf (now xs))) × (count (blocksOf (now xs)) ≤ printedCues) × (length (now m) ≡ marksSize) ⌝ }
     ensures { λ _. ⌜ Marked (showLinks (blocksOf (now (xs .entry)))) u (count (blocksOf (now (xs .entry)))) (now (m .exit)) ⌝ }
 {
     clear(m);
-    let mut path = [0u32; DEPTH];
-    let place = cues::find(xs, t, blocks, u, &mut path);
-    let z = Source {
-        blocks: blocks,
-        depth: wide(place.depth),
-        own: place.own,
-    };
-    mark_all(xs, t, z, &path, m);
+    let mut rows = [0u32; DEPTH];
+    let place = paths::find(xs, t, u, &mut rows);
+    mark_all(xs, t, place, &rows, m);
 }

@@ -1,16 +1,34 @@
 // The unfolding program: reads a show file from standard input and prints its links, or how many cues it has, or why it is refused.
-ghost use Rattle.unfolding.specs.Parts.{Prints};
+ghost use Rattle.printed.specs.Parts.{Prints};
 
-// Prints the lines of all links of accepted rows with their index, part by part.
-fn print_links(xs: &[u32], t: &[u32; 512], blocks: u32, cues: u32)
-    requires { ⌜ Prints (now xs) (now t) blocks cues ⌝ }
+// The places of a cue in a table of marks, and those of all cues.
+const WIDTH: usize = 256;
+
+const MARKS: usize = 256256;
+
+// The bytes of a part of the text, and of its title.
+const BUFFER: usize = 65536;
+
+const TITLE: usize = 64;
+
+// One byte more than a file may have.
+const FILE: usize = 65537;
+
+// The numbers of the rows of the largest show, and of an index of blocks.
+const ROOM: usize = 11264;
+
+const INDEX: usize = 512;
+
+// Prints the lines of all links of a loaded show, part by part.
+fn print_links(xs: &[u32], t: &[u32; INDEX], cues: u32)
+    requires { ⌜ Prints (now xs) (now t) cues ⌝ }
 {
-    let mut marks = [0u8; 256256];
-    let mut out = [0u8; 65536];
+    let mut marks = [0u8; MARKS];
+    let mut out = [0u8; BUFFER];
     let mut from = 0;
-    let mut place = 256 * (cues as usize) + 256;
-    while unfolding::going(cues, from, place) {
-        let at = unfolding::part(xs, t, blocks, cues, from, place, &mut marks, &mut out);
+    let mut place = WIDTH * (cues as usize) + WIDTH;
+    while printed::going(cues, from, place) {
+        let at = printed::part(xs, t, cues, from, place, &mut marks, &mut out);
         let written = io::write_all(1, &out[..at.used]);
         if !written {
             return;
@@ -22,12 +40,12 @@ fn print_links(xs: &[u32], t: &[u32; 512], blocks: u32, cues: u32)
 
 // A file of more than 65,536 bytes is refused, so one byte more than that is all that is read.
 fn main() {
-    let mut file = [0u8; 65537];
+    let mut file = [0u8; FILE];
     let length = io::read_full(0, &mut file);
-    let mut rows = [0u32; 11264];
-    let mut t = [0u32; 512];
-    let mut out = [0u8; 64];
-    let begun = unfolding::begin(&file[..length], &mut rows, &mut t, &mut out);
+    let mut rows = [0u32; ROOM];
+    let mut t = [0u32; INDEX];
+    let mut out = [0u8; TITLE];
+    let begun = printed::begin(&file[..length], &mut rows, &mut t, &mut out);
     let used = begun.used;
     let written = io::write_all(1, &out[..used]);
     if !written {
@@ -35,6 +53,6 @@ fn main() {
     }
     if begun.more {
         let size = begun.size;
-        print_links(&rows[..size], &t, begun.blocks, begun.cues);
+        print_links(&rows[..size], &t, begun.cues);
     }
 }

@@ -1,6 +1,6 @@
 -- `answers::by_line` meets its contract: each return is a branch of the definition.
 use borrow.Author.Needs.{needs}
-use Rattle.theory.proofs.Choices.{ifs}
+use Rattle.basics.proofs.Choices.{ifs}
 use Rattle.model.specs.Verdicts.{byLine, refusal}
 use Rattle.answers.proofs.by_line.Statement.{statement}
 use Rattle.answers.proofs.by_line.Tie as tie

@@ -4,7 +4,7 @@ use Prim.Native.Nat.{_-_, _≤_}
 use mathlib.Core.Path.{_≡_}
 use mathlib.Core.List.{_++_}
 use lib.ListN.{length, take, drop}
-use Rattle.answers.proofs.Laws.{copy-on, copy-done}
+use Rattle.answers.proofs.Answering.{copy-on, copy-done}
 use Rattle.answers.proofs.copy.Statement.{statement}
 use Rattle.answers.proofs.copy.Tie as tie
 

@@ -1,18 +1,25 @@
--- `answers::hand_out` meets its contract.
+-- `answers::hand_out`: the sizes of a loaded show are small.
 use borrow.Author.Needs.{needs}
 use native.Mathlib.Omega.{arith}
-use Rattle.answers.proofs.Laws.{read-room, read-done, rows-few}
+use Rattle.blocks.proofs.Loaded.{loaded-show}
+use Rattle.answers.proofs.Answering.{read-room, read-done, rows-few}
 use Rattle.answers.proofs.hand_out.Statement.{statement}
 use Rattle.answers.proofs.hand_out.Tie as tie
 
 returns : tie.Need-returns
 returns c = search (read-room, needs)
 
-cast-t13 : tie.Need-cast-t13
-cast-t13 c = omega (arith, rows-few _ (c .before .before .before .before .before .before .before .pre .accepted))
+narrow-requires : tie.Need-narrow-requires
+narrow-requires c κs = omega (arith, rows-few _ (c .before .before .before .before .before .before .before .pre .accepted))
+
+add-narrow : tie.Need-add-narrow
+add-narrow c = omega (arith, c .last .ensures .1, loaded-show (c .before .before .before .before .before .before .before .before .before .pre) .blocks)
+
+narrow-requires-2 : tie.Need-narrow-requires-2
+narrow-requires-2 c κs = omega (arith, c .last .ensures .1, loaded-show (c .before .before .before .before .before .before .before .before .before .pre) .blocks)
 
 returns-2 : tie.Need-returns-2
 returns-2 c = search (read-done, needs)
 
 pub hand-out-spec : {M : Type 1} → statement M
-hand-out-spec = tie.close (tie.spec returns (λ c κs. search needs) cast-t13 (λ c κs. search needs) (λ c. search needs) returns-2)
+hand-out-spec = tie.close (tie.spec returns (λ c κs. search needs) narrow-requires (λ c κs. search needs) add-narrow narrow-requires-2 (λ c κs. search needs) (λ c. search needs) returns-2)

@@ -1,7 +1,7 @@
 -- `answers::is_cue` meets its contract.
 use mathlib.Core.Path.{refl}
 use native.Mathlib.Omega.{arith}
-use Rattle.theory.proofs.Choices.{lt-yes, lt-no}
+use Rattle.basics.proofs.Choices.{lt-yes, lt-no}
 use Rattle.model.specs.Rules.{isCue}
 use Rattle.answers.proofs.is_cue.Statement.{statement}
 use Rattle.answers.proofs.is_cue.Tie as tie

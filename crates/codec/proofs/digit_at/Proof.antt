@@ -1,6 +1,6 @@
 -- The digit at a place: each answer is a case of the definition.
 use borrow.Author.Needs.{needs}
-use Rattle.theory.proofs.Choices.{ifs}
+use Rattle.basics.proofs.Choices.{ifs}
 use Rattle.codec.specs.Scanning.{figureAt, figure}
 use Rattle.codec.proofs.digit_at.Statement.{statement}
 use Rattle.codec.proofs.digit_at.Tie as tie

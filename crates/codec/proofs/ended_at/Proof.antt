@@ -1,6 +1,6 @@
 -- A value with its end: each answer is a case of the definition.
 use borrow.Author.Needs.{needs}
-use Rattle.theory.proofs.Choices.{ifs}
+use Rattle.basics.proofs.Choices.{ifs}
 use Rattle.codec.specs.Scanning.{endedAt}
 use Rattle.codec.proofs.ended_at.Statement.{statement}
 use Rattle.codec.proofs.ended_at.Tie as tie

@@ -3,6 +3,7 @@ use Prim.Native.Nat.{_-_, _≤_}
 use mathlib.Core.Path.{_≡_}
 use lib.ListN.{length, take, drop}
 use borrow.Author.Needs.{needs}
+use Rattle.model.specs.Limits.{rowSize}
 use Rattle.model.specs.Text.{ends}
 use Rattle.codec.specs.Scanning.{behind, lineAt}
 use Rattle.codec.proofs.LineScan.{line-begin, line-turn, line-bad, line-end}
@@ -11,10 +12,10 @@ use Rattle.codec.proofs.line_at.Tie as tie
 
 abbrev Inv-loop : tie.InvT-loop
 Inv-loop file from row₀ at₀ c₀ row at c =
-    (c ≤ 11) × (length row ≡ 11) × (lineAt ends file from ≡ behind (take c row) (lineAt (drop c ends) file at))
+    (c ≤ rowSize) × (length row ≡ rowSize) × (lineAt ends file from ≡ behind (take c row) (lineAt (drop c ends) file at))
 
 abbrev μ-loop : tie.MeasureT-loop
-μ-loop file from row₀ at₀ c₀ row at c = 11 - c
+μ-loop file from row₀ at₀ c₀ row at c = rowSize - c
 
 loop-holds : tie.Need-loop-holds Inv-loop μ-loop
 loop-holds c = search (line-begin, needs)
@@ -32,4 +33,4 @@ pub line-at-spec : {M : Type 1} → statement M
 line-at-spec =
     tie.close
     (tie.spec Inv-loop μ-loop loop-holds (λ c κs. search needs) (λ c κs. search needs) (λ c. search needs) (λ c. search needs) (λ c. search needs)
-    (λ c. search needs) (λ c. search needs) returns (λ c. search needs) (λ c. search needs) loop-again (λ c. search needs) returns-2)
+    returns (λ c. search needs) (λ c. search needs) (λ c. search needs) (λ c. search needs) loop-again (λ c. search needs) returns-2)

@@ -3,13 +3,14 @@ use Prim.Native.Nat.{_+_, _*_, _-_, _≤_}
 use mathlib.Core.Path.{_≡_}
 use lib.ListN.{take}
 use borrow.Author.Needs.{needs}
+use Rattle.codec.specs.Scanning.{namesSize}
 use Rattle.codec.proofs.RowStores.{textWidth, width-begin, width-turn, width-end}
 use Rattle.codec.proofs.measure.Statement.{statement}
 use Rattle.codec.proofs.measure.Tie as tie
 
 abbrev Inv-loop : tie.InvT-loop
 Inv-loop xs n m sum₀ i₀ sum i =
-    (i ≤ m) × (sum ≤ 33 + 6 * i) × (sum ≡ 33 + textWidth (take i xs))
+    (i ≤ m) × (sum ≤ namesSize + 6 * i) × (sum ≡ namesSize + textWidth (take i xs))
 
 abbrev μ-loop : tie.MeasureT-loop
 μ-loop xs n m sum₀ i₀ sum i = m - i

@@ -1,7 +1,7 @@
 -- The file starts with the line of names: the two are compared byte by byte.
 use borrow.Author.Needs.{needs}
 use Rattle.model.specs.Text.{names}
-use Rattle.theory.proofs.Choices.{ifs}
+use Rattle.basics.proofs.Choices.{ifs}
 use Rattle.codec.specs.Scanning.{startsNamed}
 use Rattle.codec.proofs.named.Statement.{statement}
 use Rattle.codec.proofs.named.Tie as tie

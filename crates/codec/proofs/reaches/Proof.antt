@@ -1,6 +1,6 @@
 -- A limit that is reached or not: each answer is a case of the definition.
 use borrow.Author.Needs.{needs}
-use Rattle.theory.proofs.Choices.{ifs}
+use Rattle.basics.proofs.Choices.{ifs}
 use Rattle.codec.proofs.reaches.Statement.{statement}
 use Rattle.codec.proofs.reaches.Tie as tie
 

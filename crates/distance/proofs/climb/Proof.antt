@@ -1,51 +1,84 @@
--- `distance::climb` meets its contract.
-use native.Mathlib.Omega.{arith}
-use mathlib.Core.Path.{_∙_}
+-- `distance::climb` meets its contract. The invariant: the estimates tell the distances inside the
+-- copy at level l, and so does what was kept for the levels below.
+use Prim.Native.Nat.{_+_, _-_, _≤_}
 use borrow.Author.Needs.{needs}
-use Rattle.model.specs.Blocks.{blocksOf, lastBlock}
-use Rattle.distance.specs.Copies.{Traced}
-use Rattle.distance.proofs.Climbing.{risen-start, own-level, fits-level}
+use native.Mathlib.Omega.{arith}
+use mathlib.Core.Path.{_≡_}
+use lib.ListN.{length}
+use Rattle.blocks.specs.Places.{Found}
+use Rattle.blocks.specs.declared.Place.{Place}
+use Rattle.distance.specs.Copies.{Risen}
+use Rattle.distance.proofs.Copies.{place-block, own-known, rows-to}
+use Rattle.distance.proofs.Ways.{risen-start, risen-on}
 use Rattle.distance.proofs.climb.Statement.{statement}
 use Rattle.distance.proofs.climb.Tie as tie
 
-from-cue-requires : tie.Need-from-cue-requires
+abbrev Inv-loop : tie.InvT-loop
+Inv-loop xs t work rows kept₀ d₀ l₀ kept d l =
+    (l ≤ l₀) × (length kept ≡ length kept₀) × (length d ≡ length d₀)
+    × ((q : Place) → Found xs t rows q → l₀ ≤ q .depth → Risen xs t rows q l₀ kept₀ d₀ → Risen xs t rows q l kept d)
+
+abbrev μ-loop : tie.MeasureT-loop
+μ-loop xs t work rows kept₀ d₀ l₀ kept d l = l
+
+from-cue-requires : tie.Need-from-cue-requires Inv-loop μ-loop
 from-cue-requires c κs =
-    let at-joins-of = c .before in
-    let at-own-of = at-joins-of .before in
-    let at-place = at-own-of .before in
-    let at-trace = at-place .before .before .before in
-    let s = at-trace .before .before .before .before .before .before .before .before in
-    let tr : Traced (s .args .xs .now) (s .args .t .now) (s .args .path .now) (lastBlock (blocksOf (s .args .xs .now))) (s .args .depth) (at-trace .trace .last .1 .1 .1 .1 .1 .0) = rw (s .pre .2) at (at-trace .trace .ensures) in
-    let e = at-place .place .ensures .0 ∙ tr (s .args .depth) (omega arith) in
-    let f = fits-level _ _ _ (s .pre .0) _ _ _ (s .pre .1) _ (at-place .place .result) (omega arith) e in
-    let o = own-level _ _ _ (s .pre .0) _ _ _ (s .pre .1) (at-place .place .result) e in
-    (omega (arith, f), (f .opens, f .links), omega (arith, o, at-own-of .own-of .ensures), omega (arith, f, at-own-of .own-of .ensures, at-joins-of .joins-of .ensures))
+    let at-wide = c .before in
+    let start = at-wide .before .before .before .before .before .before in (
+      start .pre .0 .loaded,
+      place-block (start .pre .0 .loaded) (start .pre .1),
+      omega (arith, start .pre .0 .long, place-block (start .pre .0 .loaded) (start .pre .1)),
+      search needs,
+      omega (arith, at-wide .wide .ensures .0, own-known (start .pre .0 .loaded) (start .pre .1)),
+    )
 
-keep-joins-requires : tie.Need-keep-joins-requires
+keep-joins-requires : tie.Need-keep-joins-requires Inv-loop μ-loop
 keep-joins-requires c κs =
-    let at-place = c .before .before .before .before .before .before .before .before in
-    let at-trace = at-place .before .before .before in
-    let s = at-trace .before .before .before .before .before .before .before .before in
-    let tr : Traced (s .args .xs .now) (s .args .t .now) (s .args .path .now) (lastBlock (blocksOf (s .args .xs .now))) (s .args .depth) (at-trace .trace .last .1 .1 .1 .1 .1 .0) = rw (s .pre .2) at (at-trace .trace .ensures) in
-    let e = at-place .place .ensures .0 ∙ tr (s .args .depth) (omega arith) in
-    (fits-level _ _ _ (s .pre .0) _ _ _ (s .pre .1) _ (at-place .place .result) (omega arith) e, omega (arith, s .pre .1), search needs, search needs)
+    let start = c .before .before .before .before .before .before .before .before .before .before .before .before in
+    (start .pre .0 .loaded, place-block (start .pre .0 .loaded) (start .pre .1), start .pre .1 .deep, search needs, search needs)
 
-rise-requires : tie.Need-rise-requires
-rise-requires c κs =
-    let at-keep-joins = c .before .before .before .before .before in
+loop-holds : tie.Need-loop-holds Inv-loop μ-loop
+loop-holds c = (search needs, search needs, search needs, λ q f h r. r)
+
+rise-one-requires : tie.Need-rise-one-requires Inv-loop μ-loop
+rise-one-requires c κs =
+    let start = c .before .before .before .before .before .before .before .before .before .before .before .before .before .before .before .before .before .before .before in (
+      start .pre .0,
+      rows-to (start .pre .0 .loaded) (start .pre .1) _ (omega arith),
+      omega (arith, start .pre .1 .deep),
+      search needs,
+      search needs,
+    )
+
+loop-again : tie.Need-loop-again Inv-loop μ-loop
+loop-again c =
+    let at-rise-one = c .before .before .before .before in
+    let at-loop = at-rise-one .before .before .before .before in
+    let start = at-loop .before .before .before .before .before .before .before .before .before .before .before .before .before .before .before .before in
+    let e : at-loop .loop .l - 1 + 1 ≡ at-loop .loop .l = omega arith in (
+      omega arith,
+      search needs,
+      search needs,
+      λ q f h r. risen-on (start .pre .0) f (at-loop .loop .l - 1) (at-loop .loop .kept) (at-loop .loop .d)
+          (at-rise-one .rise-one .last .1 .1 .1 .1 .1 .1 .0) (at-rise-one .rise-one .last .1 .1 .1 .1 .1 .0)
+          (omega arith) (rw e (at-loop .loop .inv .3 q f h r)) (at-rise-one .rise-one .ensures .0) (at-rise-one .rise-one .ensures .1),
+    )
+
+returns : tie.Need-returns Inv-loop μ-loop
+returns c =
+    let at-loop = c .before in
+    let at-keep-joins = at-loop .before .before .before in
     let at-from-cue = at-keep-joins .before .before .before .before .before in
-    let at-joins-of = at-from-cue .before .before in
-    let at-own-of = at-joins-of .before in
-    let at-place = at-own-of .before in
-    let at-trace = at-place .before .before .before in
-    let s = at-trace .before .before .before .before .before .before .before .before in
-    let tr : Traced (s .args .xs .now) (s .args .t .now) (s .args .path .now) (lastBlock (blocksOf (s .args .xs .now))) (s .args .depth) (at-trace .trace .last .1 .1 .1 .1 .1 .0) = rw (s .pre .2) at (at-trace .trace .ensures) in
-    let e = at-place .place .ensures .0 ∙ tr (s .args .depth) (omega arith) in
-    (s .pre .0, s .pre .1, tr, at-keep-joins .keep-joins .kept .1 .1 .1 .1 .1 .0 ∙ s .pre .3, at-from-cue .from-cue .kept .1 .1 .1 .1 .1 .1 .0 ∙ s .pre .4, risen-start _ _ _ (s .pre .0) _ _ _ (s .pre .1) (at-place .place .result) (s .args .kept .now) (at-from-cue .from-cue .last .1 .1 .1 .1 .1 .1 .0) (at-keep-joins .keep-joins .last .1 .1 .1 .1 .1 .0) e (rw (at-own-of .own-of .ensures .0, at-joins-of .joins-of .ensures .0) at (at-from-cue .from-cue .ensures)) (at-keep-joins .keep-joins .ensures))
+    let at-wide = at-from-cue .before .before in
+    let start = at-wide .before .before .before .before .before .before in
+    let e : at-loop .loop .l ≡ 0 = omega arith in
+    let start-of =
+    risen-start (start .pre .0) (start .pre .1) _ _ _ _ (start .pre .1 .block)
+    (rw (at-wide .wide .ensures .0) at (at-from-cue .from-cue .ensures)) (at-keep-joins .keep-joins .ensures) in
+    rw e at (at-loop .loop .inv .3 _ (start .pre .1) (omega arith) start-of)
 
 pub climb-spec : {M : Type 1} → statement M
 climb-spec =
     tie.close
-    (tie.spec (λ c. search needs) (λ c κs. search needs) (λ c. search needs) (λ c κs. search needs) (λ c κs. search needs) (λ c κs. search needs)
-    (λ c. search needs) from-cue-requires keep-joins-requires (λ c. search needs) rise-requires (λ c. search needs) (λ c. search needs)
-    (λ c. search needs))
+    (tie.spec Inv-loop μ-loop (λ c κs. search needs) from-cue-requires keep-joins-requires loop-holds (λ c. search needs) rise-one-requires
+    (λ c. search needs) loop-again (λ c. search needs) (λ c. search needs) returns)

@@ -1,30 +1,54 @@
 -- `distance::fewest` meets its contract.
-use native.Mathlib.Omega.{arith}
-use mathlib.Core.Path.{sym, _∙_}
 use borrow.Author.Needs.{needs}
-use Rattle.model.specs.Blocks.{lastBlock}
-use Rattle.distance.proofs.Answering.{some-blocks, ready-at, goes-at}
+use native.Mathlib.Omega.{arith}
+use mathlib.Core.Path.{refl}
+use Rattle.distance.proofs.Copies.{own-few}
+use Rattle.distance.proofs.Answering.{hasSummaries, answered}
 use Rattle.distance.proofs.fewest.Statement.{statement}
 use Rattle.distance.proofs.fewest.Tie as tie
 
-last-of-requires : tie.Need-last-of-requires
-last-of-requires c κs = let s = c .before .before .before .before in omega (arith, some-blocks (s .args .xs .now) (s .pre .0 .0))
+climb-requires : tie.Need-climb-requires
+climb-requires c κs =
+    let start = c .before .before .before .before .before .before in
+    (hasSummaries (start .pre .0) _ (start .pre .3), start .pre .1, search needs, search needs)
 
-between-requires : tie.Need-between-requires
-unfolding lastBlock
-between-requires c κs =
-    let s = c .before .before .before .before .before .before in
-    let a = s .pre .0 in
-    let b = s .pre .1 .0 in
-    let d = s .pre .1 .1 in (
-      ready-at _ (a .0) (s .args .t .now) (s .args .work .now) (s .args .blocks) (a .1) (a .2) (a .3),
-      goes-at _ (a .0) (s .args .other .now) (s .args .deep) (s .args .own) (b .0) (b .1) (b .2),
-      goes-at _ (a .0) (s .args .path .now) (s .args .depth) (s .args .aim) (d .0) (d .1) (d .2),
-      omega (arith, c .before .last-of .ensures, a .2),
+sink-shared-requires : tie.Need-sink-shared-requires
+sink-shared-requires c κs =
+    let at-common = c .before .before in
+    let at-climb = at-common .before .before .before in
+    let start = at-climb .before .before .before .before .before .before .before in (
+      hasSummaries (start .pre .0) _ (start .pre .3),
+      start .pre .1,
+      at-common .common .ensures .first,
+      search needs,
+      search needs,
+      at-climb .climb .ensures,
     )
 
+sink-alone-requires : tie.Need-sink-alone-requires
+sink-alone-requires c κs =
+    let at-common = c .before .before .before .before .before in
+    let start = at-common .before .before .before .before .before .before .before .before .before .before in
+    (hasSummaries (start .pre .0) _ (start .pre .3), start .pre .2, at-common .common .ensures .second, search needs)
+
+array-read-result : tie.Need-array-read-result
+array-read-result c =
+    let start = c .before .before .before .before .before .before .before .before .before .before .before .before .before .before .before .before .before .before in
+    omega (arith, own-few (start .pre .0) (start .pre .2), c .wide .ensures .0)
+
 returns : tie.Need-returns
-returns c = c .said .ensures ∙ sym (c .before .between .ensures)
+returns c =
+    let at-sink-alone = c .before .before in
+    let at-sink-shared = at-sink-alone .before .before .before in
+    let at-common = at-sink-shared .before .before .before in
+    let start = at-common .before .before .before .before .before .before .before .before .before .before in
+    answered (start .pre .0) (start .pre .1) (start .pre .2) _ (at-common .common .ensures)
+    (at-sink-shared .sink-shared .last .1 .1 .1 .1 .1 .1 .1 .0) (at-sink-alone .sink-alone .last .1 .1 .1 .1 .1 .1 .0)
+    (c .wide .result) _ (c .wide .ensures .0) refl
+    (at-sink-shared .sink-shared .ensures) (at-sink-alone .sink-alone .ensures)
 
 pub fewest-spec : {M : Type 1} → statement M
-fewest-spec = tie.close (tie.spec last-of-requires between-requires (λ c κs. search needs) returns)
+fewest-spec =
+    tie.close
+    (tie.spec (λ c. search needs) (λ c. search needs) climb-requires (λ c κs. search needs) (λ c. search needs) (λ c. search needs)
+    sink-shared-requires (λ c. search needs) sink-alone-requires (λ c κs. search needs) (λ c. search needs) array-read-result returns)

@@ -1,11 +1,18 @@
 -- `relax::from_cue` meets its contract.
 use borrow.Author.Needs.{needs}
-use Rattle.relax.proofs.Laws.{spread-first}
+use native.Mathlib.Omega.{arith}
+use Rattle.blocks.proofs.Loaded.{own-few, joins-few}
+use Rattle.relax.proofs.Rounds.{spread-first}
 use Rattle.relax.proofs.from_cue.Statement.{statement}
 use Rattle.relax.proofs.from_cue.Tie as tie
+
+put-requires : tie.Need-put-requires
+put-requires c κs =
+    let start = c .before .before .before .before .before .before .before .before in
+    omega (arith, own-few (start .pre .0) _ (start .pre .1), joins-few (start .pre .0) _ (start .pre .1))
 
 returns : tie.Need-returns
 returns c = search (spread-first, needs)
 
 pub from-cue-spec : {M : Type 1} → statement M
-from-cue-spec = tie.close (tie.spec (λ c κs. search needs) (λ c κs. search needs) (λ c κs. search needs) (λ c. search needs) returns)
+from-cue-spec = tie.close (tie.spec (λ c κs. search needs) put-requires (λ c κs. search needs) (λ c. search needs) returns)

@@ -1,6 +1,7 @@
--- `relax::relax_block` meets its contract. The round over the links and that over the uses are one over the block.
+-- `relax::relax_block` meets its contract. The round over the links and that over the uses are one
+-- over the block.
 use borrow.Author.Needs.{needs}
-use Rattle.relax.proofs.Laws.{block-round}
+use Rattle.relax.proofs.Edges.{block-round}
 use Rattle.relax.proofs.relax_block.Statement.{statement}
 use Rattle.relax.proofs.relax_block.Tie as tie
 
@@ -8,8 +9,4 @@ returns : tie.Need-returns
 returns c = search (block-round, needs)
 
 pub relax-block-spec : {M : Type 1} → statement M
-relax-block-spec =
-    tie.close
-    (tie.spec (λ c. search needs) (λ c κs. search needs) (λ c. search needs) (λ c. search needs) (λ c κs. search needs) (λ c. search needs)
-    (λ c. search needs) (λ c κs. search needs) (λ c. search needs) (λ c κs. search needs) (λ c κs. search needs) (λ c κs. search needs)
-    (λ c. search needs) returns)
+relax-block-spec = tie.close (tie.spec (λ c κs. search needs) (λ c κs. search needs) (λ c κs. search needs) (λ c. search needs) returns)

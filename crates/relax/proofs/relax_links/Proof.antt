@@ -1,46 +1,82 @@
 -- `relax::relax_links` meets its contract. The invariant: a round over the link rows passed.
-use Prim.Native.Nat.{_+_, _*_, _-_, _≤_}
-use native.Mathlib.Omega.{arith}
-use mathlib.Core.Path.{_≡_}
-use lib.ListN.{length}
+use Prim.Native.Nat.{_-_, _≤_}
 use borrow.Author.Needs.{needs}
-use Rattle.labels.specs.Rounds.{Round}
-use Rattle.relax.specs.Blocks.{Span, LinkEdge}
-use Rattle.labels.proofs.Laws.{all-there}
-use Rattle.relax.proofs.Laws.{span-none, links-more}
+use native.Mathlib.Omega.{arith}
+use mathlib.Core.Path.{_≡_, _∙_}
+use lib.ListN.{length}
+use Rattle.estimates.specs.Rounds.{Round}
+use Rattle.blocks.proofs.Loaded.{link-row}
+use Rattle.relax.proofs.Rounds.{span-begin}
+use Rattle.relax.proofs.Edges.{LinkSpan, link-few, links-on, links-done}
 use Rattle.relax.proofs.relax_links.Statement.{statement}
 use Rattle.relax.proofs.relax_links.Tie as tie
 
 abbrev Inv-loop : tie.InvT-loop
-Inv-loop xs a e d₀ known changed₀ r₀ d changed r =
-    (a ≤ r) × (r ≤ e) × (length d ≡ length d₀) × Round (Span (LinkEdge xs) a r) d₀ changed d
+Inv-loop xs t k d₀ rows changed₀ r₀ d changed r =
+    (rows .first ≤ r) × (r ≤ rows .end) × (length d ≡ length d₀) × Round (LinkSpan xs (rows .first) r) d₀ changed d
 
 abbrev μ-loop : tie.MeasureT-loop
-μ-loop xs a e d₀ known changed₀ r₀ d changed r = e - r
+μ-loop xs t k d₀ rows changed₀ r₀ d changed r = rows .end - r
 
 loop-holds : tie.Need-loop-holds Inv-loop μ-loop
-loop-holds c = (search needs, search needs, search needs, span-none _ _ _)
+loop-holds c = (search needs, c .link-rows .ensures .order, search needs, span-begin _ _ _)
 
-there-requires : tie.Need-there-requires Inv-loop μ-loop
-there-requires c κs =
-    let l = c .before in all-there (l .before .before .before .args .e * 11) _ (l .loop .r * 11 + 3) (omega arith)
+from-requires : tie.Need-from-requires Inv-loop μ-loop
+from-requires c κs =
+    let at-link-rows = c .before .before .before in
+    omega (arith, at-link-rows .link-rows .ensures .there)
 
-there-requires-2 : tie.Need-there-requires-2 Inv-loop μ-loop
-there-requires-2 c κs =
-    let l = c .before .before in all-there (l .before .before .before .args .e * 11) _ (l .loop .r * 11 + 4) (omega arith)
+to-requires : tie.Need-to-requires Inv-loop μ-loop
+to-requires c κs =
+    let at-link-rows = c .before .before .before .before .before in
+    omega (arith, at-link-rows .link-rows .ensures .there)
+
+improve-requires : tie.Need-improve-requires Inv-loop μ-loop
+improve-requires c κs =
+    let at-wide2 = c .before in
+    let at-to = at-wide2 .before in
+    let at-wide = at-to .before in
+    let at-from = at-wide .before in
+    let at-loop = at-from .before .before .before in
+    let at-link-rows = at-loop .before in
+    let start = at-link-rows .before .before .before in
+    let few =
+    link-few (start .pre .0)
+    (link-row (start .pre .0) _ (start .pre .1) (at-loop .loop .r) (at-link-rows .link-rows .ensures) (omega arith) (omega arith)) in (
+      omega (arith, few, at-wide .wide .ensures .0, at-from .from .ensures),
+      omega (arith, few, at-wide2 .wide2 .ensures .0, at-to .to .ensures),
+    )
+
+add-r : tie.Need-add-r Inv-loop μ-loop
+add-r c =
+    let at-link-rows = c .before .before .before .before .before .before .before .before .before .before .before .before in
+    omega (arith, at-link-rows .link-rows .ensures .few)
 
 loop-again : tie.Need-loop-again Inv-loop μ-loop
 loop-again c =
-    let i = c .before .before .before in
-    let l = i .before .before .before .before .before .loop in
-    (search needs, search needs, search needs, links-more _ _ _ _ _ (l .inv .0) (l .inv .3) (i .before .before .before .there .ensures .0) (i .before .before .there2 .ensures .0) (i .improve .ensures) (c .either .ensures))
+    let at-improve = c .before .before .before in
+    let at-wide2 = at-improve .before .before in
+    let at-to = at-wide2 .before in
+    let at-wide = at-to .before in
+    let at-from = at-wide .before in
+    let at-loop = at-from .before .before .before in (
+      search needs,
+      search needs,
+      search needs,
+      links-on _ _ _ _ _ (at-loop .loop .inv .0) (at-loop .loop .inv .3) (at-wide .wide .ensures .0 ∙ at-from .from .ensures)
+          (at-wide2 .wide2 .ensures .0 ∙ at-to .to .ensures)
+          (at-improve .improve .ensures) (c .either .ensures),
+    )
 
 returns : tie.Need-returns Inv-loop μ-loop
-returns c = let e : c .before .loop .r ≡ c .before .before .before .before .args .e = omega arith in rw e at (c .before .loop .inv .3)
+returns c =
+    let at-loop = c .before .before in
+    let at-link-rows = at-loop .before in
+    let e : at-loop .loop .r ≡ at-link-rows .link-rows .result .end =
+    omega arith in links-done _ _ (at-link-rows .link-rows .ensures) (rw e at (at-loop .loop .inv .3))
 
 pub relax-links-spec : {M : Type 1} → statement M
 relax-links-spec =
     tie.close
-    (tie.spec Inv-loop μ-loop (λ c. search needs) loop-holds (λ c. search needs) (λ c. search needs) there-requires (λ c. search needs)
-    (λ c. search needs) there-requires-2 (λ c κs. search needs) (λ c κs. search needs) (λ c. search needs) (λ c. search needs) loop-again
-    (λ c. search needs) returns)
+    (tie.spec Inv-loop μ-loop (λ c κs. search needs) loop-holds from-requires (λ c κs. search needs) to-requires (λ c κs. search needs)
+    improve-requires (λ c κs. search needs) add-r (λ c. search needs) loop-again (λ c. search needs) returns)

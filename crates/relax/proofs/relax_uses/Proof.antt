@@ -1,36 +1,92 @@
 -- `relax::relax_uses` meets its contract. The invariant: a round over the use rows passed.
 use Prim.Native.Nat.{_-_, _≤_}
+use borrow.Author.Needs.{needs}
 use native.Mathlib.Omega.{arith}
 use mathlib.Core.Path.{_≡_}
 use lib.ListN.{length}
-use borrow.Author.Needs.{needs}
-use Rattle.labels.specs.Rounds.{Round}
-use Rattle.relax.specs.Blocks.{Span, UseEdge}
-use Rattle.relax.proofs.Laws.{span-none, uses-more}
+use Rattle.estimates.specs.Rounds.{Round}
+use Rattle.blocks.proofs.Loaded.{use-row, used-block}
+use Rattle.relax.proofs.Rounds.{span-begin}
+use Rattle.relax.proofs.Edges.{UseSpan, row-meets, mesh-use, uses-on, uses-done}
 use Rattle.relax.proofs.relax_uses.Statement.{statement}
 use Rattle.relax.proofs.relax_uses.Tie as tie
 
 abbrev Inv-loop : tie.InvT-loop
-Inv-loop xs t work a e d₀ changed₀ r₀ d changed r = (a ≤ r) × (r ≤ e) × (length d ≡ length d₀) × Round (Span (UseEdge xs t work) a r) d₀ changed d
+Inv-loop xs t work k d₀ rows changed₀ r₀ d changed r =
+    (rows .first ≤ r) × (r ≤ rows .end) × (length d ≡ length d₀) × Round (UseSpan xs work (rows .first) r) d₀ changed d
 
 abbrev μ-loop : tie.MeasureT-loop
-μ-loop xs t work a e d₀ changed₀ r₀ d changed r = e - r
+μ-loop xs t work k d₀ rows changed₀ r₀ d changed r = rows .end - r
 
 loop-holds : tie.Need-loop-holds Inv-loop μ-loop
-loop-holds c = (search needs, search needs, search needs, span-none _ _ _)
+loop-holds c = (search needs, c .use-rows .ensures .order, search needs, span-begin _ _ _)
+
+used-requires : tie.Need-used-requires Inv-loop μ-loop
+used-requires c κs =
+    let at-use-rows = c .before .before .before in
+    omega (arith, at-use-rows .use-rows .ensures .there)
+
+joins-requires : tie.Need-joins-requires Inv-loop μ-loop
+joins-requires c κs =
+    let at-loop = c .before .before .before in
+    let at-use-rows = at-loop .before in
+    let start = at-use-rows .before .before .before .before in
+    let row =
+    use-row (start .pre .0) _ (start .pre .1) (at-loop .loop .r) (at-use-rows .use-rows .ensures) (omega arith) (omega arith) in
+    (start .pre .0, used-block _ row (c .used .ensures .0))
+
+mul-relax-use : tie.Need-mul-relax-use Inv-loop μ-loop
+mul-relax-use c =
+    let at-used = c .before in
+    let at-loop = at-used .before .before .before in
+    let at-use-rows = at-loop .before in
+    let start = at-use-rows .before .before .before .before in
+    let row =
+    use-row (start .pre .0) _ (start .pre .1) (at-loop .loop .r) (at-use-rows .use-rows .ensures) (omega arith) (omega arith) in
+    omega (arith, row .lower, at-used .used .ensures .0)
+
+relax-use-requires : tie.Need-relax-use-requires Inv-loop μ-loop
+relax-use-requires c κs =
+    let at-joins = c .before in
+    let at-used = at-joins .before in
+    let at-loop = at-used .before .before .before in
+    let at-use-rows = at-loop .before in
+    let start = at-use-rows .before .before .before .before in
+    let row =
+    use-row (start .pre .0) _ (start .pre .1) (at-loop .loop .r) (at-use-rows .use-rows .ensures) (omega arith) (omega arith) in
+    (row-meets (start .pre .0) row _ _ (at-used .used .ensures .0) (at-joins .joins .ensures .0) _ (omega arith), omega (arith, row .lower, at-used .used .ensures .0))
+
+add-r : tie.Need-add-r Inv-loop μ-loop
+add-r c =
+    let at-use-rows = c .before .before .before .before .before .before .before .before .before .before in
+    omega (arith, at-use-rows .use-rows .ensures .few)
 
 loop-again : tie.Need-loop-again Inv-loop μ-loop
-loop-again c = (search needs, search needs, search needs, search (uses-more, needs))
+loop-again c =
+    let at-relax-use = c .before .before .before in
+    let at-joins = at-relax-use .before .before in
+    let at-used = at-joins .before in
+    let at-loop = at-used .before .before .before in
+    let at-use-rows = at-loop .before in
+    let start = at-use-rows .before .before .before .before in
+    let row =
+    use-row (start .pre .0) _ (start .pre .1) (at-loop .loop .r) (at-use-rows .use-rows .ensures) (omega arith) (omega arith) in (
+      search needs,
+      search needs,
+      search needs,
+      uses-on _ _ _ _ (at-loop .loop .inv .0) (at-loop .loop .inv .3)
+          (mesh-use (start .pre .0) row _ _ (at-used .used .ensures .0) (at-joins .joins .ensures .0) _ (at-relax-use .relax-use .ensures)) (c .either .ensures),
+    )
 
 returns : tie.Need-returns Inv-loop μ-loop
 returns c =
-    let at-loop = c .before in
-    let start = at-loop .before .before .before .before .before in
-    let e : at-loop .loop .r ≡ start .args .e = omega arith in rw e at (at-loop .loop .inv .3)
+    let at-loop = c .before .before in
+    let at-use-rows = at-loop .before in
+    let e : at-loop .loop .r ≡ at-use-rows .use-rows .result .end =
+    omega arith in uses-done _ _ _ (at-use-rows .use-rows .ensures) (rw e at (at-loop .loop .inv .3))
 
 pub relax-uses-spec : {M : Type 1} → statement M
 relax-uses-spec =
     tie.close
-    (tie.spec Inv-loop μ-loop loop-holds (λ c. search needs) (λ c. search needs) (λ c κs. search needs) (λ c κs. search needs) (λ c. search needs)
-    (λ c. search needs) (λ c. search needs) (λ c κs. search needs) (λ c κs. search needs) (λ c. search needs) (λ c. search needs) loop-again
-    (λ c. search needs) returns)
+    (tie.spec Inv-loop μ-loop (λ c κs. search needs) loop-holds used-requires joins-requires mul-relax-use relax-use-requires (λ c κs. search needs)
+    add-r (λ c. search needs) loop-again (λ c. search needs) returns)

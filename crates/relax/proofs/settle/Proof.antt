@@ -1,21 +1,23 @@
--- `relax::settle` meets its contract. The invariant: every change so far was by an edge that improved a label. The measure: the sum of the labels.
+-- `relax::settle` meets its contract. The invariant: every change so far was by an edge that
+-- improved an estimate. The measure: the sum of the estimates.
+use borrow.Author.Needs.{needs}
 use mathlib.Core.Path.{_≡_}
 use lib.ListN.{length}
-use borrow.Author.Needs.{needs}
-use Rattle.labels.specs.Rounds.{sum, Runs}
-use Rattle.relax.specs.Blocks.{BlockEdge}
-use Rattle.relax.proofs.Laws.{runs-none, round-again, round-falls, round-last}
+use Rattle.model.specs.Blocks.{blocksOf}
+use Rattle.estimates.specs.Rounds.{sum, Runs}
+use Rattle.relax.specs.Edges.{BlockEdge}
+use Rattle.relax.proofs.Rounds.{runs-begin, round-again, round-falls, round-last}
 use Rattle.relax.proofs.settle.Statement.{statement}
 use Rattle.relax.proofs.settle.Tie as tie
 
 abbrev Inv-loop : tie.InvT-loop
-Inv-loop xs t work k d₀ d = (length d ≡ length d₀) × Runs (BlockEdge xs t work k) d₀ d
+Inv-loop xs t work k d₀ d = (length d ≡ length d₀) × Runs (BlockEdge (blocksOf xs) work k) d₀ d
 
 abbrev μ-loop : tie.MeasureT-loop
 μ-loop xs t work k d₀ d = sum d
 
 loop-holds : tie.Need-loop-holds Inv-loop μ-loop
-loop-holds c = (search needs, runs-none _)
+loop-holds c = (search needs, runs-begin _)
 
 loop-less : tie.Need-loop-less Inv-loop μ-loop
 loop-less c = search (round-falls, needs)

@@ -2,12 +2,12 @@
 use borrow.Author.Needs.{needs}
 use Rattle.model.specs.Answers.{ofFewest}
 use Rattle.model.specs.Questions.{refuse, fewestAsked}
-use Rattle.answers.proofs.Laws.{ready, asked-yes, asked-no}
+use Rattle.answers.proofs.Outcomes.{loaded, asked-yes, asked-no}
 use Rattle.show.proofs.fewest.Statement.{statement}
 use Rattle.show.proofs.fewest.Tie as tie
 
 fewest-in-requires : tie.Need-fewest-in-requires
-fewest-in-requires c κs = search (ready, needs)
+fewest-in-requires c κs = search (loaded, needs)
 
 returns : tie.Need-returns
 unfolding fewestAsked

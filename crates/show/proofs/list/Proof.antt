@@ -2,13 +2,13 @@
 use borrow.Author.Needs.{needs}
 use Rattle.model.specs.Answers.{ofList}
 use Rattle.model.specs.Questions.{refuse}
-use Rattle.answers.specs.Linked.{listAsked}
-use Rattle.answers.proofs.Laws.{ready, asked-yes, asked-no}
+use Rattle.answers.specs.Asked.{listAsked}
+use Rattle.answers.proofs.Outcomes.{loaded, asked-yes, asked-no}
 use Rattle.show.proofs.list.Statement.{statement}
 use Rattle.show.proofs.list.Tie as tie
 
 list-of-requires : tie.Need-list-of-requires
-list-of-requires c κs = search (ready, needs)
+list-of-requires c κs = search (loaded, needs)
 
 returns : tie.Need-returns
 unfolding listAsked

@@ -2,12 +2,12 @@
 use borrow.Author.Needs.{needs}
 use Rattle.model.specs.Answers.{ofLocate}
 use Rattle.model.specs.Questions.{refuse, locateAsked}
-use Rattle.answers.proofs.Laws.{ready, asked-yes, asked-no}
+use Rattle.answers.proofs.Outcomes.{loaded, asked-yes, asked-no}
 use Rattle.show.proofs.locate.Statement.{statement}
 use Rattle.show.proofs.locate.Tie as tie
 
 locate-in-requires : tie.Need-locate-in-requires
-locate-in-requires c κs = search (ready, needs)
+locate-in-requires c κs = search (loaded, needs)
 
 returns : tie.Need-returns
 unfolding locateAsked

@@ -2,12 +2,12 @@
 use borrow.Author.Needs.{needs}
 use Rattle.model.specs.Answers.{ofNumber}
 use Rattle.model.specs.Questions.{numberAsked}
-use Rattle.answers.proofs.Laws.{ready, asked-yes, asked-no}
+use Rattle.answers.proofs.Outcomes.{loaded, asked-yes, asked-no}
 use Rattle.show.proofs.number.Statement.{statement}
 use Rattle.show.proofs.number.Tie as tie
 
 number-in-requires : tie.Need-number-in-requires
-number-in-requires c κs = search (ready, needs)
+number-in-requires c κs = search (loaded, needs)
 
 returns : tie.Need-returns
 unfolding numberAsked

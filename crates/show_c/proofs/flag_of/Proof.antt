@@ -1,6 +1,6 @@
 -- `show_c::flag_of` meets its contract.
 use borrow.Author.Needs.{needs}
-use Rattle.show_c.proofs.Laws.{flag-yes, flag-no}
+use Rattle.show_c.proofs.Telling.{flag-yes, flag-no}
 use Rattle.show_c.proofs.flag_of.Statement.{statement}
 use Rattle.show_c.proofs.flag_of.Tie as tie
 

@@ -1,6 +1,6 @@
 -- `show_c::short_file` meets its contract.
 use borrow.Author.Needs.{needs}
-use Rattle.show_c.proofs.Laws.{file-refused, file-short}
+use Rattle.show_c.proofs.Telling.{file-refused, file-short}
 use Rattle.show_c.proofs.short_file.Statement.{statement}
 use Rattle.show_c.proofs.short_file.Tie as tie
 

@@ -1,6 +1,6 @@
 -- `show_c::short_rows` meets its contract.
 use borrow.Author.Needs.{needs}
-use Rattle.show_c.proofs.Laws.{count-short, no-count-short}
+use Rattle.show_c.proofs.Telling.{count-short, no-count-short}
 use Rattle.show_c.proofs.short_rows.Statement.{statement}
 use Rattle.show_c.proofs.short_rows.Tie as tie
 

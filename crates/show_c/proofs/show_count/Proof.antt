@@ -3,7 +3,7 @@ use borrow.Author.Needs.{needs}
 use mathlib.Core.Path.{refl}
 use Rattle.model.specs.Answers.{ofCount}
 use Rattle.model.specs.declared.CountAnswer.the-variants.{Cues, Refused}
-use Rattle.show_c.proofs.Laws.{tell-short, tell, told-refused, told-value}
+use Rattle.show_c.proofs.Telling.{tell-short, tell, told-refused, told-value}
 use Rattle.show_c.proofs.show_count.Statement.{statement}
 use Rattle.show_c.proofs.show_count.Tie as tie
 

@@ -3,7 +3,7 @@ use borrow.Author.Needs.{needs}
 use mathlib.Core.Path.{refl}
 use Rattle.model.specs.Answers.{ofFewest}
 use Rattle.model.specs.declared.FewestAnswer.the-variants.{Steps, None, Refused}
-use Rattle.show_c.proofs.Laws.{wrote-short, wrote, told-refused, told-value}
+use Rattle.show_c.proofs.Telling.{wrote-short, wrote, told-refused, told-value}
 use Rattle.show_c.proofs.show_fewest.Statement.{statement}
 use Rattle.show_c.proofs.show_fewest.Tie as tie
 

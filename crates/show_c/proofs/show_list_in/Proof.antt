@@ -1,6 +1,6 @@
 -- `show_c::show_list_in` meets its contract.
 use borrow.Author.Needs.{needs}
-use Rattle.show_c.proofs.Laws.{wrote-short, wrote}
+use Rattle.show_c.proofs.Telling.{wrote-short, wrote}
 use Rattle.show_c.proofs.show_list_in.Statement.{statement}
 use Rattle.show_c.proofs.show_list_in.Tie as tie
 

@@ -3,7 +3,7 @@ use borrow.Author.Needs.{needs}
 use mathlib.Core.Path.{refl}
 use Rattle.model.specs.Answers.{ofLocate}
 use Rattle.model.specs.declared.LocateAnswer.the-variants.{Found, Refused}
-use Rattle.show_c.proofs.Laws.{wrote-short, wrote, told-refused, told-value}
+use Rattle.show_c.proofs.Telling.{wrote-short, wrote, told-refused, told-value}
 use Rattle.show_c.proofs.show_locate.Statement.{statement}
 use Rattle.show_c.proofs.show_locate.Tie as tie
 

@@ -3,7 +3,7 @@ use borrow.Author.Needs.{needs}
 use mathlib.Core.Path.{refl}
 use Rattle.model.specs.Answers.{ofWrite}
 use Rattle.model.specs.declared.WriteAnswer.the-variants.{Written, Refused}
-use Rattle.show_c.proofs.Laws.{wrote-short, wrote, told-refused, told-value}
+use Rattle.show_c.proofs.Telling.{wrote-short, wrote, told-refused, told-value}
 use Rattle.show_c.proofs.show_write.Statement.{statement}
 use Rattle.show_c.proofs.show_write.Tie as tie
 

@@ -1,6 +1,6 @@
 -- `show_c::tell_1` meets its contract.
 use borrow.Author.Needs.{needs}
-use Rattle.show_c.proofs.Laws.{put-one}
+use Rattle.show_c.proofs.Telling.{put-one}
 use Rattle.show_c.proofs.tell_1.Statement.{statement}
 use Rattle.show_c.proofs.tell_1.Tie as tie
 

@@ -3,7 +3,7 @@ use borrow.Author.Needs.{needs}
 use mathlib.Core.Path.{refl}
 use Rattle.model.specs.Answers.{ofList}
 use Rattle.model.specs.declared.ListAnswer.the-variants.{Refused}
-use Rattle.show_c.proofs.Laws.{told-refused, told-page}
+use Rattle.show_c.proofs.Telling.{told-refused, told-page}
 use Rattle.show_c.proofs.tell_page.Statement.{statement}
 use Rattle.show_c.proofs.tell_page.Tie as tie
 

@@ -2,9 +2,9 @@
 use Prim.Native.Nat.{ℕ, _-_, _≤_, _<_}
 use native.Mathlib.Omega.{arith}
 use mathlib.Core.Path.{_≡_}
-use lib.ListN.{length, getD, length-set}
+use lib.ListN.{length, getD}
 use borrow.Author.Needs.{needs}
-use Rattle.triples.proofs.Laws.{clear-on}
+use Rattle.triples.proofs.Marking.{clear-on}
 use Rattle.triples.proofs.clear.Statement.{statement}
 use Rattle.triples.proofs.clear.Tie as tie
 

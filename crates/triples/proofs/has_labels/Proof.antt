@@ -1,12 +1,11 @@
--- `triples::has_labels` meets its contract.
+-- `has_labels`: a page of one stays empty where there is none.
 use borrow.Author.Needs.{needs}
-use Rattle.triples.proofs.Laws.{says-none}
+use Rattle.triples.proofs.Marking.{says-none}
 use Rattle.triples.proofs.has_labels.Statement.{statement}
 use Rattle.triples.proofs.has_labels.Tie as tie
 
 list-labels-requires : tie.Need-list-labels-requires
-list-labels-requires c κs =
-    let p = c .before .before .before .pre in ((p .accepted, p .table, p .many), (p .deep, p .has))
+list-labels-requires c κs = let p = c .before .before .before .pre in (p .loaded, p .found)
 
 returns : tie.Need-returns
 returns c = says-none _ _ _ _ (search needs) (c .before .list-labels .ensures)

@@ -8,10 +8,10 @@ use Rattle.triples.proofs.mark_all.Statement.{statement}
 use Rattle.triples.proofs.mark_all.Tie as tie
 
 abbrev Inv-loop : tie.InvT-loop
-Inv-loop xs t z path m₀ lo₀ m lo = (1 ≤ lo) × (lo ≤ 256) × TableTo xs path (z .depth) (z .own) lo m
+Inv-loop xs t place rows m₀ lo₀ m lo = (1 ≤ lo) × (lo ≤ 256) × TableTo xs (place .cue) lo m
 
 abbrev μ-loop : tie.MeasureT-loop
-μ-loop xs t z path m₀ lo₀ m lo = 256 - lo
+μ-loop xs t place rows m₀ lo₀ m lo = 256 - lo
 
 loop-holds : tie.Need-loop-holds Inv-loop μ-loop
 loop-holds c = (search needs, search needs, c .before .pre .1)

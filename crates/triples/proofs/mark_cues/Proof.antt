@@ -2,10 +2,10 @@
 use Prim.Native.Nat.{_-_, _≤_}
 use native.Mathlib.Omega.{arith}
 use mathlib.Core.Path.{_≡_, refl}
-use lib.ListN.{length, take}
+use lib.ListN.{take}
 use borrow.Author.Needs.{needs}
 use Rattle.triples.specs.Marks.{marksAll}
-use Rattle.triples.proofs.Laws.{mark-on, marks-long}
+use Rattle.triples.proofs.Marking.{mark-on}
 use Rattle.triples.proofs.mark_cues.Statement.{statement}
 use Rattle.triples.proofs.mark_cues.Tie as tie
 
@@ -34,7 +34,7 @@ element-write-m c =
 loop-again : tie.Need-loop-again Inv-loop μ-loop
 loop-again c = (
   search needs,
-  mark-on (c .before .before .before .before .args .page .now) _ _ _ _ _ (c .before .before .before .loop .inv .1) (c .wide .ensures) (omega (arith, c .before .before .before .before .pre .2 .long)),
+  mark-on (c .before .before .before .before .args .page .now) _ _ _ _ _ (c .before .before .before .loop .inv .1) (c .wide .ensures .0) (omega (arith, c .before .before .before .before .pre .2 .long)),
 )
 
 returns : tie.Need-returns Inv-loop μ-loop

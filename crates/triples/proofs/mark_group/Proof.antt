@@ -1,6 +1,5 @@
 -- `triples::mark_group` meets its contract.
-use borrow.Author.Needs.{needs}
-use Rattle.triples.proofs.Laws.{group-none}
+use Rattle.triples.proofs.Marking.{group-none}
 use Rattle.triples.proofs.mark_group.Statement.{statement}
 use Rattle.triples.proofs.mark_group.Tie as tie
 

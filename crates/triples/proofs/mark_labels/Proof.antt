@@ -8,10 +8,10 @@ use Rattle.triples.proofs.mark_labels.Statement.{statement}
 use Rattle.triples.proofs.mark_labels.Tie as tie
 
 abbrev Inv-loop : tie.InvT-loop
-Inv-loop xs t z path lo hi m₀ label₀ m label = (lo ≤ label) × (label ≤ hi + 1) × TableTo xs path (z .depth) (z .own) label m
+Inv-loop xs t place rows lo hi m₀ label₀ m label = (lo ≤ label) × (label ≤ hi + 1) × TableTo xs (place .cue) label m
 
 abbrev μ-loop : tie.MeasureT-loop
-μ-loop xs t z path lo hi m₀ label₀ m label = hi + 1 - label
+μ-loop xs t place rows lo hi m₀ label₀ m label = hi + 1 - label
 
 loop-holds : tie.Need-loop-holds Inv-loop μ-loop
 loop-holds c = let pre = c .before .pre in (search needs, omega (arith, pre .2 .order), pre .3)

@@ -1,0 +1,143 @@
+-- The answers of locating, numbering, writing and reading.
+use Prim.Native.Nat.{ℕ, suc, _+_, _*_, _-_, _/_, _≤_, _<_}
+use native.Mathlib.Omega.{arith}
+use mathlib.Core.Path.{_≡_, refl, sym, _∙_, ap}
+use mathlib.Core.Bool.{Bool, true, false}
+use mathlib.Core.List.{List, _++_}
+use lib.ListN.{length, getD, set, take, drop}
+use lib.Seq.{take-suc, drop-cons, set-at, append-snoc, length-take-le, take-length}
+use Rattle.model.specs.Limits.{rowSize, maxRows, maxBytes, maxDepth, maxBlocks}
+use Rattle.model.specs.Rows.{rowsFrom, rowCount, rowsOf, fileText}
+use Rattle.model.specs.Rules.{isCue}
+use Rattle.model.specs.Blocks.{Block, blocksOf, lastBlock, count}
+use Rattle.model.specs.Verdicts.{refusal, verdict, byLine, inLines}
+use Rattle.model.specs.Paths.{placeIn}
+use Rattle.model.specs.Lists.{overwrite}
+use Rattle.model.specs.Answers.{ofRead, ofWrite, ofLocate, ofNumber}
+use Rattle.model.specs.Questions.{Outcome, outcome, refuse, answer, onAccepted, readInto, writeInto, located, locateIn, numbered}
+use Rattle.model.specs.declared.Refusal.{Refusal}
+use Rattle.model.specs.declared.Verdict.{Verdict}
+use Rattle.model.specs.declared.Verdict.the-variants.{Accepted, Refused}
+use Rattle.model.specs.declared.ReadAnswer.the-variants.{Read, Refused as ReadRefused}
+use Rattle.model.specs.declared.WriteAnswer.the-variants.{Written, Refused as WriteRefused}
+use Rattle.model.specs.declared.LocateAnswer.the-variants.{Found, Refused as LocateRefused}
+use Rattle.model.specs.declared.NumberAnswer.the-variants.{Number, Refused as NumberRefused}
+use Rattle.shows.specs.Numbering.{IsPlace}
+use Rattle.basics.proofs.Choices.{eq-then, eq-else}
+use Rattle.shows.proofs.Accepted.{accepted-show}
+use Rattle.shows.proofs.Numbering.{numbering}
+use Rattle.shows.proofs.RoundTrips.{rows-fit}
+use Rattle.verdicts.specs.Passing.{IsChecked}
+use Rattle.blocks.specs.Loaded.{Loaded}
+use Rattle.blocks.specs.declared.Place.{Place}
+use Rattle.blocks.proofs.Loaded.{loaded-show}
+use Rattle.paths.specs.Locating.{placeOf}
+use Rattle.answers.specs.Asked.{readNumbers}
+use Rattle.answers.proofs.Outcomes.{said-yes, said-no, no-room, has-room, no-cue, has-cue, cue-yes}
+use Rattle.answers.proofs.RefusalPlaces.{place-few}
+
+-- Locating.
+pub locate-room : (bs : List Block) (n : ℕ) (path : List ℕ) → length path < maxDepth
+    → outcome (ofLocate (LocateRefused (record { number = 11; place = 0 }))) path ≡ locateIn bs n path
+unfolding ofLocate locateIn refuse refusal
+locate-room bs n path h = no-room path _ maxDepth h
+
+-- b is the test of cue n.
+module _ (xs t : List ℕ) (g : Loaded xs t) (n cues : ℕ) (b : Bool) (q : b ≡ isCue cues n) (e : cues ≡ count (blocksOf xs)) (path : List ℕ)
+    (room : maxDepth ≤ length path) where
+  pub locate-no : b ≡ false → outcome (ofLocate (LocateRefused (record { number = 12; place = 0 }))) path ≡ locateIn (blocksOf xs) n path
+  unfolding ofLocate locateIn refuse refusal
+  locate-no k = no-cue path _ (blocksOf xs) n cues b q e k ∙ has-room path _ maxDepth room
+
+  pub locate-asks : b ≡ true → Loaded xs t × (1 ≤ n) × (n ≤ count (blocksOf xs)) × (maxDepth ≤ length path)
+  locate-asks k = let c = cue-yes (blocksOf xs) n cues b q e k in (g, c .0, c .1, room)
+
+  -- What was found is small.
+  pub found-few : (r : Place) → b ≡ true → r ≡ placeOf n (placeIn (blocksOf xs) (lastBlock (blocksOf xs)) n)
+      → (r .depth ≤ maxDepth) × (r .block < maxBlocks)
+  unfolding lastBlock
+  found-few r k f =
+      let c = cue-yes (blocksOf xs) n cues b q e k in
+      let p : IsPlace (blocksOf xs) n (placeIn (blocksOf xs) (lastBlock (blocksOf xs)) n) = numbering (blocksOf xs) (loaded-show g .good) .each n (c .0) (c .1) in
+      rw f (omega (arith, p .located .depth, loaded-show g .blocks), omega (arith, p .located .known, loaded-show g .blocks))
+
+  pub locate-found : (r : Place) (d m : ℕ) (after : List ℕ) → b ≡ true → r ≡ placeOf n (placeIn (blocksOf xs) (lastBlock (blocksOf xs)) n)
+      → d ≡ r .depth → m ≡ r .block → after ≡ overwrite (placeIn (blocksOf xs) (lastBlock (blocksOf xs)) n .path) path
+      → outcome (ofLocate (Found d m (r .own))) after ≡ locateIn (blocksOf xs) n path
+  unfolding ofLocate locateIn located answer
+  locate-found r d m after k f ed em a =
+      rw (ed, em, f, a) (has-cue path _ (blocksOf xs) n cues b q e k ∙ has-room path _ maxDepth room)
+
+-- Numbering: n is what was found.
+pub number-none : (n m : ℕ) → n ≡ m → n ≡ 0 → ofNumber (NumberRefused (record { number = 13; place = 0 })) ≡ numbered m
+unfolding ofNumber numbered refusal
+number-none n m q e = sym (eq-then _ _ _ _ (sym q ∙ e))
+
+pub number-some : (n m : ℕ) → n ≡ m → (n ≡ 0 → ⊥) → ofNumber (Number n) ≡ numbered m
+unfolding ofNumber numbered
+number-some n m q e = rw (← q) (sym (eq-else _ _ _ _ e))
+
+-- A list copied to the beginning of another, number by number.
+pub copy-on : (from to now : List ℕ) (i : ℕ) → length from ≤ length to → i < length from → now ≡ take i from ++ drop i to
+    → set now i (getD from i 0) ≡ take (i + 1) from ++ drop (i + 1) to
+copy-on from to now i h l e =
+    let one : i + 1 ≡ suc i = omega arith in
+    rw (e, one, take-suc from i 0 l, drop-cons to i 0 (omega arith))
+    (set-at (take i from) (getD to i 0) (drop (suc i) to) (getD from i 0) i (length-take-le i from (omega arith)) ∙ sym (append-snoc (take i from) (getD from i 0) (drop (suc i) to)))
+
+pub copy-done : (from to now : List ℕ) (i : ℕ) → length from ≤ i → i ≤ length from → now ≡ take i from ++ drop i to → now ≡ overwrite from to
+unfolding overwrite
+copy-done from to now i h l e = let q : i ≡ length from = omega arith in e ∙ rw (q, take-length from)
+
+-- Writing.
+abbrev text : List ℕ → List ℕ
+text xs = fileText (rowsFrom xs 0 (length xs / rowSize))
+
+same-text : (xs : List ℕ) → text xs ≡ fileText (rowsOf xs)
+unfolding rowsOf rowCount
+same-text xs = refl
+
+pub rows-few : (xs : List ℕ) → verdict xs ≡ Accepted → (length xs / rowSize * rowSize ≤ length xs) × (length xs / rowSize ≤ maxRows)
+unfolding rowCount
+rows-few xs v = let s = accepted-show xs v in (omega arith, s .rows .1)
+
+pub text-few : (xs : List ℕ) (n : ℕ) → verdict xs ≡ Accepted → n ≡ length (text xs) → n ≤ maxBytes
+text-few xs n v e = rw (e, same-text xs) (rows-fit xs v)
+
+module _ (xs out : List ℕ) (n : ℕ) (e : n ≡ length (text xs)) where
+  pub write-room : length out < n → outcome (ofWrite (WriteRefused (record { number = 11; place = 0 }))) out ≡ writeInto (fileText (rowsOf xs)) out
+  unfolding ofWrite writeInto refuse refusal
+  write-room h = no-room out _ (length (fileText (rowsOf xs))) (rw (e, same-text xs) at h)
+
+  pub write-done : (m : ℕ) (after : List ℕ) → m ≡ n → n ≤ length out → after ≡ overwrite (text xs) out
+      → outcome (ofWrite (Written m)) after ≡ writeInto (fileText (rowsOf xs)) out
+  unfolding ofWrite writeInto answer
+  write-done m after em h a =
+      let q : n ≡ length (fileText (rowsOf xs)) = e ∙ ap length (same-text xs) in
+      rw (em, a, same-text xs, q) (has-room out _ (length (fileText (rowsOf xs))) (rw q at h))
+
+-- Reading.
+module _ (xs t : List ℕ) (g : Loaded xs t) (out : List ℕ) where
+  pub read-room : length out < length xs → outcome (ofRead (ReadRefused (record { number = 11; place = 0 }))) out ≡ readInto xs out
+  unfolding ofRead readInto refuse refusal
+  read-room h = no-room out _ (length xs) h
+
+  pub read-done : (many last blocks cues : ℕ) (after : List ℕ) → length xs ≤ length out → after ≡ overwrite xs out → many ≡ length xs / rowSize
+      → last ≡ lastBlock (blocksOf xs) → blocks ≡ last + 1 → cues ≡ count (blocksOf xs)
+      → outcome (ofRead (Read many blocks cues)) after ≡ readInto xs out
+  unfolding ofRead readInto answer rowCount lastBlock
+  read-done many last blocks cues after h a em el eb ec =
+      let n : blocks ≡ length (blocksOf xs) = omega (arith, el, eb, loaded-show g .blocks) in
+      rw (em, n, ec, a) (has-room out _ (length xs) h)
+
+module _ (xs t : List ℕ) (v : Verdict) (c : IsChecked xs t v) where
+  pub read-yes : (out : List ℕ) (o : Outcome) → v ≡ Accepted → o ≡ readInto xs out → o ≡ readNumbers xs out
+  unfolding readNumbers inLines onAccepted
+  read-yes out o e h = rw (said-yes xs t v c e) h
+
+  pub read-refused : (out : List ℕ) (f f′ : Refusal) → v ≡ Refused f → f′ ≡ byLine f → outcome (ofRead (ReadRefused f′)) out ≡ readNumbers xs out
+  unfolding ofRead readNumbers inLines onAccepted refuse
+  read-refused out f f′ e h = rw (said-no xs t v c f e, h)
+
+  pub refused-few : (f : Refusal) → v ≡ Refused f → f .place ≤ maxRows
+  refused-few f e = place-few xs f (said-no xs t v c f e)

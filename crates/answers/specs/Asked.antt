@@ -1,0 +1,31 @@
+-- Parts of the questions, as the answers have them.
+use Prim.Native.Nat.{ℕ, _≤_}
+use mathlib.Core.Bool.{Bool}
+use mathlib.Core.List.{List}
+use Rattle.model.specs.Blocks.{Block, blocksOf, count}
+use Rattle.model.specs.Unfolding.{showLinks}
+use Rattle.model.specs.Verdicts.{verdict, inLines}
+use Rattle.model.specs.Chains.{fewest}
+use Rattle.model.specs.Summaries.{workAfter}
+use Rattle.model.specs.Questions.{Outcome, refuse, answer, onAccepted, withCue, readInto, listed, distanceValues}
+use Rattle.lists.specs.Answer.{linkedCues}
+
+-- What reading answers for the numbers that a file has.
+unfoldable pub readNumbers : List ℕ → List ℕ → Outcome
+readNumbers xs out = onAccepted (inLines (verdict xs)) (λ r. refuse r out) (readInto xs out)
+
+-- "List out, or in, of cue v after n", of a loaded show and of rows.
+unfoldable pub listOf : Bool → List Block → ℕ → ℕ → List ℕ → Outcome
+listOf inward bs v n page = withCue bs v page (listed (linkedCues inward bs v n) page)
+
+unfoldable pub listAsked : Bool → List ℕ → ℕ → ℕ → List ℕ → Outcome
+listAsked inward xs v n page = onAccepted (verdict xs) (λ r. refuse r page) (listOf inward (blocksOf xs) v n page)
+
+-- v is one of the cues of the show that the rows are.
+pub record ShowCue (xs : List ℕ) (v : ℕ) : Type 0 where
+  pub low : 1 ≤ v
+  pub high : v ≤ count (blocksOf xs)
+
+-- "Fewest from s to t", where both are cues and the work area is large enough.
+unfoldable pub between : List Block → ℕ → ℕ → List ℕ → Outcome
+between bs s t work = answer (distanceValues (fewest (showLinks bs) (count bs) s t)) (workAfter bs work)

@@ -1,0 +1,2 @@
+-- What the laws of lists are stated with.
+pub mod Members

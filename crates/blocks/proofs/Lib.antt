@@ -1,0 +1,5 @@
+-- The laws of loaded shows.
+pub mod Loaded
+pub mod Places
+pub mod Uses
+pub mod Along

@@ -1,0 +1,12 @@
+-- `label`: a value of the link's row.
+use borrow.Author.Needs.{needs}
+use Rattle.verdicts.specs.Index.{linkAt}
+use Rattle.blocks.proofs.label.Statement.{statement}
+use Rattle.blocks.proofs.label.Tie as tie
+
+returns : tie.Need-returns
+unfolding linkAt
+returns c = search needs
+
+pub label-spec : {M : Type 1} → statement M
+label-spec = tie.close (tie.spec (λ c κs. search needs) returns)

@@ -1,3 +1,0 @@
--- What the functions of this crate promise.
-pub mod Copies
-pub mod Found

@@ -1,0 +1,4 @@
+-- What the laws of chains and distances are stated with.
+pub mod Walks
+pub mod Tells
+pub mod Demand

@@ -1,0 +1,1 @@
+// Laws of chains and of distances in a folded show; no code.

@@ -1,0 +1,3 @@
+-- The laws of estimates.
+pub mod Rounds
+pub mod Starts

@@ -1,3 +1,0 @@
--- The laws that the proofs cite.
-pub mod Laws
-pub mod Beginning

@@ -1,6 +1,0 @@
-pub mod Filled
-pub mod Walks
-pub mod Joins
-pub mod Stands
-pub mod Answer
-pub mod Whole

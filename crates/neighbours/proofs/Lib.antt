@@ -1,0 +1,5 @@
+pub mod Picked
+pub mod Near
+pub mod Bits
+pub mod Marks
+pub mod Tables

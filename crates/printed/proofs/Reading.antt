@@ -1,0 +1,161 @@
+-- What a file's reading says of its text.
+use Prim.Native.Nat.{ℕ, _+_, _*_, _-_, _≤_, _<_}
+use native.Mathlib.Omega.{arith}
+use mathlib.Core.Path.{_≡_, refl, sym, _∙_, ap}
+use mathlib.Core.Bool.{true, false}
+use mathlib.Core.List.{List, [], _∷_, _++_}
+use lib.ListN.{length, take, drop, length-append}
+use lib.Seq.{take-at}
+use Rattle.model.specs.Answers.{returned, given, ofRead}
+use Rattle.model.specs.Blocks.{blocksOf, count}
+use Rattle.model.specs.Lists.{overwrite}
+use Rattle.model.specs.Printed.{valuesText, linksTitle, cuesTitle, refusalText, showText, printed}
+use Rattle.model.specs.Questions.{outcome, refuse, answer, onAccepted, readAsked}
+use Rattle.model.specs.Rows.{rowCount}
+use Rattle.model.specs.Verdicts.{verdict, numbersOf, fileVerdict}
+use Rattle.model.specs.declared.Refusal.{Refusal}
+use Rattle.model.specs.declared.ReadAnswer.{ReadAnswer}
+use Rattle.model.specs.declared.ReadAnswer.the-variants.{Read, Refused as ReadRefused}
+use Rattle.model.specs.declared.Verdict.{Verdict}
+use Rattle.model.specs.declared.Verdict.the-variants.{Accepted, Refused}
+use Rattle.shows.specs.Accepted.{Show}
+use Rattle.shows.proofs.Accepted.{accepted-show}
+use Rattle.shows.proofs.RoundTrips.{read-answer, accepted-file}
+use Rattle.verdicts.specs.Passing.{IsChecked}
+use Rattle.printing.specs.Stream.{linesFrom, StartsWith}
+use Rattle.printing.proofs.Triples.{show-lines, show-count}
+use Rattle.printed.specs.Parts.{endOf, linesAfter, restOf, TextBegun}
+use Rattle.printed.specs.declared.Begun.{Begun}
+use Rattle.printed.proofs.Parts.{no-lines}
+
+-- A file was read: the rows that it has, and its text.
+pub record WasRead (file after : List ℕ) (many blocks cues : ℕ) : Type 0 where
+  pub xs : List ℕ
+  pub accepted : verdict xs ≡ Accepted
+  pub shown : printed file ≡ showText (blocksOf xs)
+  pub few : many ≤ 1024
+  pub size : many * 11 ≤ length after
+  pub rows : take (many * 11) after ≡ xs
+  pub all : cues ≡ count (blocksOf xs)
+
+module _ (file rows after : List ℕ) (long : 11264 ≤ length rows) where
+  whole-rows : (xs : List ℕ) → verdict xs ≡ Accepted → (rowCount xs * 11 ≡ length xs) × (rowCount xs ≤ 1024)
+  unfolding rowCount
+  whole-rows xs v = let s : Show xs = accepted-show xs v in (omega (arith, s .whole), omega (arith, s .rows .1))
+
+  pub was-refused : (f : Refusal) → outcome (ofRead (ReadRefused f)) after ≡ readAsked file rows → printed file ≡ refusalText f
+  unfolding ofRead readAsked refuse returned printed onAccepted answer given refusalText
+  was-refused f h = go (fileVerdict file) refl
+    where
+      go : (v : Verdict) → fileVerdict file ≡ v → printed file ≡ refusalText f
+      go Accepted e =
+          let (xs, r, v) = accepted-file file e in
+          let w = whole-rows xs v in
+          let k = h ∙ read-answer file xs rows r v (omega (arith, w .0, w .1)) in
+          absurd (no-values _ _ _ _ k)
+        where
+          no-values : (a b c : ℕ) (l : List ℕ) → outcome (returned f) after ≡ answer (a ∷ b ∷ c ∷ []) l → ⊥
+          no-values a b c l k = let e : _≡_ {A = List ℕ} [] (a ∷ b ∷ c ∷ []) = ap (λ o. o .answer .values) k in let z : _≡_ {A = ℕ} 0 1 = cc in omega arith
+      go (Refused r) e =
+          let k : outcome (returned f) after ≡ refuse r rows = rw e at h in
+          let p : f .number ≡ r .number = ap (λ o. o .answer .number) k in
+          let q : f .place ≡ r .place = ap (λ o. o .answer .place) k in
+          rw (e, printed) (sym (same f r p q))
+        where
+          same : (f r : Refusal) → f .number ≡ r .number → f .place ≡ r .place → refusalText f ≡ refusalText r
+          same f r p q = rw (p, q)
+
+  pub was-read : (many blocks cues : ℕ) → outcome (ofRead (Read many blocks cues)) after ≡ readAsked file rows → WasRead file after many blocks cues
+  unfolding ofRead readAsked refuse returned given printed onAccepted answer numbersOf overwrite
+  was-read many blocks cues h = go (fileVerdict file) refl
+    where
+      go : (v : Verdict) → fileVerdict file ≡ v → WasRead file after many blocks cues
+      go Accepted e =
+          let (xs, r, v) = accepted-file file e in
+          let w = whole-rows xs v in
+          let k = h ∙ read-answer file xs rows r v (omega (arith, w .0, w .1)) in
+          let values : _≡_ {A = List ℕ} (many ∷ blocks ∷ cues ∷ []) (rowCount xs ∷ length (blocksOf xs) ∷ count (blocksOf xs) ∷ []) = ap (λ o. o .answer .values) k in
+          let is : after ≡ xs ++ drop (length xs) rows = ap (λ o. o .after) k in
+          let m : many ≡ rowCount xs = cc in
+          let size : many * 11 ≡ length xs = rw m (w .0) in
+          record {
+            xs = xs;
+            accepted = v;
+            shown = rw (e, r);
+            few = rw m (w .1);
+            size = omega (arith, size, ap length is ∙ length-append xs (drop (length xs) rows));
+            rows = rw (size, is) (take-at xs (drop (length xs) rows) (length xs) refl);
+            all = (cc);
+          }
+      go (Refused r) e =
+          let k : outcome (given (many ∷ blocks ∷ cues ∷ [])) after ≡ refuse r rows = rw e at h in
+          let p : _≡_ {A = List ℕ} (many ∷ blocks ∷ cues ∷ []) [] = ap (λ o. o .answer .values) k in
+          let z : _≡_ {A = ℕ} 0 1 = cc in
+          absurd (omega arith)
+
+-- The text begins.
+module _ (file rows t out : List ℕ) (used : ℕ) where
+  pub begun-whole : (w : List ℕ) (r : Begun) → printed file ≡ w → StartsWith w used out → r .used ≡ used → r .more ≡ false → TextBegun file rows t out r
+  begun-whole w r e s u f =
+      record {
+        fits = rw u (s .fits);
+        whole = λ g. rw u (s .text) ∙ sym e;
+        size = λ g. absurd (never g);
+        ready = λ g. absurd (never g);
+        text = λ g. absurd (never g);
+      }
+    where
+      never : r .more ≡ true → ⊥
+      never g = let z : _≡_ {A = ℕ} 0 1 = cc (sym g ∙ f) in omega arith
+
+  pub begun-links : (many blocks cues n size : ℕ) (c : Verdict) → WasRead file rows many blocks cues → n ≡ many → size ≡ n * 11
+      → IsChecked (take size rows) t c → cues ≤ 1000 → StartsWith linksTitle used out
+      → TextBegun file rows t out (record { used = used; more = true; size = size; cues = cues })
+  unfolding restOf linesAfter
+  begun-links many blocks cues n size c w same sized checked few s =
+      let k : size ≡ many * 11 = rw same at sized in
+      let is : take size rows ≡ w .xs = rw k (w .rows) in
+      let v : verdict (take size rows) ≡ Accepted = rw is (w .accepted) in
+      let a : cues ≡ count (blocksOf (take size rows)) = rw is (w .all) in
+      record {
+        fits = s .fits;
+        whole = λ g. absurd (never g);
+        size = λ g. omega (arith, w .size, k);
+        ready = λ g. record { loaded = record { accepted = v; index = checked .table v }; all = a; few = few };
+        text = λ g m. w .shown ∙ title (w .xs) (w .all) ∙ rw (s .text) (ap (λ zs. linksTitle ++ zs) (rw is (rest m)));
+      }
+    where
+      never : true ≡ false → ⊥
+      never g = let z : _≡_ {A = ℕ} 0 1 = cc in omega arith
+
+      title : (xs : List ℕ) → cues ≡ count (blocksOf xs) → showText (blocksOf xs) ≡ linksTitle ++ linesAfter (blocksOf xs) 0
+      title xs a = let z : count (blocksOf xs) - 0 ≡ count (blocksOf xs) = omega arith in rw z (show-lines (blocksOf xs) (omega arith))
+
+      rest : (m : List ℕ) → linesAfter (blocksOf (w .xs)) 0 ≡ linesFrom m 0 (endOf cues) (endOf (count (blocksOf (w .xs)))) ++ linesAfter (blocksOf (w .xs)) 0
+      rest m = sym (ap (λ zs. zs ++ linesAfter (blocksOf (w .xs)) 0) (no-lines m 0 (endOf (count (blocksOf (w .xs)))) (endOf cues) (omega (arith, w .all))))
+
+-- The three answers of the function that begins it.
+module _ (file rows after : List ℕ) (long : 11264 ≤ length rows) (a : ReadAnswer) (said : outcome (ofRead a) after ≡ readAsked file rows) where
+  read-is : (many blocks cues : ℕ) → a ≡ Read many blocks cues → WasRead file after many blocks cues
+  read-is many blocks cues e = was-read file rows after long many blocks cues (rw e at said)
+
+  pub rows-small : (many blocks cues n : ℕ) → a ≡ Read many blocks cues → n ≡ many → n * 11 ≤ length after
+  rows-small many blocks cues n e same = omega (arith, read-is many blocks cues e .size)
+
+  module _ (t out : List ℕ) (used : ℕ) where
+    pub refused-begun : (f : Refusal) (r : Begun) → a ≡ ReadRefused f → StartsWith (refusalText f) used out → (r .used ≡ used) × (r .more ≡ false)
+        → TextBegun file after t out r
+    refused-begun f r e s w = begun-whole file after t out used (refusalText f) r (was-refused file rows after long f (rw e at said)) s (w .0) (w .1)
+
+    pub count-begun : (many blocks cues : ℕ) (r : Begun) → a ≡ Read many blocks cues → 1000 < cues → StartsWith (cuesTitle ++ valuesText (cues ∷ [])) used out
+        → (r .used ≡ used) × (r .more ≡ false) → TextBegun file after t out r
+    count-begun many blocks cues r e h s w =
+        let d = read-is many blocks cues e in
+        let k : printed file ≡ cuesTitle ++ valuesText (cues ∷ []) = d .shown ∙ show-count (blocksOf (d .xs)) (omega (arith, d .all)) ∙ ap (λ k. cuesTitle ++ valuesText (k ∷ [])) (sym (d .all)) in
+        begun-whole file after t out used (cuesTitle ++ valuesText (cues ∷ [])) r k s (w .0) (w .1)
+
+    pub links-begun : (many blocks cues n : ℕ) (c : Verdict) → a ≡ Read many blocks cues → n ≡ many → cues ≤ 1000
+        → (size : ℕ) → IsChecked (take size after) t c → size ≡ n * 11 → StartsWith linksTitle used out
+        → TextBegun file after t out (record { used = used; more = true; size = n * 11; cues = cues })
+    links-begun many blocks cues n c e same few size checked sized s =
+        begun-links file after t out used many blocks cues n (n * 11) c (read-is many blocks cues e) same refl (rw sized at checked) few s

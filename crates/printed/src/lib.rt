@@ -1,0 +1,132 @@
+// What the unfolding program prints for a file, part by part: the lines of a show's links are made as they are wanted, from the table of
+// marks of one cue after the other.
+ghost use mathlib.Core.Path.{_≡_};
+ghost use mathlib.Core.Bool.{false};
+ghost use Prim.Native.Nat.{_+_, _*_, _≤_};
+ghost use lib.ListN.{length, replicate};
+ghost use Rattle.model.specs.Blocks.{blocksOf};
+ghost use Rattle.printed.specs.Parts.{isGoing, Prints, Stands, Part, TextBegun};
+use blocks::INDEX;
+use model::ReadAnswer;
+
+// The places of a cue in a table of marks, and those of all cues.
+const WIDTH: usize = 256;
+
+const MARKS: usize = 256256;
+
+// The most cues of a show whose links are printed.
+const CUES: u32 = 1000;
+
+// The values of a row.
+const ROW: usize = 11;
+
+// How the text begins: how many bytes there are so far and, if the lines of the links are still to come, how many numbers the rows have,
+// and how many cues there are.
+pub struct Begun {
+    pub used: usize,
+    pub more: bool,
+    pub size: usize,
+    pub cues: u32,
+}
+
+// Where the text goes on, at a place of the table of a cue; and how many bytes of it were made.
+pub struct At {
+    pub from: u32,
+    pub place: usize,
+    pub used: usize,
+}
+
+fn wide(x: u32) -> usize
+    ensures { λ r. ⌜ r ≡ x ⌝ }
+{
+    x as usize
+}
+
+// A text that is whole.
+fn whole(used: usize) -> Begun
+    ensures { λ r. ⌜ (r .used ≡ used) × (r .more ≡ false) ⌝ }
+{
+    Begun {
+        used: used,
+        more: false,
+        size: 0,
+        cues: 0,
+    }
+}
+
+// Begins the text of a file. The rows that it has go to the beginning of a list, and their index to an empty table.
+pub fn begin(file: &[u8], rows: &mut [u32], t: &mut [u32; INDEX], out: &mut [u8; 64]) -> Begun
+    requires { ⌜ (now t ≡ replicate 512 0) × (11264 ≤ length (now rows)) ⌝ }
+    ensures { λ r. ⌜ TextBegun (now (file .entry)) (now (rows .exit)) (now (t .exit)) (now (out .exit)) r ⌝ }
+{
+    match show::read(file, rows) {
+        ReadAnswer::Refused(refusal) => whole(printing::put_refusal(refusal, out)),
+        ReadAnswer::Read(many, _, cues) => {
+            if CUES < cues {
+                return whole(printing::put_count(cues, out));
+            }
+            let size = wide(many) * ROW;
+            verdicts::check(&rows[0..size], t);
+            let used = printing::put_links_title(out);
+            Begun {
+                used: used,
+                more: true,
+                size: size,
+                cues: cues,
+            }
+        }
+    }
+}
+
+// There is still something to look at behind a place.
+pub fn going(cues: u32, from: u32, place: usize) -> bool
+    ensures { λ r. ⌜ r ≡ isGoing cues from place ⌝ }
+{
+    let end = WIDTH * wide(cues) + WIDTH;
+    if place < end {
+        return true;
+    }
+    if from < cues {
+        return true;
+    }
+    false
+}
+
+// The next part of the lines of the links, from a place of the table of a cue on.
+pub fn part(
+    xs: &[u32],
+    t: &[u32; INDEX],
+    cues: u32,
+    from: u32,
+    place: usize,
+    m: &mut [u8; MARKS],
+    out: &mut [u8],
+) -> At
+    requires { ⌜ Prints (now xs) (now t) cues × Stands (blocksOf (now xs)) (now m) from place ⌝ }
+    ensures { λ r. ⌜ Part (blocksOf (now (xs .entry))) from place (now (m .entry)) (now (out .entry)) r (now (m .exit)) (now (out .exit)) ⌝ }
+{
+    let end = WIDTH * wide(cues) + WIDTH;
+    if place < end {
+        let filled = printing::fill(m, from, place, end, out);
+        return At {
+            from: from,
+            place: filled.place,
+            used: filled.used,
+        };
+    }
+    if cues <= from {
+        return At {
+            from: from,
+            place: place,
+            used: 0,
+        };
+    }
+    let u = from + 1;
+    triples::follow(xs, t, u, m);
+    let filled = printing::fill(m, u, WIDTH, end, out);
+    At {
+        from: u,
+        place: filled.place,
+        used: filled.used,
+    }
+}

@@ -1,0 +1,14 @@
+-- `rules::link_order` meets its contract: each return is a branch of the definition.
+use borrow.Author.Needs.{needs}
+use Rattle.basics.proofs.Choices.{ifs}
+use Rattle.rules.specs.Faults.{linkOrder}
+use Rattle.rules.proofs.link_order.Statement.{statement}
+use Rattle.rules.proofs.link_order.Tie as tie
+
+pub link-order-spec : {M : Type 1} → statement M
+unfolding linkOrder
+link-order-spec =
+    tie.close
+    (tie.spec (λ c. search (ifs, needs) depth 14) (λ c. search needs) (λ c. search needs) (λ c. search needs) (λ c. search needs)
+    (λ c. search needs) (λ c. search needs) (λ c. search needs) (λ c. search needs) (λ c κs. search needs) (λ c. search (ifs, needs) depth 14)
+    (λ c. search (ifs, needs) depth 14))

@@ -1,0 +1,169 @@
+-- Laws of the C functions.
+use Prim.Native.Nat.{ℕ, _+_, _*_, _≤_, _<_}
+use native.Mathlib.Omega.{arith}
+use mathlib.Core.Path.{_≡_, refl, sym, _∙_, ap}
+use mathlib.Core.Bool.{Bool, true, false}
+use mathlib.Core.List.{List, [], _∷_}
+use lib.ListN.{length, set}
+use Rattle.model.specs.Verdicts.{refusal, verdict, Numbers, readFile, fileVerdict, numbersOf}
+use Rattle.model.specs.Rows.{rowCount}
+use Rattle.model.specs.Lists.{overwrite}
+use Rattle.model.specs.Answers.{Returned, returned, given, ofRead, ofCount, ofList, flag}
+use Rattle.model.specs.Questions.{Outcome, outcome, refuse, onAccepted, withRoom, readInto, readAsked, countAsked}
+use Rattle.model.specs.declared.Refusal.{Refusal}
+use Rattle.model.specs.declared.Verdict.{Verdict}
+use Rattle.model.specs.declared.Verdict.the-variants.{Accepted, Refused}
+use Rattle.model.specs.declared.ReadAnswer.{ReadAnswer}
+use Rattle.model.specs.declared.ReadAnswer.the-variants.{Read, Refused as ReadRefused}
+use Rattle.model.specs.declared.CountAnswer.{CountAnswer}
+use Rattle.model.specs.declared.CountAnswer.the-variants.{Cues, Refused as CountRefused}
+use Rattle.model.specs.declared.ListAnswer.{ListAnswer}
+use Rattle.model.specs.declared.ListAnswer.the-variants.{Page}
+use Rattle.basics.proofs.Choices.{lt-then, lt-else}
+use Rattle.shows.proofs.Accepted.{accepted-show}
+use Rattle.shows.proofs.RoundTrips.{accepted-file}
+use Rattle.show_c.specs.Interface.{code, givenAfter, withGiven, alsoGiven, shortOf, Told, Wrote}
+
+-- A refusal as one number.
+abbrev pub number : Refusal → ℕ
+number f = f .number * 4294967296 + f .place
+
+-- Values are no refusal.
+no-values : (n : ℕ) (ns : List ℕ) (f : Refusal) → given (n ∷ ns) ≡ returned f → ⊥
+unfolding given returned
+no-values n ns f e = let q : length (n ∷ ns) ≡ 0 = ap (λ (r : Returned). length (r .values)) e in omega arith
+
+same-code : (f g : Refusal) → returned f ≡ returned g → number f ≡ code (returned g)
+unfolding returned code
+same-code f g e = omega (arith, ap (λ (r : Returned). r .number) e, ap (λ (r : Returned). r .place) e)
+
+-- What is said of rows where `given` is too short, from what their count would be.
+short-value : (v : Verdict) (n : ℕ) (ns ws : List ℕ) → given (n ∷ ns) ≡ onAccepted v (λ f. returned f) (given ws) → 47244640256 ≡ shortOf v
+unfolding shortOf onAccepted code returned refusal
+short-value Accepted n ns ws e = refl
+short-value (Refused f) n ns ws e = absurd (no-values n ns f e)
+
+short-refused : (v : Verdict) (f : Refusal) (w : ℕ) (ws : List ℕ) → returned f ≡ onAccepted v (λ f. returned f) (given (w ∷ ws)) → number f ≡ shortOf v
+unfolding shortOf onAccepted
+short-refused Accepted f w ws e = absurd (no-values w ws f (sym e))
+short-refused (Refused g) f w ws e = same-code f g e
+
+pub count-short : (xs : List ℕ) (a : CountAnswer) (n : ℕ) → ofCount a ≡ countAsked xs → a ≡ Cues n → 47244640256 ≡ shortOf (verdict xs)
+unfolding ofCount countAsked
+count-short xs a n e q = short-value (verdict xs) n [] _ (rw q at e)
+
+pub no-count-short : (xs : List ℕ) (a : CountAnswer) (f : Refusal) (c : ℕ) → ofCount a ≡ countAsked xs → a ≡ CountRefused f → c ≡ number f → c ≡ shortOf (verdict xs)
+unfolding ofCount countAsked
+no-count-short xs a f c e q h = h ∙ short-refused (verdict xs) f _ [] (rw q at e)
+
+-- Values put first in `given`.
+pub put-one : (a : ℕ) (g : List ℕ) → 3 ≤ length g → set g 0 a ≡ overwrite (a ∷ []) g
+unfolding overwrite
+put-one a [] h = absurd (omega arith)
+put-one a (x ∷ g) h = refl
+
+pub put-two : (a b : ℕ) (g g′ : List ℕ) → 3 ≤ length g → g′ ≡ overwrite (a ∷ []) (set g 1 b) → g′ ≡ overwrite (a ∷ b ∷ []) g
+unfolding overwrite
+put-two a b [] g′ h e = absurd (omega arith)
+put-two a b (x ∷ []) g′ h e = absurd (omega arith)
+put-two a b (x ∷ y ∷ g) g′ h e = e
+
+pub put-three : (a b c : ℕ) (g g′ : List ℕ) → 3 ≤ length g → g′ ≡ overwrite (a ∷ b ∷ []) (set g 2 c) → g′ ≡ overwrite (a ∷ b ∷ c ∷ []) g
+unfolding overwrite
+put-three a b c [] g′ h e = absurd (omega arith)
+put-three a b c (x ∷ []) g′ h e = absurd (omega arith)
+put-three a b c (x ∷ y ∷ []) g′ h e = absurd (omega arith)
+put-three a b c (x ∷ y ∷ z ∷ g) g′ h e = e
+
+pub flag-yes : (b : Bool) → b ≡ true → 1 ≡ flag b
+unfolding flag
+flag-yes b e = rw e
+
+pub flag-no : (b : Bool) → b ≡ false → 0 ≡ flag b
+unfolding flag
+flag-no b e = rw e
+
+-- What is told of an answer a that is b, read by `of`: of values, and of a refusal.
+module _ {A : Type 0} (of : A → Returned) (a b : A) (c : ℕ) (g g′ : List ℕ) where
+  pub told-value : (vs : List ℕ) → (c ≡ 0) × (g′ ≡ overwrite vs g) → of b ≡ given vs → a ≡ b → Told c g g′ (of a)
+  unfolding code givenAfter given
+  told-value vs q e i = rw (i, e, q .0) (refl, q .1)
+
+  pub told-refused : (f : Refusal) → g′ ≡ g → c ≡ number f → of b ≡ returned f → a ≡ b → Told c g g′ (of a)
+  unfolding code givenAfter returned overwrite
+  told-refused f u q e i = rw (i, e, u) (q, refl)
+
+-- The flag of a page is a number of its own.
+pub told-page : (a : ListAnswer) (n m : ℕ) (b : Bool) (c : ℕ) (g g′ : List ℕ) → m ≡ flag b → (c ≡ 0) × (g′ ≡ overwrite (n ∷ m ∷ []) g) → a ≡ Page n b
+    → Told c g g′ (ofList a)
+unfolding ofList
+told-page a n m b c g g′ k p q = told-value ofList a (Page n b) c g g′ (n ∷ m ∷ []) p (rw k) q
+
+-- Whether `given` is long enough, for a question that writes no list, and for one that does.
+module _ (g : List ℕ) (v : Verdict) where
+  no-answer : (w : Verdict) → givenAfter (onAccepted w (λ f. returned f) (returned (refusal 11 0))) g ≡ g
+  unfolding givenAfter onAccepted returned overwrite
+  no-answer Accepted = refl
+  no-answer (Refused f) = refl
+
+  pub tell-short : (r : Returned) (c : ℕ) → length g < 3 → c ≡ shortOf v → Told c g g (withGiven g v r)
+  unfolding withGiven shortOf
+  tell-short r c h e = rw (lt-then (length g) 3 (onAccepted v (λ f. returned f) (returned (refusal 11 0))) r h) (e, sym (no-answer v))
+
+  pub tell : (r r′ : Returned) (c : ℕ) (g′ : List ℕ) → 3 ≤ length g → r′ ≡ r → Told c g g′ r′ → Told c g g′ (withGiven g v r)
+  unfolding withGiven
+  tell r r′ c g′ h e t = rw (lt-else (length g) 3 (onAccepted v (λ f. returned f) (returned (refusal 11 0))) r h, ← e) t
+
+  refused-also : (lent : List ℕ) (w : Verdict)
+      → onAccepted w (λ f. refuse f lent) (refuse (refusal 11 0) lent) ≡ outcome (onAccepted w (λ f. returned f) (returned (refusal 11 0))) lent
+  unfolding onAccepted refuse
+  refused-also lent Accepted = refl
+  refused-also lent (Refused f) = refl
+
+  pub wrote-short : (lent : List ℕ) (o : Outcome) (c : ℕ) → length g < 3 → c ≡ shortOf v → Wrote c g g lent (alsoGiven g v lent o)
+  unfolding alsoGiven shortOf
+  wrote-short lent o c h e =
+      rw (lt-then (length g) 3 (onAccepted v (λ f. refuse f lent) (refuse (refusal 11 0) lent)) o h, refused-also lent v) (e, (sym (no-answer v), refl))
+
+  pub wrote : (lent : List ℕ) (o : Outcome) (r : Returned) (c : ℕ) (g′ after : List ℕ) → 3 ≤ length g → outcome r after ≡ o → Told c g g′ r
+      → Wrote c g g′ after (alsoGiven g v lent o)
+  unfolding alsoGiven
+  wrote lent o r c g′ after h e t =
+      rw (lt-else (length g) 3 (onAccepted v (λ f. refuse f lent) (refuse (refusal 11 0) lent)) o h, ← e) (t .0, (t .1, refl))
+
+-- Reading: a list of one number has no room for a row.
+one-short : (f : List ℕ) (xs : List ℕ) → fileVerdict f ≡ Accepted → readFile f ≡ Numbers xs → 1 < length xs
+unfolding rowCount
+one-short f xs v e =
+    let (ys, q, w) = accepted-file f v in
+    let same : xs ≡ ys = cc (sym e ∙ q) in
+    let s = accepted-show ys w in
+    rw same (omega (arith, s .rows .0))
+
+none-read : (f : List ℕ) (x : ℕ) (v : Verdict) → fileVerdict f ≡ v → readAsked f (x ∷ []) .answer ≡ onAccepted v (λ r. returned r) (returned (refusal 11 0))
+unfolding readAsked onAccepted readInto withRoom refuse numbersOf
+none-read f x Accepted e =
+    let (ys, q, w) = accepted-file f e in
+    rw (e, q, lt-then (length (x ∷ [])) (length ys) _ _ (one-short f ys e q))
+none-read f x (Refused r) e = rw e
+
+module _ (f : List ℕ) (x : ℕ) (a : ReadAnswer) (after : List ℕ) (e : outcome (ofRead a) after ≡ readAsked f (x ∷ [])) where
+  said : ofRead a ≡ onAccepted (fileVerdict f) (λ r. returned r) (returned (refusal 11 0))
+  said = ap (λ (o : Outcome). o .answer) e ∙ none-read f x (fileVerdict f) refl
+
+  some-refusal : (v : Verdict) → (r : Refusal) × (onAccepted v (λ r. returned r) (returned (refusal 11 0)) ≡ returned r)
+  unfolding onAccepted
+  some-refusal Accepted = (refusal 11 0, refl)
+  some-refusal (Refused r) = (r, refl)
+
+  pub file-short : (k l m : ℕ) → a ≡ Read k l m → 47244640256 ≡ shortOf (fileVerdict f)
+  unfolding ofRead
+  file-short k l m q =
+      let (r, z) = some-refusal (fileVerdict f) in
+      absurd (no-values k (l ∷ m ∷ []) r (rw q at said ∙ z))
+
+  pub file-refused : (r : Refusal) (c : ℕ) → a ≡ ReadRefused r → c ≡ number r → c ≡ shortOf (fileVerdict f)
+  unfolding ofRead shortOf
+  file-refused r c q h =
+      let (s, z) = some-refusal (fileVerdict f) in
+      h ∙ rw z (same-code r s (rw q at said ∙ z))

@@ -1,0 +1,22 @@
+-- The laws of shows, from the ground up.
+pub mod AtBlock
+-- rows and their checks
+pub mod Passed
+pub mod Tracks
+pub mod Accepted
+pub mod LastRow
+-- the unfolding, numbers, lists
+pub mod Replacement
+pub mod Numbering
+pub mod Lists
+-- copies of blocks, by number and by path
+pub mod Ranges
+pub mod BlockAt
+pub mod Locality
+pub mod Trails
+-- files
+pub mod Digits
+pub mod Lines
+pub mod FlatRows
+pub mod Files
+pub mod RoundTrips

@@ -1,0 +1,72 @@
+-- Reading and writing, as questions, undo one another: what writing an accepted show gives is read back to its rows, and what
+-- reading an accepted file gives is written back to its bytes.
+use Prim.Native.Nat.{ℕ, _≤_}
+use mathlib.Core.Path.{_≡_, refl}
+use mathlib.Core.List.{List, [], _∷_}
+use native.Mathlib.Omega.{arith}
+use lib.ListN.{length}
+use Rattle.model.specs.Limits.{maxBytes}
+use Rattle.model.specs.Rows.{rowCount, rowsOf, fileText}
+use Rattle.model.specs.Blocks.{blocksOf, count}
+use Rattle.model.specs.Verdicts.{verdict, Reading, Numbers, Unread, readFile, numbersOf, inLines, readVerdict, fileVerdict}
+use Rattle.model.specs.Lists.{overwrite}
+use Rattle.model.specs.Questions.{Outcome, answer, onAccepted, withRoom, readInto, readAsked, writeInto, writeAsked}
+use Rattle.model.specs.declared.Refusal.{Refusal}
+use Rattle.model.specs.declared.Verdict.{Verdict}
+use Rattle.model.specs.declared.Verdict.the-variants.{Accepted, Refused}
+use Rattle.basics.proofs.Choices.{lt-else}
+use Rattle.shows.specs.Accepted.{Show}
+use Rattle.shows.proofs.Accepted.{accepted-show}
+use Rattle.shows.proofs.Files.{written-read, read-written, fits}
+
+-- Enough room is no refusal.
+with-room : (need : ℕ) (lent : List ℕ) (o : Outcome) → need ≤ length lent → withRoom need lent o ≡ o
+unfolding withRoom
+with-room need lent o h = lt-else _ _ _ _ h
+
+-- What reading answers for a file of accepted rows.
+pub read-answer : (f xs out : List ℕ) → readFile f ≡ Numbers xs → verdict xs ≡ Accepted → length xs ≤ length out
+    → readAsked f out ≡ answer (rowCount xs ∷ length (blocksOf xs) ∷ count (blocksOf xs) ∷ []) (overwrite xs out)
+unfolding readAsked fileVerdict readVerdict numbersOf readInto inLines onAccepted
+read-answer f xs out e v h = rw (e, v) (with-room _ _ _ h)
+
+-- Reading back what was written for accepted rows gives the rows.
+pub read-back : (xs out : List ℕ) → verdict xs ≡ Accepted → length xs ≤ length out
+    → readAsked (fileText (rowsOf xs)) out
+    ≡ answer (rowCount xs ∷ length (blocksOf xs) ∷ count (blocksOf xs) ∷ []) (overwrite xs out)
+read-back xs out v r =
+    let s : Show xs = accepted-show xs v in
+    read-answer (fileText (rowsOf xs)) xs out (written-read xs (s .whole) (s .values) (s .rows .1)) v r
+
+-- What writing answers for accepted rows.
+pub write-answer : (xs out : List ℕ) → verdict xs ≡ Accepted → length (fileText (rowsOf xs)) ≤ length out
+    → writeAsked xs out ≡ answer (length (fileText (rowsOf xs)) ∷ []) (overwrite (fileText (rowsOf xs)) out)
+unfolding writeAsked writeInto onAccepted
+write-answer xs out v h = rw v (with-room _ _ _ h)
+
+-- Writing back what was read from an accepted file gives the file.
+pub write-back : (f xs out : List ℕ) → readFile f ≡ Numbers xs → verdict xs ≡ Accepted → length f ≤ length out
+    → writeAsked xs out ≡ answer (length f ∷ []) (overwrite f out)
+write-back f xs out e v h = let t = read-written f xs e .text in rw t at (write-answer xs out v (rw t h))
+
+-- Accepted rows always fit a file.
+pub rows-fit : (xs : List ℕ) → verdict xs ≡ Accepted → length (fileText (rowsOf xs)) ≤ maxBytes
+rows-fit xs v = let s : Show xs = accepted-show xs v in fits xs (s .whole) (s .values) (s .rows .1)
+
+-- An accepted file says the numbers of an accepted show.
+pub accepted-file : (f : List ℕ) → fileVerdict f ≡ Accepted
+    → (xs : List ℕ) × (readFile f ≡ Numbers xs) × (verdict xs ≡ Accepted)
+unfolding fileVerdict readVerdict inLines
+accepted-file f e = go (readFile f) refl e
+  where
+    refused≢ : (r : Refusal) → Refused r ≡ Accepted → ⊥
+    refused≢ r p = let z : _≡_ {A = ℕ} 0 1 = cc in omega arith
+
+    passed : (v : Verdict) → inLines v ≡ Accepted → v ≡ Accepted
+    passed Accepted p = refl
+    passed (Refused r) p = absurd (refused≢ _ p)
+
+    go : (k : Reading) → readFile f ≡ k → readVerdict k ≡ Accepted
+        → (xs : List ℕ) × (readFile f ≡ Numbers xs) × (verdict xs ≡ Accepted)
+    go (Numbers xs) p q = (xs, p, passed (verdict xs) q)
+    go (Unread r) p q = absurd (refused≢ r q)

@@ -1,0 +1,8 @@
+-- What the laws of shows are stated with.
+pub mod WellFormed
+pub mod Accepted
+pub mod Copies
+pub mod Replacement
+pub mod Numbering
+pub mod Lists
+pub mod Files

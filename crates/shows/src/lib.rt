@@ -1,0 +1,1 @@
+// Laws of shows: rows, files, numbering, partsFrom of blocks; no code.
