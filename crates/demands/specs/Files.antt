@@ -1,0 +1,66 @@
+-- The text of a show file, and what read answers and leaves. Document 01, "The show file" and "Questions".
+use Prim.Native.Nat.{ℕ, suc, _+_, _≤_}
+use mathlib.Core.Path.{_≡_}
+use mathlib.Core.Logic.{_↔_}
+use mathlib.Core.List.{List, [], _∷_, _++_, map}
+use lib.ListN.{length, getD}
+use Rattle.model.specs.Limits.{maxValue, maxBytes}
+use Rattle.model.specs.Text.{digitZero, names, ends, decimal}
+use Rattle.model.specs.Rows.{rowCount}
+use Rattle.model.specs.Blocks.{blocksOf, count}
+use Rattle.model.specs.Verdicts.{refusal}
+use Rattle.model.specs.declared.ReadAnswer.{ReadAnswer}
+use Rattle.model.specs.declared.ReadAnswer.the-variants.{Read, Refused}
+use Rattle.basics.specs.Members.{Each}
+use Rattle.demands.specs.Buffers.{Leaves}
+use Rattle.demands.specs.Acceptance.{Lawful, Check, Length, Sequence, Ranges, Repeats, Order, Ends, Totals, refusalNumber, FirstBroken}
+
+-- "A value is 0 to 65,535 with no sign, space or leading zero": the text of value v, digits and nothing else. "Figures are in base ten".
+pub record SpellsValue (t : List ℕ) (v : ℕ) : Type 0 where
+  pub digits : List ℕ
+  pub text : t ≡ map (λ (d : ℕ). digitZero + d) digits
+  pub each : Each (λ (d : ℕ). d ≤ 9) digits
+  pub some : 1 ≤ length digits
+  pub lead : getD digits 0 0 ≡ 0 → length digits ≡ 1
+  pub number : decimal 0 digits ≡ v
+  pub limit : v ≤ maxValue
+
+-- "eleven values with single commas between", "Every line, the last too, ends in one line feed": the text of a line of values, each of
+-- them with the byte behind it.
+pub data SpellsLine : List ℕ → List ℕ → List ℕ → Type 0 where
+  no-value : SpellsLine [] [] []
+  value-then : {e : ℕ} {es t l vs : List ℕ} {v : ℕ} → SpellsValue t v → SpellsLine es l vs → SpellsLine (e ∷ es) (t ++ (e ∷ l)) (v ∷ vs)
+
+-- "Each later line has eleven values": the text of such lines, and their numbers in order.
+pub data SpellsLines : List ℕ → List ℕ → Type 0 where
+  no-line : SpellsLines [] []
+  line-then : {l t vs xs : List ℕ} → SpellsLine ends l vs → SpellsLines t xs → SpellsLines (l ++ t) (vs ++ xs)
+
+-- "A line of names, then lines of values"; "A file has at most 65,536 bytes". File f says the numbers xs.
+pub record SpellsFile (f xs : List ℕ) : Type 0 where
+  pub lines : List ℕ
+  pub text : f ≡ names ++ lines
+  pub values : SpellsLines lines xs
+  pub short : length f ≤ maxBytes
+
+-- "Reading gives the line as place for 5 to 10", and "Row r is line r + 1."
+unfoldable pub linePlace : Check → ℕ → ℕ
+linePlace Length p = p
+linePlace Sequence p = suc p
+linePlace Ranges p = suc p
+linePlace Repeats p = suc p
+linePlace Order p = suc p
+linePlace Ends p = suc p
+linePlace Totals p = suc p
+
+-- What read answers and leaves, for a file and a lent output.
+pub record IsRead (f out : List ℕ) (r : ReadAnswer) (after : List ℕ) : Type 0 where
+  -- It answers exactly if the text keeps the rules, its rows do, and the output is long enough.
+  pub answers : ((rows blocks cues : ℕ) × (r ≡ Read rows blocks cues))
+      ↔ ((xs : List ℕ) × SpellsFile f xs × Lawful xs × (length xs ≤ length out))
+  -- "Read a file to rows, giving rows, blocks and cues": those of the numbers that the file says, which it leaves in the output.
+  pub given : (rows blocks cues : ℕ) → r ≡ Read rows blocks cues → (xs : List ℕ) → SpellsFile f xs
+      → (rows ≡ rowCount xs) × (blocks ≡ length (blocksOf xs)) × (cues ≡ count (blocksOf xs)) × Leaves xs out after
+  -- Each of 4 to 10 with its line exactly if the text keeps the rules and this sentence of its rows is the first that is broken.
+  pub refused : (c : Check) (p : ℕ) → (r ≡ Refused (refusal (refusalNumber c) (linePlace c p)))
+      ↔ ((xs : List ℕ) × SpellsFile f xs × FirstBroken xs c p)

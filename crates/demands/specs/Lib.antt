@@ -1,0 +1,8 @@
+-- What document 01 demands of the answers, each page to be read against its words.
+pub mod Buffers
+pub mod Acceptance
+pub mod Files
+pub mod RoundTrips
+pub mod Replacement
+pub mod Numbers
+pub mod Lists
