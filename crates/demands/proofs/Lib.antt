@@ -1,13 +1,23 @@
 -- That the definitions meet the demands.
 pub mod Buffers
 pub mod Outcomes
-pub mod Rearranging
 -- the unfolding by single steps
+pub mod Rearranging
 pub mod Counts
 pub mod PutIn
 pub mod Standing
 pub mod Nodes
 pub mod Replacement
+pub mod Ring
 -- numbers and paths
 pub mod NumberOrder
 pub mod Numbers
+-- lists and pages
+pub mod Rising
+pub mod Pages
+pub mod Lists
+-- files
+pub mod Files
+pub mod ReadCases
+pub mod Reading
+pub mod RoundTrips

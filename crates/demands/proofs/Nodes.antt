@@ -3,7 +3,7 @@ use Prim.Native.Nat.{ℕ, _≤_}
 use native.Mathlib.Omega.{arith}
 use mathlib.Core.Path.{_≡_, refl, ap₂}
 use mathlib.Core.List.{List, map, List·Memᴰ, List·Permᴰ, Permᴰ·symm}
-use Rattle.model.specs.Blocks.{Block, lastBlock, count}
+use Rattle.model.specs.Blocks.{Block, count}
 use Rattle.model.specs.Lists.{range}
 use Rattle.basics.proofs.Members.{map-mem, mem-map, range-bounds, range-mem}
 use Rattle.shows.specs.WellFormed.{Good}

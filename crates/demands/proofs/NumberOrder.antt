@@ -1,14 +1,14 @@
 -- Numbers rise in the order of cues: own cues first, then those of the uses in order.
 use Prim.Native.Nat.{ℕ, zero, suc, _+_, _-_, _≤_, _<_}
 use native.Mathlib.Omega.{arith}
-use mathlib.Core.Path.{_≡_, refl, sym, _∙_, ap}
+use mathlib.Core.Path.{_≡_, sym, _∙_}
 use mathlib.Core.Logic.{_≢_}
 use mathlib.Core.List.{List, [], _∷_}
 use lib.ListN.{length, take}
 use Rattle.model.specs.Blocks.{Use, Block, sumOver, total, blockAt}
 use Rattle.model.specs.Paths.{numberIn}
 use Rattle.shows.specs.WellFormed.{Good}
-use Rattle.shows.specs.Copies.{Copy, Part, copyOf, part-copy, part-at, meets, nthUse, number, after, Steps, ends, goes}
+use Rattle.shows.specs.Copies.{Copy, Part, copyOf, part-at, meets, nthUse, after, Steps, goes}
 use Rattle.shows.specs.Numbering.{Named}
 use Rattle.shows.proofs.Ranges.{cueAt-own}
 use Rattle.shows.proofs.Trails.{number-after, steps-after}

@@ -1,36 +1,38 @@
--- What locate and number answer: each number of the show has its one path and own cue, and either entry point leads back through the other.
-use Prim.Native.Nat.{ℕ, zero, suc, _+_, _≤_, _<_}
+-- What count, locate and number answer: each number of the show has its one path and own cue, and either entry point leads back through the other.
+use Prim.Native.Nat.{ℕ, _≤_, _<_}
 use native.Mathlib.Omega.{arith}
 use native.Mathlib.Decide.{ℕ-discrete}
-use mathlib.Core.Path.{_≡_, refl, sym, _∙_, ap, ap₂}
-use mathlib.Core.Logic.{_⊎_, inl, inr, _↔_, _≢_}
-use mathlib.Core.Bool.{true}
-use mathlib.Core.List.{List, [], _∷_, map, List·Memᴰ, List·Permᴰ, Permᴰ·symm}
-use lib.ListN.{length, getD, take}
-use Rattle.model.specs.Limits.{maxDepth, maxBlocks}
-use Rattle.model.specs.Blocks.{Block, joinsOf, blocksOf, lastBlock, count}
+use mathlib.Core.Path.{_≡_, _∙_, ap, ap₂}
+use mathlib.Core.Logic.{_⊎_, inl, inr, _≢_}
+use mathlib.Core.List.{List, [], _∷_, List·Memᴰ}
+use lib.ListN.{length, getD, take, length-map}
+use Rattle.model.specs.Limits.{maxDepth}
+use Rattle.model.specs.Blocks.{blocksOf, lastBlock, count}
 use Rattle.model.specs.Verdicts.{refusal, verdict}
 use Rattle.model.specs.Paths.{Place, numberIn, placeIn}
 use Rattle.model.specs.Lists.{range, overwrite}
-use Rattle.model.specs.Answers.{Returned, given, returned, ofLocate, ofNumber}
-use Rattle.model.specs.Questions.{Outcome, outcome, answer, refuse, located, locateIn, locateAsked, numbered, showNumber, numberAsked, onAccepted}
+use Rattle.model.specs.Answers.{Returned, given, returned, ofCount, ofLocate, ofNumber}
+use Rattle.model.specs.Questions.{Outcome, outcome, answer, located, locateIn, countAsked, locateAsked, numbered, numberAsked, onAccepted}
 use Rattle.model.specs.declared.Refusal.{Refusal}
 use Rattle.model.specs.declared.Verdict.the-variants.{Accepted}
+use Rattle.model.specs.declared.CountAnswer.{CountAnswer}
+use Rattle.model.specs.declared.CountAnswer.the-variants.{Cues, Refused as Uncounted}
 use Rattle.model.specs.declared.LocateAnswer.{LocateAnswer}
 use Rattle.model.specs.declared.LocateAnswer.the-variants.{Found, Refused as Unlocated}
 use Rattle.model.specs.declared.NumberAnswer.{NumberAnswer}
 use Rattle.model.specs.declared.NumberAnswer.the-variants.{Number, Refused as Unnumbered}
 use Rattle.basics.proofs.Choices.{eq-then, eq-else}
-use Rattle.basics.proofs.Members.{map-mem, mem-map, range-bounds, range-mem}
-use Rattle.shows.specs.WellFormed.{Good}
+use Rattle.basics.proofs.Members.{range-length}
 use Rattle.shows.specs.Accepted.{Show}
 use Rattle.shows.specs.Numbering.{IsPlace}
 use Rattle.shows.proofs.Accepted.{accepted-show}
 use Rattle.shows.proofs.Numbering.{numbering, never-too-deep}
 use Rattle.demands.specs.Replacement.{Graph, Ended, nodeNumber, Unfolds}
-use Rattle.demands.specs.Numbers.{node, AsksLocate, AsksNumber, Before, IsNumber, IsLocated}
+use Rattle.demands.specs.Asking.{AsksCount, AsksLocate, AsksNumber}
+use Rattle.demands.specs.Numbers.{node, Before, IsCount, IsNumber, IsLocated}
 use Rattle.demands.proofs.Buffers.{leaves}
-use Rattle.demands.proofs.Outcomes.{on-accepted, with-room, with-cue}
+use Rattle.demands.proofs.Outcomes.{on-yes, has-room, has-cue}
+use Rattle.demands.proofs.Rearranging.{perm-length}
 use Rattle.demands.proofs.NumberOrder.{number-order}
 use Rattle.demands.proofs.Nodes.{numbered-cue, cue-numbered}
 use Rattle.demands.proofs.Replacement.{unfolds}
@@ -48,6 +50,11 @@ number-refused (Unnumbered g) f e =
     let h : refusal (g .number) (g .place) ≡ refusal (f .number) (f .place) =
     ap₂ refusal (ap (λ (x : Returned). x .number) e) (ap (λ (x : Returned). x .place) e) in
     ap Unnumbered h
+
+count-given : (r : CountAnswer) (n : ℕ) → ofCount r ≡ given (n ∷ []) → r ≡ Cues n
+unfolding ofCount given returned
+count-given (Cues m) n e = ap Cues (ap (λ (x : Returned). getD (x .values) 0 0) e)
+count-given (Uncounted f) n e = absurd (let z : _≡_ {A = ℕ} 0 1 = ap (λ (x : Returned). length (x .values)) e in omega arith)
 
 -- What number says of the number of a path and an own cue, which is 0 where they have none.
 data Says (n : ℕ) (r : NumberAnswer) : Type 0 where
@@ -96,7 +103,7 @@ module _ (xs : List ℕ) (v : verdict xs ≡ Accepted) where
   unfolding locateAsked locateIn
   locate-says n lent after r low high room e =
       located-given r (placeOf n) lent after
-      (e ∙ on-accepted xs _ _ v ∙ with-room maxDepth lent _ room ∙ with-cue (blocksOf xs) n lent _ low high)
+      (e ∙ on-yes (verdict xs) _ _ v ∙ has-room maxDepth lent _ room ∙ has-cue (blocksOf xs) n lent _ low high)
 
   -- Whatever the steps, the unfolded show has the cues that have a number.
   unfolded : Unfolds (blocksOf xs)
@@ -109,6 +116,15 @@ module _ (xs : List ℕ) (v : verdict xs ≡ Accepted) where
   is-cue : {m : ℕ} {g : Graph} → Ended (blocksOf xs) m g → (path : List ℕ) (c : ℕ) → List·Memᴰ (node path c) (g .cues) → numberOf path c ≢ 0
   unfolding nodeNumber
   is-cue e path c i z = omega (arith, cue-numbered (blocksOf xs) (shown .good) (unfolded .cues e) (node path c) i)
+
+  pub is-count : (r : CountAnswer) → AsksCount xs r → IsCount xs r
+  unfolding countAsked
+  is-count r e =
+      record {
+        cues = count (blocksOf xs);
+        answer = count-given r (count (blocksOf xs)) (e ∙ on-yes (verdict xs) _ _ v);
+        all = λ g. perm-length (unfolded .cues g) ∙ length-map (range 1 (count (blocksOf xs))) _ ∙ range-length 1 (count (blocksOf xs));
+      }
 
   -- A number that number gives is that of the path and the own cue.
   given-is : (path : List ℕ) (c n : ℕ) → AsksNumber xs path c (Number n) → (numberOf path c ≡ n) × (n ≢ 0)

@@ -5,7 +5,7 @@ use native.Mathlib.Nat.{add-zero}
 use mathlib.Core.Path.{_≡_, refl, sym, _∙_, ap, ap₂}
 use mathlib.Core.Logic.{_⊎_, inl, inr}
 use mathlib.Core.List.{List, [], _∷_, _++_, map, flatMap, map-append, append-assoc, List·Permᴰ, List·Permᴰ·nil, List·Permᴰ·cons, List·Permᴰ·swap, List·Permᴰ·trans, List·Memᴰ, List·Memᴰ·head, List·Memᴰ·tail, List·Memᴰ·cases-cons, List·Permᴰ·append-comm, Permᴰ·append-left, Permᴰ·append-right}
-use lib.ListN.{getD}
+use lib.ListN.{length, getD}
 use Rattle.model.specs.Lists.{range}
 use Rattle.basics.proofs.Keeping.{range-append}
 
@@ -26,6 +26,13 @@ perm-mem (List·Permᴰ·swap e f) i =
     first-or (λ p. List·Memᴰ·tail (List·Memᴰ·head (p ∙ e)))
     (first-or (λ p. List·Memᴰ·head (p ∙ f)) (λ j. List·Memᴰ·tail (List·Memᴰ·tail j))) i
 perm-mem (List·Permᴰ·trans d e) i = perm-mem e (perm-mem d i)
+
+-- And as many.
+pub perm-length : {A : Type 0} {xs ys : List A} → List·Permᴰ xs ys → length xs ≡ length ys
+perm-length List·Permᴰ·nil = refl
+perm-length (List·Permᴰ·cons e d) = ap suc (perm-length d)
+perm-length (List·Permᴰ·swap e f) = refl
+perm-length (List·Permᴰ·trans d e) = perm-length d ∙ perm-length e
 
 -- Four lists in two orders.
 shuffle : {B : Type 0} (own before after new : List B)

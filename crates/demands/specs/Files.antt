@@ -1,5 +1,5 @@
--- The text of a show file, and what read answers and leaves. Document 01, "The show file" and "Questions".
-use Prim.Native.Nat.{ℕ, suc, _+_, _≤_}
+-- The text of a show file, and what read and write answer and leave. Document 01, "The show file" and "Questions".
+use Prim.Native.Nat.{ℕ, suc, _+_, _≤_, _<_}
 use mathlib.Core.Path.{_≡_}
 use mathlib.Core.Logic.{_↔_}
 use mathlib.Core.List.{List, [], _∷_, _++_, map}
@@ -9,6 +9,9 @@ use Rattle.model.specs.Text.{digitZero, names, ends, decimal}
 use Rattle.model.specs.Rows.{rowCount}
 use Rattle.model.specs.Blocks.{blocksOf, count}
 use Rattle.model.specs.Verdicts.{refusal}
+use Rattle.model.specs.declared.Refusal.{Refusal}
+use Rattle.model.specs.declared.WriteAnswer.{WriteAnswer}
+use Rattle.model.specs.declared.WriteAnswer.the-variants.{Written}
 use Rattle.model.specs.declared.ReadAnswer.{ReadAnswer}
 use Rattle.model.specs.declared.ReadAnswer.the-variants.{Read, Refused}
 use Rattle.basics.specs.Members.{Each}
@@ -43,6 +46,18 @@ pub record SpellsFile (f xs : List ℕ) : Type 0 where
   pub values : SpellsLines lines xs
   pub short : length f ≤ maxBytes
 
+-- "first line that isn't eleven well-formed values and a line feed": behind the line of names and some lines of values there is more text,
+-- which begins with no such line. Lines are counted from 1, the line of names.
+pub record BreaksAt (f : List ℕ) (line : ℕ) : Type 0 where
+  pub before : List ℕ
+  pub numbers : List ℕ
+  pub values : SpellsLines before numbers
+  pub broken : List ℕ
+  pub text : f ≡ names ++ (before ++ broken)
+  pub some : 1 ≤ length broken
+  pub no-line-begins : (l vs t : List ℕ) → SpellsLine ends l vs → broken ≡ l ++ t → ⊥
+  pub place : line ≡ rowCount numbers + 2
+
 -- "Reading gives the line as place for 5 to 10", and "Row r is line r + 1."
 unfoldable pub linePlace : Check → ℕ → ℕ
 linePlace Length p = p
@@ -61,6 +76,19 @@ pub record IsRead (f out : List ℕ) (r : ReadAnswer) (after : List ℕ) : Type 
   -- "Read a file to rows, giving rows, blocks and cues": those of the numbers that the file says, which it leaves in the output.
   pub given : (rows blocks cues : ℕ) → r ≡ Read rows blocks cues → (xs : List ℕ) → SpellsFile f xs
       → (rows ≡ rowCount xs) × (blocks ≡ length (blocksOf xs)) × (cues ≡ count (blocksOf xs)) × Leaves xs out after
-  -- Each of 4 to 10 with its line exactly if the text keeps the rules and this sentence of its rows is the first that is broken.
+  -- Each refusal with its place exactly if it is the first: 1, 2 and 3 of the text,
+  pub too-long : (r ≡ Refused (refusal 1 0)) ↔ (maxBytes < length f)
+  pub no-names : (r ≡ Refused (refusal 2 1)) ↔ ((length f ≤ maxBytes) × ((lines : List ℕ) → f ≡ names ++ lines → ⊥))
+  pub malformed : (line : ℕ) → (r ≡ Refused (refusal 3 line)) ↔ ((length f ≤ maxBytes) × BreaksAt f line)
+  -- each of 4 to 10 if the text keeps the rules and this sentence of its rows is the first that is broken,
   pub refused : (c : Check) (p : ℕ) → (r ≡ Refused (refusal (refusalNumber c) (linePlace c p)))
       ↔ ((xs : List ℕ) × SpellsFile f xs × FirstBroken xs c p)
+  -- and 11. There is no other, and "A refusal leaves all lent memory unchanged."
+  pub no-room : (r ≡ Refused (refusal 11 0)) ↔ ((xs : List ℕ) × SpellsFile f xs × Lawful xs × (length out < length xs))
+  pub unchanged : (q : Refusal) → r ≡ Refused q → after ≡ out
+
+-- What write answers and leaves, for rows and a lent output: it answers exactly if the rows keep the rules and a file that says them fits, and
+-- leaves such a file, "giving its length".
+pub record IsWritten (xs out : List ℕ) (w : WriteAnswer) (after : List ℕ) : Type 0 where
+  pub answers : ((bytes : ℕ) × (w ≡ Written bytes)) ↔ (Lawful xs × ((f : List ℕ) × SpellsFile f xs × (length f ≤ length out)))
+  pub given : (bytes : ℕ) → w ≡ Written bytes → (f : List ℕ) × SpellsFile f xs × (bytes ≡ length f) × Leaves f out after

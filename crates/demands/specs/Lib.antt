@@ -1,4 +1,5 @@
 -- What document 01 demands of the answers, each page to be read against its words.
+pub mod Asking
 pub mod Buffers
 pub mod Acceptance
 pub mod Files

@@ -9,8 +9,6 @@ use mathlib.Core.List.{List, _++_, List·Memᴰ}
 use lib.ListN.{length, getD, take}
 use Rattle.model.specs.Blocks.{blocksOf}
 use Rattle.model.specs.Unfolding.{showLinks}
-use Rattle.model.specs.Answers.{ofList}
-use Rattle.model.specs.Questions.{outcome, outAsked, inAsked}
 use Rattle.model.specs.declared.ListAnswer.{ListAnswer}
 use Rattle.model.specs.declared.ListAnswer.the-variants.{Page}
 use Rattle.shows.specs.Lists.{Leads, Rising}
@@ -43,14 +41,6 @@ pub record IsList (Linked : ℕ → Type 0) (n : ℕ) (page : List ℕ) (r : Lis
   -- "as many as fit": where a further one exists, the page is full
   pub fit : length cues ≤ length page
   pub full : more ≡ true → length cues ≡ length page
-
--- One question of list_out, or of list_in, by what the entry point promises: about the cues after n, with this page, this is answered and
--- left.
-abbrev pub AsksOut : List ℕ → ℕ → ℕ → List ℕ → ListAnswer → List ℕ → Type 0
-AsksOut xs v n page r after = outcome (ofList r) after ≡ outAsked xs v n page
-
-abbrev pub AsksIn : List ℕ → ℕ → ℕ → List ℕ → ListAnswer → List ℕ → Type 0
-AsksIn xs v n page r after = outcome (ofList r) after ≡ inAsked xs v n page
 
 -- Pages asked for one after another, so many of them, each of any length from 1: the first after n, each next one after the last number
 -- that was written before it. They have written some cues in all, and the last of them said more.

@@ -1,4 +1,4 @@
--- Numbers and paths: what locate and number answer, and locate leaves in the lent list. Document 01, "Unfolding": "a copy numbers its own
+-- Numbers and paths: what count, locate and number answer, and locate leaves in the lent list. Document 01, "Unfolding": "a copy numbers its own
 -- cues first, then the cues of its uses in order. The show's copy begins at 1. A join has no number of its own; it has that of the cue it
 -- meets. The path of a cue is the list of use positions (1 for the block's first use) from the show down to the copy that owns it".
 use Prim.Native.Nat.{ℕ, _≤_, _<_}
@@ -9,25 +9,19 @@ use lib.ListN.{length, take}
 use Rattle.model.specs.Limits.{maxDepth}
 use Rattle.model.specs.Blocks.{ownOf, blocksOf, lastBlock, count}
 use Rattle.model.specs.Verdicts.{refusal}
-use Rattle.model.specs.Answers.{ofLocate, ofNumber}
-use Rattle.model.specs.Questions.{outcome, locateAsked, numberAsked}
+use Rattle.model.specs.declared.CountAnswer.{CountAnswer}
+use Rattle.model.specs.declared.CountAnswer.the-variants.{Cues}
 use Rattle.model.specs.declared.LocateAnswer.{LocateAnswer}
 use Rattle.model.specs.declared.LocateAnswer.the-variants.{Found}
 use Rattle.model.specs.declared.NumberAnswer.{NumberAnswer}
 use Rattle.model.specs.declared.NumberAnswer.the-variants.{Number, Refused}
 use Rattle.shows.specs.Numbering.{blockAfter}
+use Rattle.demands.specs.Asking.{AsksLocate, AsksNumber}
 use Rattle.demands.specs.Buffers.{Leaves}
 use Rattle.demands.specs.Replacement.{Node, Graph, Ended}
 
 abbrev pub node : List ℕ → ℕ → Node
 node path c = record { path = path; own = c }
-
--- One question of locate about cue n, with this list lent, and one of number, by what the entry points promise.
-abbrev pub AsksLocate : List ℕ → ℕ → List ℕ → LocateAnswer → List ℕ → Type 0
-AsksLocate xs n lent r after = outcome (ofLocate r) after ≡ locateAsked xs n lent
-
-abbrev pub AsksNumber : List ℕ → List ℕ → ℕ → NumberAnswer → Type 0
-AsksNumber xs path c r = ofNumber r ≡ numberAsked xs path c
 
 -- "a copy numbers its own cues first, then the cues of its uses in order": of two cues of a copy, by their paths from the copy and their own
 -- cues, the first comes before the second.
@@ -36,6 +30,12 @@ pub data Before : List ℕ → ℕ → List ℕ → ℕ → Type 0 where
   own-first : {c d p : ℕ} {path : List ℕ} → Before [] c (p ∷ path) d
   use-order : {c d p q : ℕ} {path way : List ℕ} → p < q → Before (p ∷ path) c (q ∷ way) d
   same-use : {c d p q : ℕ} {path way : List ℕ} → p ≡ q → Before path c way d → Before (p ∷ path) c (q ∷ way) d
+
+-- What count answers: so many cues the unfolded show has, by whatever steps.
+pub record IsCount (xs : List ℕ) (r : CountAnswer) : Type 0 where
+  pub cues : ℕ
+  pub answer : r ≡ Cues cues
+  pub all : {m : ℕ} {g : Graph} → Ended (blocksOf xs) m g → length (g .cues) ≡ cues
 
 -- What number answers about a path and an own cue.
 pub record IsNumber (xs path : List ℕ) (c : ℕ) (r : NumberAnswer) : Type 0 where

@@ -1,7 +1,7 @@
 -- The unfolding by single steps, in any order. Document 01, "Unfolding": "a use is removed, a fresh copy of the block is put in, and the
 -- copy's j-th join becomes the j-th cue named by the use. This goes on until only links remain." In the field's terms: derivations of a
 -- hyperedge replacement grammar. What a step does is said anew here: no number, and nothing of the definitions of the unfolding.
-use Prim.Native.Nat.{ℕ, zero, suc, _-_, _≤_, _<_}
+use Prim.Native.Nat.{ℕ, suc, _-_, _≤_, _<_}
 use mathlib.Core.Path.{_≡_}
 use mathlib.Core.Bool.{true, false}
 use mathlib.Core.Logic.{_↔_}

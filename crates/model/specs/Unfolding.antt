@@ -1,6 +1,6 @@
 -- The unfolding. Document 01, "Unfolding": "a use is removed, a fresh copy of the block is put in, and the copy's j-th join becomes
 -- the j-th cue named by the use." In the field's terms: the derived graph of the grammar, with each node known by its number.
--- That single replacement steps lead to just these links is a theorem (crates/shows).
+-- That single replacement steps, in any order, lead to just these links is a theorem (crates/demands).
 use Prim.Native.Nat.{ℕ, _+_, _-_}
 use mathlib.Core.Bool.{true, false}
 use mathlib.Core.List.{List, [], _∷_, _++_, map}

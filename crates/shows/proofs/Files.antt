@@ -18,7 +18,7 @@ use Rattle.shows.proofs.Lines.{line-read, line-written, lines-first, li
 use Rattle.shows.proofs.FlatRows.{rowed, rowed-length, first-values, rows-first}
 
 -- The text of rows begins with the line of the first.
-rowLines-first : (vs xs : List ℕ) → length vs ≡ rowSize
+pub rowLines-first : (vs xs : List ℕ) → length vs ≡ rowSize
     → rowLines (rowsOf (vs ++ xs)) ≡ lineText ends vs ++ rowLines (rowsOf xs)
 unfolding rowLines
 rowLines-first vs xs e = rw (rows-first vs xs e, first-values vs xs e)

@@ -5,8 +5,7 @@ pub mod Passed
 pub mod Tracks
 pub mod Accepted
 pub mod LastRow
--- the unfolding, numbers, lists
-pub mod Replacement
+-- numbers, lists
 pub mod Numbering
 pub mod Lists
 -- copies of blocks, by number and by path

@@ -2,7 +2,6 @@
 pub mod WellFormed
 pub mod Accepted
 pub mod Copies
-pub mod Replacement
 pub mod Numbering
 pub mod Lists
 pub mod Files

@@ -1,0 +1,151 @@
+-- The ring show by single steps, the second of two uses before the first: a run, and what the demands on unfolding and numbers say of it, by computation. Nothing
+-- here rests on a law, so a definition that does not meet these demands is refused here by itself.
+use Prim.Native.Nat.{ℕ, suc, _<_}
+use native.Mathlib.Omega.{arith}
+use mathlib.Core.Path.{_≡_, refl}
+use mathlib.Core.Bool.{Bool, true, false}
+use mathlib.Core.List.{List, [], _∷_, _++_, map}
+use lib.Dec.{eqb}
+use Rattle.model.specs.Choice.{ifLt, ifEq, ifTrue}
+use Rattle.model.specs.Rows.{cell, rowAt, rowsFrom, rowCount, rowsOf}
+use Rattle.model.specs.Blocks.{Link, Use, Block, noBlock, blockAt, joinsOf, addLink, addUse, addRow, addRows, blocksOf, sumOver, total, lastBlock, count}
+use Rattle.model.specs.Unfolding.{cueAt, renamed, usesLinks, links, showLinks}
+use Rattle.model.specs.Paths.{ownNumber, usesNumber, copyNumber, numberIn}
+use Rattle.model.specs.Lists.{range}
+use Rattle.model.specs.Ring.{ring}
+use Rattle.demands.specs.Replacement.{Node, Edge, Standing, Graph, ownNodes, nodesOf, nth, edge, standing, Step, stay, then, begin, Ended, nodeNumber, numbered}
+use Rattle.demands.specs.Numbers.{node, Before, own-order, own-first, use-order, same-use}
+
+-- How often a thing stands in a list, and that two lists have each thing as often.
+module _ {A : Type 0} (same : A → A → Bool) where
+  times : A → List A → ℕ
+  times x [] = 0
+  times x (y ∷ ys) = ifTrue (same x y) (suc (times x ys)) (times x ys)
+
+  as-often : List A → List A → List A → Bool
+  as-often [] xs ys = true
+  as-often (z ∷ zs) xs ys = ifEq (times z xs) (times z ys) (as-often zs xs ys) false
+
+  alike : List A → List A → Bool
+  alike xs ys = as-often (xs ++ ys) xs ys
+
+same-link : Link → Link → Bool
+same-link l m = ifEq (l .from) (m .from) (ifEq (l .to) (m .to) (ifEq (l .label) (m .label) true false) false) false
+
+rises : List ℕ → Bool
+rises [] = true
+rises (x ∷ []) = true
+rises (x ∷ y ∷ ys) = ifLt x y (rises (y ∷ ys)) false
+
+-- Its blocks, the last first.
+abbrev link-of : ℕ → ℕ → ℕ → Link
+link-of from to label = record { from = from; to = to; label = label }
+
+abbrev use-of : ℕ → List ℕ → Use
+use-of block at = record { block = block; at = at }
+
+abbrev bs : List Block
+bs =
+    record { joins = 0; own = 2; links = link-of 2 1 2 ∷ []; uses = use-of 1 (1 ∷ 2 ∷ []) ∷ [] }
+    ∷ record { joins = 2; own = 1; links = []; uses = use-of 0 (1 ∷ 3 ∷ []) ∷ use-of 0 (2 ∷ 1 ∷ []) ∷ [] }
+    ∷ record { joins = 2; own = 1; links = link-of 1 3 1 ∷ link-of 2 1 1 ∷ []; uses = [] } ∷ []
+
+ring-blocks : blocksOf ring ≡ bs
+unfolding ifLt ifEq cell rowAt rowsFrom rowCount rowsOf noBlock blockAt joinsOf addLink addUse addRow addRows blocksOf
+ring-blocks = refl
+
+-- The five cues: of the show, of its copy of block 1, and of the two copies of block 0 in that.
+abbrev a : Node
+a = node [] 1
+
+abbrev b : Node
+b = node [] 2
+
+abbrev c : Node
+c = node (1 ∷ []) 1
+
+abbrev d : Node
+d = node (1 ∷ 1 ∷ []) 1
+
+abbrev e : Node
+e = node (1 ∷ 2 ∷ []) 1
+
+abbrev from-to : Node → Node → ℕ → Edge
+from-to u v label = record { from = u; to = v; label = label }
+
+abbrev use-at : List ℕ → ℕ → List Node → Standing
+use-at path block met = record { path = path; block = block; met = met }
+
+-- The graph after one, two, three and four steps.
+abbrev after-1 : Graph
+after-1 = record { cues = a ∷ b ∷ []; links = from-to b a 2 ∷ []; uses = use-at (1 ∷ []) 1 (a ∷ b ∷ []) ∷ [] }
+
+abbrev after-2 : Graph
+after-2 =
+    record {
+      cues = a ∷ b ∷ c ∷ [];
+      links = from-to b a 2 ∷ [];
+      uses = use-at (1 ∷ 1 ∷ []) 0 (c ∷ b ∷ []) ∷ use-at (1 ∷ 2 ∷ []) 0 (a ∷ c ∷ []) ∷ [];
+    }
+
+abbrev after-3 : Graph
+after-3 =
+    record {
+      cues = a ∷ b ∷ c ∷ e ∷ [];
+      links = from-to b a 2 ∷ from-to e c 1 ∷ from-to a e 1 ∷ [];
+      uses = use-at (1 ∷ 1 ∷ []) 0 (c ∷ b ∷ []) ∷ [];
+    }
+
+abbrev after-4 : Graph
+after-4 =
+    record {
+      cues = a ∷ b ∷ c ∷ e ∷ d ∷ [];
+      links = from-to b a 2 ∷ from-to e c 1 ∷ from-to a e 1 ∷ from-to d b 1 ∷ from-to c d 1 ∷ [];
+      uses = [];
+    }
+
+-- The steps: the third one replaces the second of two uses.
+step-1 : Step bs (begin bs) after-1
+unfolding begin ownNodes nodesOf nth edge standing range blockAt lastBlock
+step-1 = record { before = []; chosen = use-at [] 2 []; after = []; stood = refl; cues = refl; links = refl; uses = refl }
+
+step-2 : Step bs after-1 after-2
+unfolding ownNodes nodesOf nth edge standing range blockAt
+step-2 = record { before = []; chosen = use-at (1 ∷ []) 1 (a ∷ b ∷ []); after = []; stood = refl; cues = refl; links = refl; uses = refl }
+
+step-3 : Step bs after-2 after-3
+unfolding ownNodes nodesOf nth edge standing range blockAt
+step-3 =
+    record {
+      before = use-at (1 ∷ 1 ∷ []) 0 (c ∷ b ∷ []) ∷ [];
+      chosen = use-at (1 ∷ 2 ∷ []) 0 (a ∷ c ∷ []);
+      after = [];
+      stood = refl;
+      cues = refl;
+      links = refl;
+      uses = refl;
+    }
+
+step-4 : Step bs after-3 after-4
+unfolding ownNodes nodesOf nth edge standing range blockAt
+step-4 = record { before = []; chosen = use-at (1 ∷ 1 ∷ []) 0 (c ∷ b ∷ []); after = []; stood = refl; cues = refl; links = refl; uses = refl }
+
+ring-ended : Ended bs 4 after-4
+ring-ended = record { run = then (then (then (then stay step-1) step-2) step-3) step-4; over = refl }
+
+-- "its links, each cue replaced by its number", are those of the unfolded show; its cues have the numbers 1 to the count.
+ring-links : alike same-link (map (numbered bs) (after-4 .links)) (showLinks bs) ≡ true
+unfolding alike as-often times same-link numbered nodeNumber ifLt ifEq ifTrue sumOver total lastBlock cueAt renamed usesLinks links showLinks ownNumber usesNumber copyNumber numberIn
+ring-links = refl
+
+ring-cues : alike eqb (map (nodeNumber bs) (after-4 .cues)) (range 1 (count bs)) ≡ true
+unfolding alike as-often times nodeNumber range ifLt ifEq ifTrue sumOver total lastBlock count ownNumber usesNumber copyNumber numberIn
+ring-cues = refl
+
+-- "own cues first, then the cues of its uses in order": the five cues in this order, and their numbers rise.
+in-order : Before [] 1 [] 2 × Before [] 2 (1 ∷ []) 1 × Before (1 ∷ []) 1 (1 ∷ 1 ∷ []) 1 × Before (1 ∷ 1 ∷ []) 1 (1 ∷ 2 ∷ []) 1
+in-order = let h : 1 < 2 = omega arith in (own-order h, own-first, same-use refl own-first, same-use refl (use-order h))
+
+ring-order : rises (map (nodeNumber bs) (a ∷ b ∷ c ∷ d ∷ e ∷ [])) ≡ true
+unfolding rises nodeNumber ifLt ifEq sumOver total lastBlock ownNumber usesNumber copyNumber numberIn
+ring-order = refl

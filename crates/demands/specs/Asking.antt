@@ -1,0 +1,38 @@
+-- One question of an entry point and its answer, by what the entry point ensures: from what was lent and asked, the answer r and what the lent
+-- list holds afterwards. These are the promises of crates/show/src, word for word.
+use Prim.Native.Nat.{ℕ}
+use mathlib.Core.Path.{_≡_}
+use mathlib.Core.List.{List}
+use Rattle.model.specs.Answers.{ofRead, ofWrite, ofCount, ofLocate, ofNumber, ofList}
+use Rattle.model.specs.Questions.{outcome, readAsked, writeAsked, countAsked, locateAsked, numberAsked, outAsked, inAsked}
+use Rattle.model.specs.declared.ReadAnswer.{ReadAnswer}
+use Rattle.model.specs.declared.WriteAnswer.{WriteAnswer}
+use Rattle.model.specs.declared.CountAnswer.{CountAnswer}
+use Rattle.model.specs.declared.LocateAnswer.{LocateAnswer}
+use Rattle.model.specs.declared.NumberAnswer.{NumberAnswer}
+use Rattle.model.specs.declared.ListAnswer.{ListAnswer}
+
+-- read: a file, and the lent output before and afterwards; write: rows, and the same.
+abbrev pub AsksRead : List ℕ → List ℕ → ReadAnswer → List ℕ → Type 0
+AsksRead file out r after = outcome (ofRead r) after ≡ readAsked file out
+
+abbrev pub AsksWrite : List ℕ → List ℕ → WriteAnswer → List ℕ → Type 0
+AsksWrite xs out r after = outcome (ofWrite r) after ≡ writeAsked xs out
+
+-- count: rows.
+abbrev pub AsksCount : List ℕ → CountAnswer → Type 0
+AsksCount xs r = ofCount r ≡ countAsked xs
+
+-- locate: rows, a number, and the lent list before and afterwards; number: rows, a path and an own cue.
+abbrev pub AsksLocate : List ℕ → ℕ → List ℕ → LocateAnswer → List ℕ → Type 0
+AsksLocate xs n lent r after = outcome (ofLocate r) after ≡ locateAsked xs n lent
+
+abbrev pub AsksNumber : List ℕ → List ℕ → ℕ → NumberAnswer → Type 0
+AsksNumber xs path c r = ofNumber r ≡ numberAsked xs path c
+
+-- list_out and list_in: rows, a cue, the number after which, and the page before and afterwards.
+abbrev pub AsksOut : List ℕ → ℕ → ℕ → List ℕ → ListAnswer → List ℕ → Type 0
+AsksOut xs v n page r after = outcome (ofList r) after ≡ outAsked xs v n page
+
+abbrev pub AsksIn : List ℕ → ℕ → ℕ → List ℕ → ListAnswer → List ℕ → Type 0
+AsksIn xs v n page r after = outcome (ofList r) after ≡ inAsked xs v n page
