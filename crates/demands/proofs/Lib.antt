@@ -1,6 +1,23 @@
 -- That the definitions meet the demands.
 pub mod Buffers
 pub mod Outcomes
+-- which rows are a show, and which refusal is given
+pub mod Tests
+pub mod Columns
+pub mod Openings
+pub mod Knows
+pub mod Following
+pub mod Sentences
+pub mod Stages
+pub mod RowByRow
+pub mod BlockByBlock
+pub mod Together
+pub mod Acceptance
+-- files
+pub mod Files
+pub mod ReadCases
+pub mod Reading
+pub mod RoundTrips
 -- the unfolding by single steps
 pub mod Rearranging
 pub mod Counts
@@ -16,8 +33,3 @@ pub mod Numbers
 pub mod Rising
 pub mod Pages
 pub mod Lists
--- files
-pub mod Files
-pub mod ReadCases
-pub mod Reading
-pub mod RoundTrips

@@ -1,13 +1,80 @@
--- Demand 3, of the answer that the entry point gives: in document 01's words.
-use Prim.Native.Nat.{ℕ, _≤_}
+-- Demands 2 and 3, of the answers that the entry points give, in document 01's words. What an entry point is asked and answers is known by
+-- its promise (crates/demands/specs/Asking); the words are those of crates/demands/specs, a page for each part.
+use Prim.Native.Nat.{ℕ, _*_, _≤_}
 use mathlib.Core.Path.{_≡_}
+use mathlib.Core.Bool.{Bool}
 use mathlib.Core.List.{List}
-use Rattle.model.specs.Blocks.{Link, blocksOf}
+use lib.ListN.{length, take}
+use Rattle.model.specs.Limits.{rowSize, maxDepth}
+use Rattle.model.specs.Blocks.{Link, blocksOf, count}
 use Rattle.model.specs.Unfolding.{showLinks}
 use Rattle.model.specs.Chains.{Chain, followed}
+use Rattle.model.specs.Answers.{ofWrite, ofCount, ofLocate, ofNumber, ofList, ofFewest}
+use Rattle.model.specs.declared.ReadAnswer.{ReadAnswer}
+use Rattle.model.specs.declared.ReadAnswer.the-variants.{Read}
+use Rattle.model.specs.declared.WriteAnswer.{WriteAnswer}
+use Rattle.model.specs.declared.WriteAnswer.the-variants.{Written}
+use Rattle.model.specs.declared.CountAnswer.{CountAnswer}
+use Rattle.model.specs.declared.LocateAnswer.{LocateAnswer}
+use Rattle.model.specs.declared.NumberAnswer.{NumberAnswer}
+use Rattle.model.specs.declared.ListAnswer.{ListAnswer}
 use Rattle.model.specs.declared.FewestAnswer.{FewestAnswer}
 use Rattle.model.specs.declared.FewestAnswer.the-variants.{Steps, None}
 use Rattle.distances.specs.Demand.{NoChain}
+use Rattle.demands.specs.Asking.{AsksRead, AsksWrite, AsksCount, AsksLocate, AsksNumber, AsksOut, AsksIn, AsksFewest}
+use Rattle.demands.specs.Acceptance.{Lawful, ChecksRows}
+use Rattle.demands.specs.Files.{IsRead, IsWritten}
+use Rattle.demands.specs.RoundTrips.{WritesBack, ReadsBack}
+use Rattle.demands.specs.Replacement.{Unfolds}
+use Rattle.demands.specs.Numbers.{IsCount, IsLocated, IsNumber}
+use Rattle.demands.specs.Lists.{LinkedOut, LinkedIn, IsList, Pages, ArePages}
+
+-- Demand 2.
+
+-- Acceptance is exact: reading answers, and each question about rows is answered and not refused with 4 to 10, exactly if every sentence of
+-- the rules is kept; and the refusal is that of the first sentence that is broken, with its place.
+pub record AcceptanceExact : Type 0 where
+  pub read : (file out after : List ℕ) (r : ReadAnswer) → AsksRead file out r after → IsRead file out r after
+  pub write : (xs out after : List ℕ) (r : WriteAnswer) → AsksWrite xs out r after → IsWritten xs out r after
+  pub checks-write : (xs out after : List ℕ) (r : WriteAnswer) → AsksWrite xs out r after → ChecksRows xs (ofWrite r)
+  pub checks-count : (xs : List ℕ) (r : CountAnswer) → AsksCount xs r → ChecksRows xs (ofCount r)
+  pub checks-locate : (xs : List ℕ) (n : ℕ) (lent after : List ℕ) (r : LocateAnswer) → AsksLocate xs n lent r after → ChecksRows xs (ofLocate r)
+  pub checks-number : (xs path : List ℕ) (c : ℕ) (r : NumberAnswer) → AsksNumber xs path c r → ChecksRows xs (ofNumber r)
+  pub checks-out : (xs : List ℕ) (v n : ℕ) (page after : List ℕ) (r : ListAnswer) → AsksOut xs v n page r after → ChecksRows xs (ofList r)
+  pub checks-in : (xs : List ℕ) (v n : ℕ) (page after : List ℕ) (r : ListAnswer) → AsksIn xs v n page r after → ChecksRows xs (ofList r)
+  pub checks-fewest : (xs : List ℕ) (s t : ℕ) (work after : List ℕ) (r : FewestAnswer) → AsksFewest xs s t work r after → ChecksRows xs (ofFewest r)
+
+-- Round trips are exact, of what the buffers hold: read, then write what was left; write, then read what was left.
+pub record RoundTripsExact : Type 0 where
+  pub write-back : (file out after : List ℕ) (rows blocks cues : ℕ) → AsksRead file out (Read rows blocks cues) after
+      → (r : WriteAnswer) (out′ after′ : List ℕ) → AsksWrite (take (rows * rowSize) after) out′ r after′ → length file ≤ length out′
+      → WritesBack file r out′ after′
+  pub read-back : (xs out after : List ℕ) (bytes : ℕ) → AsksWrite xs out (Written bytes) after
+      → (r : ReadAnswer) (out′ after′ : List ℕ) → AsksRead (take bytes after) out′ r after′ → length xs ≤ length out′
+      → ReadsBack xs r out′ after′
+
+-- Of rows that keep the rules: numbers, paths and lists are right against the unfolding, which single steps in any order lead to.
+pub record RightAgainstUnfolding (xs : List ℕ) : Type 0 where
+  pub unfolding-steps : Unfolds (blocksOf xs)
+  pub counts : (r : CountAnswer) → AsksCount xs r → IsCount xs r
+  pub locates : (n : ℕ) (lent after : List ℕ) (r : LocateAnswer) → 1 ≤ n → n ≤ count (blocksOf xs) → maxDepth ≤ length lent
+      → AsksLocate xs n lent r after → IsLocated xs n lent r after
+  pub numbers : (path : List ℕ) (c : ℕ) (r : NumberAnswer) → AsksNumber xs path c r → IsNumber xs path c r
+  pub lists-out : (v n : ℕ) (page after : List ℕ) (r : ListAnswer) → 1 ≤ v → v ≤ count (blocksOf xs) → AsksOut xs v n page r after
+      → IsList (LinkedOut xs v) n page r after
+  pub lists-in : (v n : ℕ) (page after : List ℕ) (r : ListAnswer) → 1 ≤ v → v ≤ count (blocksOf xs) → AsksIn xs v n page r after
+      → IsList (LinkedIn xs v) n page r after
+  pub pages-out : (v n many : ℕ) (cues : List ℕ) (more : Bool) → 1 ≤ v → v ≤ count (blocksOf xs) → Pages (AsksOut xs v) n many cues more
+      → ArePages (LinkedOut xs v) n many cues more
+  pub pages-in : (v n many : ℕ) (cues : List ℕ) (more : Bool) → 1 ≤ v → v ≤ count (blocksOf xs) → Pages (AsksIn xs v) n many cues more
+      → ArePages (LinkedIn xs v) n many cues more
+
+pub record Demand2 : Type 0 where
+  pub acceptance : AcceptanceExact
+  pub round-trips : RoundTripsExact
+  pub right : (xs : List ℕ) → Lawful xs → RightAgainstUnfolding xs
+
+-- Demand 3.
 
 -- The links of the unfolded show.
 abbrev pub unfolded : List ℕ → List Link

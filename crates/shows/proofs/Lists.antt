@@ -1,21 +1,16 @@
--- The lists of linked cues hold just the linked cues, each once and rising; a page holds as many of them as fit; and pages asked for one
--- after another give the whole list.
-use Prim.Native.Nat.{ℕ, zero, suc, _+_, _-_, _≤_, _<_, min}
+-- The lists of linked cues hold just the linked cues, each once and rising. What is written on a page, and on pages asked for one after
+-- another, stands in crates/demands.
+use Prim.Native.Nat.{ℕ, zero, suc, _+_, _-_, _≤_, _<_}
 use native.Mathlib.Omega.{arith}
-use native.Mathlib.Decide.{ℕ-discrete, decLe}
-use native.Mathlib.Nat.{min-eq-left}
-use mathlib.Core.Path.{_≡_, refl, sym, _∙_, ap}
+use native.Mathlib.Decide.{ℕ-discrete}
+use mathlib.Core.Path.{_≡_, refl, sym, _∙_}
 use mathlib.Core.Logic.{_↔_, _⊎_, inl, inr}
 use mathlib.Core.Bool.{Bool, true, false}
-use mathlib.Core.List.{List, [], _∷_, _++_, append-nil, List·Memᴰ, List·Memᴰ·head, List·Memᴰ·tail, List·Memᴰ·cases-cons, List·Memᴰ·not-nil}
-use lib.ListN.{length, getD, take, drop, length-take, length-drop, length-append, take-append-drop}
-use lib.Seq.{take-all, take-at, drop-at, getD-take}
-use lib.Dec.{ltb}
-use borrow.Author.Tests.{lt-ltb, ltb-true, ltb-false}
+use mathlib.Core.List.{List, [], _∷_, List·Memᴰ, List·Memᴰ·head, List·Memᴰ·tail, List·Memᴰ·cases-cons, List·Memᴰ·not-nil}
+use lib.ListN.{length, getD}
 use Rattle.model.specs.Blocks.{Link}
-use Rattle.model.specs.Lists.{isLinked, range, keep, cuesAfter, isOut, isInto, overwrite}
-use Rattle.model.specs.Questions.{Outcome, answer, listed}
-use Rattle.shows.specs.Lists.{Leads, Rising, none, more, IsPage, GoesOn, pages}
+use Rattle.model.specs.Lists.{isLinked, range, keep, cuesAfter, isOut, isInto}
+use Rattle.shows.specs.Lists.{Leads, Rising, none, more}
 use Rattle.basics.proofs.Members.{getD-mem, range-bounds, range-mem}
 use Rattle.basics.proofs.Choices.{eq-then, eq-else}
 use Rattle.basics.proofs.Keeping.{keep-yes, keep-no, kept}
@@ -88,37 +83,6 @@ module _ (test : ℕ → Bool) (cues : ℕ) where
   unfolding cuesAfter
   after-rising n = keep-rising test (range-rising (suc n) (cues - n))
 
-  -- After each entry of a list, the numbers that pass are those that follow it in the list.
-  abbrev Follows : List ℕ → Type 0
-  Follows xs = (i : ℕ) → i < length xs → cuesAfter test cues (getD xs i 0) ≡ drop (suc i) xs
-
-  -- So it is with an entry put in front, and with no entry.
-  follows-cons : (x : ℕ) (xs : List ℕ) → cuesAfter test cues x ≡ xs → Follows xs → Follows (x ∷ xs)
-  follows-cons x xs e below zero h = e
-  follows-cons x xs e below (suc i) h = below i (omega arith)
-
-  follows-nil : Follows (keep test [])
-  unfolding keep
-  follows-nil i h = absurd (omega arith)
-
-  -- What is kept of the numbers from a on to the count.
-  follows : (a many : ℕ) → many ≡ suc cues - a → Follows (keep test (range a many))
-  unfolding range cuesAfter
-  follows a zero e = follows-nil
-  follows a (suc many) e = go (follows (suc a) many (omega arith)) (test a) refl
-    where
-      left : cues - a ≡ many
-      left = omega arith
-
-      go : Follows (keep test (range (suc a) many)) → (b : Bool) → test a ≡ b → Follows (keep test (a ∷ range (suc a) many))
-      go below true t = rw (keep-yes test a (range (suc a) many) t) (follows-cons a (keep test (range (suc a) many)) (rw left) below)
-      go below false t = rw (keep-no test a (range (suc a) many) t) below
-
-  -- So pages can go on where the last one ended.
-  pub after-goes-on : GoesOn (cuesAfter test cues)
-  unfolding cuesAfter
-  after-goes-on n = follows (suc n) (cues - n) (omega arith)
-
 -- "List out of cue v after n" and "in": the linked cues greater than n, no others.
 pub in-out : (E : List Link) (cues v n t : ℕ) → List·Memᴰ t (cuesAfter (isOut E v) cues n) ↔ ((n < t) × (t ≤ cues) × Leads E v t)
 unfolding isOut
@@ -134,82 +98,3 @@ rising-at none i j h l = absurd (omega arith)
 rising-at (more {x} {xs} low r) i zero h l = absurd (omega arith)
 rising-at (more {x} {xs} low r) zero (suc j) h l = low (getD xs j 0) (getD-mem xs j (omega arith))
 rising-at (more {x} {xs} low r) (suc i) (suc j) h l = rising-at r i j (omega arith) (omega arith)
-
--- As many as fit, or all.
-take-fit : (n : ℕ) (xs : List ℕ) → take (min n (length xs)) xs ≡ take n xs
-take-fit n xs = go (decLe n (length xs))
-  where
-    go : Dec (n ≤ length xs) → take (min n (length xs)) xs ≡ take n xs
-    go (yes h) = ap (λ (k : ℕ). take k xs) (min-eq-left h)
-    go (no h) = take-all (min n (length xs)) xs (omega arith) ∙ sym (take-all n xs (omega arith))
-
--- What is written on a page.
-pub is-page : (cues page : List ℕ) → IsPage cues page (listed cues page)
-unfolding listed answer overwrite
-is-page cues page =
-    record {
-      written = written;
-      more = ltb (length page) (length cues);
-      answer = refl;
-      many = refl;
-      first = take-at shown (drop (length shown) page) written fit ∙ sym (take-fit (length page) cues);
-      rest = drop-at shown (drop (length shown) page) written fit ∙ ap (λ (k : ℕ). drop k page) fit;
-      size = simp (length-append, length-drop) (omega (arith, fit));
-      further = (
-        λ e. omega (arith, ltb-true (length page) (length cues) e),
-        λ h. lt-ltb (length page) (length cues) (omega arith),
-      );
-    }
-  where
-    written : ℕ
-    written = min (length page) (length cues)
-
-    shown : List ℕ
-    shown = take (length page) cues
-
-    fit : length shown ≡ written
-    fit = length-take (length page) cues
-
--- The list after its cue number w, counted from 1, is what follows the first w.
-goes-on-at : (after : ℕ → List ℕ) → GoesOn after → (n w : ℕ) → 1 ≤ w → w ≤ length (after n)
-    → after (getD (after n) (w - 1) 0) ≡ drop w (after n)
-goes-on-at after on n zero h l = absurd (omega arith)
-goes-on-at after on n (suc i) h l = rw less (on n i l)
-  where
-    less : suc i - 1 ≡ i
-    less = omega arith
-
--- The list asked for after the last cue that was written is what did not fit.
-pub next-page : (after : ℕ → List ℕ) → GoesOn after → (n : ℕ) (page : List ℕ) (o : Outcome) (p : IsPage (after n) page o)
-    → 1 ≤ p .written → after (getD (o .after) (p .written - 1) 0) ≡ drop (p .written) (after n)
-next-page after on n page o p h = ap after same ∙ goes-on-at after on n w h (omega (arith, p .many))
-  where
-    w : ℕ
-    w = p .written
-
-    same : getD (o .after) (w - 1) 0 ≡ getD (after n) (w - 1) 0
-    same =
-        sym (getD-take w (o .after) (w - 1) 0 (omega arith))
-        ∙ ap (λ (xs : List ℕ). getD xs (w - 1) 0) (p .first)
-        ∙ getD-take w (after n) (w - 1) 0 (omega arith)
-
--- Pages asked for one after another give the whole list.
-pub pages-whole : (after : ℕ → List ℕ) → GoesOn after → (size : ℕ) → 1 ≤ size → (many n : ℕ) → length (after n) ≤ many
-    → pages after size many n ≡ after n
-unfolding pages
-pages-whole after on size h zero n l = take-all 0 (after n) l
-pages-whole after on size h (suc many) n l = go (pages-whole after on size h many last) (ltb size (length (after n))) refl
-  where
-    last : ℕ
-    last = getD (after n) (size - 1) 0
-
-    go : (length (after last) ≤ many → pages after size many last ≡ after last) → (b : Bool) → ltb size (length (after n)) ≡ b
-        → pages after size (suc many) n ≡ after n
-    go below false e = rw e (append-nil (take size (after n)) ∙ take-all size (after n) (ltb-false size (length (after n)) e))
-    go below true e =
-        rw e
-        (ap (λ (xs : List ℕ). take size (after n) ++ xs) (below (rw rest (simp length-drop (omega arith))) ∙ rest)
-        ∙ take-append-drop size (after n))
-      where
-        rest : after last ≡ drop size (after n)
-        rest = goes-on-at after on n size h (omega (arith, ltb-true size (length (after n)) e))
