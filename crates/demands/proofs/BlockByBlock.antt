@@ -7,15 +7,12 @@ use mathlib.Core.Bool.{Bool, true, false}
 use mathlib.Core.Logic.{_⊎_, inl, inr, _↔_}
 use mathlib.Core.List.{List, [], _∷_}
 use lib.ListN.{length}
-use borrow.Author.Tests.{eq-eqb}
 use Rattle.model.specs.Limits.{maxTotal}
 use Rattle.model.specs.Rows.{Row, rowCount, rowsOf}
 use Rattle.model.specs.Rules.{Seen}
-use Rattle.model.specs.Blocks.{Block, joinsOf, ownOf, total, blocksOf}
+use Rattle.model.specs.Blocks.{joinsOf, ownOf, total, blocksOf}
 use Rattle.model.specs.Verdicts.{refused, openingRows, checkBlocks, mayStand, totalFits}
 use Rattle.basics.proofs.Choices.{eq-then, eq-else}
-use Rattle.shows.proofs.AtBlock.{ownOf-hit}
-use Rattle.shows.proofs.Tracks.{ownNow}
 use Rattle.demands.specs.Acceptance.{
   nthRow,
   IsRow,
@@ -38,6 +35,7 @@ use Rattle.demands.proofs.Tests.{Says, in-words, less, not-less, equal-
 use Rattle.demands.proofs.Openings.{OpenedBefore, Comes, opening, link, later-use, from-place, opened-next}
 use Rattle.demands.proofs.Knows.{Knows}
 use Rattle.demands.proofs.Stages.{Stage, at-end, go-on, stop, by-rows}
+use Rattle.demands.proofs.TotalsOfRows.{own-is, totals-are}
 
 -- The check of a block that passes goes on, that of one that fails ends.
 module _ (number : ℕ) (ok : ℕ → Bool) (k r : ℕ) (rs : List ℕ) where
@@ -109,13 +107,9 @@ module _ (xs : List ℕ) (c : Check) (ok : ℕ → Bool) (b : Blockwise xs c ok)
       0
       (λ e. refl, λ l. absurd (omega arith))
 
--- The own cues of the last block.
-own-now : (bs : List Block) (k : ℕ) → suc k ≡ length bs → ownOf bs k ≡ ownNow bs
-own-now [] k e = absurd (omega arith)
-own-now (b ∷ earlier) k e = ownOf-hit b earlier k (eq-eqb k (length earlier) (omega arith))
-
 -- What is known behind the last row ties the tests to the sentences.
-module _ (xs : List ℕ) (s : Seen) (k : Knows xs (suc (rowCount xs)) s (blocksOf xs)) (q : ℕ) (i : IsRow xs q) (o : Opens (nthRow xs q)) where
+module _ (xs : List ℕ) (place : (q : ℕ) → IsRow xs q → InPlace xs q) (s : Seen) (k : Knows xs (suc (rowCount xs)) s (blocksOf xs))
+    (q : ℕ) (i : IsRow xs q) (o : Opens (nthRow xs q)) where
   abbrev w : Row
   w = nthRow xs q
 
@@ -123,18 +117,16 @@ module _ (xs : List ℕ) (s : Seen) (k : Knows xs (suc (rowCount xs)) s (blocksO
   lower : w .block < length (s .joins)
   lower = k .lower q (i .0) (omega arith) o
 
+  one-of : w .block < length (blocksOf xs)
+  one-of = omega (arith, lower, k .tracks .count)
+
   joins-are : joinsOf (blocksOf xs) (w .block) ≡ w .label
   unfolding joinsIn
   joins-are = sym (k .tracks .joins (w .block)) ∙ k .joins (w .block) lower ∙ ap (λ (r : Row). r .label) (k .first q (i .0) (omega arith) o)
 
-  own-are : suc (w .block) ≡ length (blocksOf xs) → ownOf (blocksOf xs) (w .block) ≡ column w 1
+  own-are : ownOf (blocksOf xs) (w .block) ≡ column w 1
   unfolding ownIn
-  own-are e =
-      let z : length (s .joins) - 1 ≡ w .block = omega (arith, k .tracks .count) in
-      own-now (blocksOf xs) (w .block) e
-      ∙ sym (k .tracks .own)
-      ∙ rw z at (k .own (omega (arith, k .tracks .count)))
-      ∙ ap (λ (r : Row). column r 1) (k .first q (i .0) (omega arith) o)
+  own-are = own-is xs place s k (w .block) one-of ∙ ap (λ (r : Row). column r 1) (k .first q (i .0) (omega arith) o)
 
   count-is : length (blocksOf xs) ≡ suc (nthRow xs (rowCount xs) .block)
   count-is = let e : suc (rowCount xs) - 1 ≡ rowCount xs = omega arith in sym (k .tracks .count) ∙ rw e at (k .count .1 (omega arith))
@@ -149,8 +141,8 @@ module _ (xs : List ℕ) (s : Seen) (k : Knows xs (suc (rowCount xs)) s (blocksO
           let z : IsLast xs w = omega (arith, count-is) in
           first-case _ _ _ e
           (in-words (equal-then (joinsOf (blocksOf xs) (w .block)) 0 (less 0 (ownOf (blocksOf xs) (w .block))))
-          (λ h. (λ l. record { joins = sym joins-are ∙ h .0; own = rw (own-are e) at (h .1) }, λ n. absurd (n z)))
-          (λ h. let f : Shows w = h .0 z in (joins-are ∙ f .joins, rw (own-are e) (f .own))))
+          (λ h. (λ l. record { joins = sym joins-are ∙ h .0; own = rw own-are at (h .1) }, λ n. absurd (n z)))
+          (λ h. let f : Shows w = h .0 z in (joins-are ∙ f .joins, rw own-are (f .own))))
       go (no n) =
           let z : IsLast xs w → ⊥ = λ l. n (omega (arith, count-is)) in
           second-case _ _ _ n
@@ -161,4 +153,8 @@ module _ (xs : List ℕ) (s : Seen) (k : Knows xs (suc (rowCount xs)) s (blocksO
   -- Check 10.
   pub totals : Says (totalFits (blocksOf xs) (w .block)) (Keeps xs Totals q)
   unfolding totalFits
-  totals = not-less maxTotal (total (blocksOf xs) (w .block))
+  totals =
+      let (are, only) = totals-are xs place s k in
+      in-words (not-less maxTotal (total (blocksOf xs) (w .block)))
+      (λ h T a. rw (only T a (w .block) one-of) h)
+      (λ h. h (total (blocksOf xs)) are)

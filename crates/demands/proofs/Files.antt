@@ -58,14 +58,14 @@ spelled-value t v s = go (s .digits) (s .text) (s .each) (s .some) (s .lead) (s 
         ap digits (sym n) ∙ w .1 ∙ shown-map (d ∷ ds) ∙ sym e
 
 -- The same for a line.
-line-spelled : (es vs : List ℕ) → length vs ≡ length es → Each Small vs → SpellsLine es (lineText es vs) vs
+pub line-spelled : (es vs : List ℕ) → length vs ≡ length es → Each Small vs → SpellsLine es (lineText es vs) vs
 unfolding lineText
 line-spelled [] [] e h = no-value
 line-spelled [] (v ∷ vs) e h = absurd (omega arith)
 line-spelled (c ∷ es) [] e h = absurd (omega arith)
 line-spelled (c ∷ es) (v ∷ vs) e h = value-then (value-spelled v (h .0)) (line-spelled es vs (omega arith) (h .1))
 
-spelled-line : {es l vs : List ℕ} → SpellsLine es l vs → Said es vs l
+pub spelled-line : {es l vs : List ℕ} → SpellsLine es l vs → Said es vs l
 unfolding lineText
 spelled-line no-value = record { text = refl; many = refl; small = tt }
 spelled-line (value-then {e = e} {es = es} {t = t} {l = l} {vs = vs} {v = v} s r) = go (spelled-line r)

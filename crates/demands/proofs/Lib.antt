@@ -10,14 +10,19 @@ pub mod Following
 pub mod Sentences
 pub mod Stages
 pub mod RowByRow
+pub mod BlocksOfRows
+pub mod TotalsOfRows
 pub mod BlockByBlock
 pub mod Together
 pub mod Acceptance
+pub mod Checking
 -- files
 pub mod Files
+pub mod Breaks
 pub mod ReadCases
 pub mod Reading
 pub mod RoundTrips
+pub mod Writing
 -- the unfolding by single steps
 pub mod Rearranging
 pub mod Counts

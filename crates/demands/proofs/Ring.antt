@@ -10,10 +10,10 @@ use Rattle.model.specs.Choice.{ifLt, ifEq, ifTrue}
 use Rattle.model.specs.Rows.{cell, rowAt, rowsFrom, rowCount, rowsOf}
 use Rattle.model.specs.Blocks.{Link, Use, Block, noBlock, blockAt, joinsOf, addLink, addUse, addRow, addRows, blocksOf, sumOver, total, lastBlock, count}
 use Rattle.model.specs.Unfolding.{cueAt, renamed, usesLinks, links, showLinks}
-use Rattle.model.specs.Paths.{ownNumber, usesNumber, copyNumber, numberIn}
+use Rattle.model.specs.Paths.{ownNumber, usesNumber, copyNumber, numberIn, nowhere, stepThen, usesPlace, placeIn}
 use Rattle.model.specs.Lists.{range}
 use Rattle.model.specs.Ring.{ring}
-use Rattle.demands.specs.Replacement.{Node, Edge, Standing, Graph, ownNodes, nodesOf, nth, edge, standing, Step, stay, then, begin, Ended, nodeNumber, numbered}
+use Rattle.demands.specs.Replacement.{Node, Edge, Standing, Graph, ownNodes, nodesOf, nth, edge, standing, Step, stay, then, begin, Ended, nodeNumber, nodeAt, numbered}
 use Rattle.demands.specs.Numbers.{node, Before, own-order, own-first, use-order, same-use}
 
 -- How often a thing stands in a list, and that two lists have each thing as often.
@@ -141,6 +141,11 @@ ring-links = refl
 ring-cues : alike eqb (map (nodeNumber bs) (after-4 .cues)) (range 1 (count bs)) ≡ true
 unfolding alike as-often times nodeNumber range ifLt ifEq ifTrue sumOver total lastBlock count ownNumber usesNumber copyNumber numberIn
 ring-cues = refl
+
+-- Each number names a cue that has this number.
+ring-places : alike eqb (map (nodeNumber bs) (map (nodeAt bs) (range 1 (count bs)))) (range 1 (count bs)) ≡ true
+unfolding alike as-often times nodeNumber nodeAt range ifLt ifEq ifTrue sumOver total lastBlock count ownNumber usesNumber copyNumber numberIn nowhere stepThen usesPlace placeIn
+ring-places = refl
 
 -- "own cues first, then the cues of its uses in order": the five cues in this order, and their numbers rise.
 in-order : Before [] 1 [] 2 × Before [] 2 (1 ∷ []) 1 × Before (1 ∷ []) 1 (1 ∷ 1 ∷ []) 1 × Before (1 ∷ 1 ∷ []) 1 (1 ∷ 2 ∷ []) 1

@@ -1,7 +1,7 @@
 -- A file that was read is written again byte for byte, and rows that were written are read again number for number.
 use Prim.Native.Nat.{ℕ, _*_, _≤_}
 use native.Mathlib.Omega.{arith}
-use mathlib.Core.Path.{_≡_, _∙_, ap}
+use mathlib.Core.Path.{_≡_, sym, _∙_, ap}
 use mathlib.Core.List.{List, [], _∷_}
 use lib.ListN.{length, getD, take}
 use Rattle.model.specs.Limits.{rowSize}
@@ -17,16 +17,17 @@ use Rattle.model.specs.declared.WriteAnswer.{WriteAnswer}
 use Rattle.model.specs.declared.WriteAnswer.the-variants.{Written, Refused as WriteRefused}
 use Rattle.shows.proofs.Accepted.{accepted-show}
 use Rattle.shows.proofs.RoundTrips.{read-back, write-back}
+use Rattle.demands.specs.Buffers.{Leaves}
 use Rattle.demands.specs.RoundTrips.{WritesBack, ReadsBack}
 use Rattle.demands.proofs.Buffers.{leaves}
 use Rattle.demands.proofs.Outcomes.{was-accepted, had-room}
 use Rattle.demands.proofs.ReadCases.{is-given, Answered, answered}
 
 -- An answer to write is known by its length.
-is-written : (w : WriteAnswer) (bytes : ℕ) → ofWrite w ≡ given (bytes ∷ []) → w ≡ Written bytes
+pub written-is : (w : WriteAnswer) (bytes : ℕ) → ofWrite w ≡ given (bytes ∷ []) → w ≡ Written bytes
 unfolding ofWrite given returned
-is-written (Written n) bytes e = ap Written (ap (λ (x : Returned). getD (x .values) 0 0) e)
-is-written (WriteRefused f) bytes e = let k = ap (λ (x : Returned). length (x .values)) e in absurd (omega arith)
+written-is (Written n) bytes e = ap Written (ap (λ (x : Returned). getD (x .values) 0 0) e)
+written-is (WriteRefused f) bytes e = let k = ap (λ (x : Returned). length (x .values)) e in absurd (omega arith)
 
 -- The rows that were read are all of the numbers.
 rows-long : (xs : List ℕ) → verdict xs ≡ Accepted → rowCount xs * rowSize ≡ length xs
@@ -47,22 +48,40 @@ writes-back f out after r rows blocks cues e a w out′ after′ e′ h = go (an
         let t : take (rows * rowSize) after ≡ k .numbers = rw (← n) (k .left .first) in
         let b = (rw t at e′) ∙ write-back f (k .numbers) out′ (k .says) (k .lawful) h in
         record {
-          answer = is-written w (length f) (ap (λ (o : Outcome). o .answer) b);
+          answer = written-is w (length f) (ap (λ (o : Outcome). o .answer) b);
           bytes = rw (ap (λ (o : Outcome). o .after) b) (leaves f out′ h);
         }
+
+-- Where write answers, the rows are accepted, there is room for their file, and it stands in the output.
+pub record Wrote (xs out after : List ℕ) (bytes : ℕ) : Type 0 where
+  pub lawful : verdict xs ≡ Accepted
+  pub fits : length (fileText (rowsOf xs)) ≤ length out
+  pub bytes-are : bytes ≡ length (fileText (rowsOf xs))
+  pub left : Leaves (fileText (rowsOf xs)) out after
+
+pub wrote : (xs out after : List ℕ) (w : WriteAnswer) → outcome (ofWrite w) after ≡ writeAsked xs out → (bytes : ℕ) → w ≡ Written bytes
+    → Wrote xs out after bytes
+unfolding ofWrite writeAsked writeInto answer given
+wrote xs out after w e bytes a =
+    let text : List ℕ = fileText (rowsOf xs) in
+    let (v, p) = was-accepted bytes [] after out _ (verdict xs) (rw a at e) in
+    let (fits, q) = had-room bytes [] after out (answer (length text ∷ []) (overwrite text out)) (length text) p in
+    record {
+      lawful = v;
+      fits = fits;
+      bytes-are = ap (λ (o : Outcome). getD (o .answer .values) 0 0) (sym q);
+      left = rw (← ap (λ (o : Outcome). o .after) q) (leaves text out fits);
+    }
 
 -- What was read back, for rows that were written.
 pub reads-back : (xs out after : List ℕ) (w : WriteAnswer) (bytes : ℕ) → outcome (ofWrite w) after ≡ writeAsked xs out → w ≡ Written bytes
     → (r : ReadAnswer) (out′ after′ : List ℕ) → outcome (ofRead r) after′ ≡ readAsked (take bytes after) out′ → length xs ≤ length out′
     → ReadsBack xs r out′ after′
-unfolding ofWrite writeAsked writeInto answer given
+unfolding answer
 reads-back xs out after w bytes e a r out′ after′ e′ h =
-    let text : List ℕ = fileText (rowsOf xs) in
-    let (v, p) = was-accepted bytes [] after out _ (verdict xs) (rw a at e) in
-    let (fits, q) = had-room bytes [] after out (answer (length text ∷ []) (overwrite text out)) (length text) p in
-    let n : length text ≡ bytes = ap (λ (o : Outcome). getD (o .answer .values) 0 0) q in
-    let t : take bytes after ≡ text = rw (← ap (λ (o : Outcome). o .after) q, ← n) (leaves text out fits .first) in
-    let b = (rw t at e′) ∙ read-back xs out′ v h in
+    let k = wrote xs out after w e bytes a in
+    let t : take bytes after ≡ fileText (rowsOf xs) = rw (k .bytes-are) (k .left .first) in
+    let b = (rw t at e′) ∙ read-back xs out′ (k .lawful) h in
     record {
       answer = is-given r _ _ _ (ap (λ (o : Outcome). o .answer) b);
       rows = rw (ap (λ (o : Outcome). o .after) b) (leaves xs out′ h);

@@ -103,12 +103,24 @@ module _ (xs : List ℕ) (s : Seen) (k : Knows xs (suc (rowCount xs)) s (blocksO
   ends-blockwise : Blockwise xs Ends (mayStand (blocksOf xs))
   unfolding turn refusalNumber
   ends-blockwise =
-      record { late = omega arith; alone = λ d z. same-check d Ends (numbers d .third z); looks = λ q. Iff·rfl; says = ends xs s k; place = place }
+      record {
+        late = omega arith;
+        alone = λ d z. same-check d Ends (numbers d .third z);
+        looks = λ q. Iff·rfl;
+        says = ends xs place s k;
+        place = place;
+      }
 
   totals-blockwise : Blockwise xs Totals (totalFits (blocksOf xs))
   unfolding turn refusalNumber
   totals-blockwise =
-      record { late = omega arith; alone = λ d z. same-check d Totals (numbers d .last z); looks = λ q. Iff·rfl; says = totals xs s k; place = place }
+      record {
+        late = omega arith;
+        alone = λ d z. same-check d Totals (numbers d .last z);
+        looks = λ q. Iff·rfl;
+        says = totals xs place s k;
+        place = place;
+      }
 
   -- Each of the two from the first row on,
   blocks-stage : (c : Check) (ok : ℕ → Bool) → Blockwise xs c ok

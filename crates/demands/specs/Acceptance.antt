@@ -8,7 +8,6 @@ use lib.ListN.{length, getD}
 use Rattle.model.specs.Choice.{ifEq}
 use Rattle.model.specs.Limits.{rowSize, maxJoins, maxOwn, maxLabel, maxBlocks, maxRows, maxTotal}
 use Rattle.model.specs.Rows.{Row, rowAt, rowCount, rowsOf}
-use Rattle.model.specs.Blocks.{blocksOf, total}
 use Rattle.model.specs.Answers.{Returned}
 
 -- The rows.
@@ -122,9 +121,20 @@ pub record Shows (w : Row) : Type 0 where
 abbrev pub HasJoins : Row → Type 0
 HasJoins w = 1 ≤ w .label
 
--- "No total may exceed 2,147,483,647."
+-- "Total of a block: own cues plus the totals of its uses, each use counted." The uses of block k among some rows, where T gives the totals,
+unfoldable pub usesTotal : (ℕ → ℕ) → ℕ → List Row → ℕ
+usesTotal T k [] = 0
+usesTotal T k (w ∷ ws) = ifEq (w .kind) 2 (ifEq (w .block) k (T (w .label) + usesTotal T k ws) (usesTotal T k ws)) (usesTotal T k ws)
+
+-- and that T gives the total of every block.
+abbrev pub AreTotals : List ℕ → (ℕ → ℕ) → Type 0
+AreTotals xs T =
+    (r : ℕ) → IsRow xs r → Opens (nthRow xs r)
+    → T (nthRow xs r .block) ≡ ownIn xs (nthRow xs r .block) + usesTotal T (nthRow xs r .block) (rowsOf xs)
+
+-- "No total may exceed 2,147,483,647." (Totals exist, and are the same whoever gives them: `totals-are` in the proofs.)
 abbrev pub TotalFits : List ℕ → Row → Type 0
-TotalFits xs w = total (blocksOf xs) (w .block) ≤ maxTotal
+TotalFits xs w = (T : ℕ → ℕ) → AreTotals xs T → T (w .block) ≤ maxTotal
 
 -- Every sentence, of all rows. "A show is accepted when its rows meet none of refusals 4 to 10."
 pub record Lawful (xs : List ℕ) : Type 0 where

@@ -11,7 +11,7 @@ use Rattle.model.specs.Blocks.{blocksOf, count}
 use Rattle.model.specs.Verdicts.{refusal}
 use Rattle.model.specs.declared.Refusal.{Refusal}
 use Rattle.model.specs.declared.WriteAnswer.{WriteAnswer}
-use Rattle.model.specs.declared.WriteAnswer.the-variants.{Written}
+use Rattle.model.specs.declared.WriteAnswer.the-variants.{Written, Refused as Unwritten}
 use Rattle.model.specs.declared.ReadAnswer.{ReadAnswer}
 use Rattle.model.specs.declared.ReadAnswer.the-variants.{Read, Refused}
 use Rattle.basics.specs.Members.{Each}
@@ -68,6 +68,14 @@ linePlace Order p = suc p
 linePlace Ends p = suc p
 linePlace Totals p = suc p
 
+-- The refusals that reading can give: each of the table with its place.
+pub data ReadRefusal (q : Refusal) : Type 0 where
+  of-length : q ≡ refusal 1 0 → ReadRefusal q
+  of-names : q ≡ refusal 2 1 → ReadRefusal q
+  of-line : (line : ℕ) → q ≡ refusal 3 line → ReadRefusal q
+  of-rows : (c : Check) (p : ℕ) → q ≡ refusal (refusalNumber c) (linePlace c p) → ReadRefusal q
+  of-room : q ≡ refusal 11 0 → ReadRefusal q
+
 -- What read answers and leaves, for a file and a lent output.
 pub record IsRead (f out : List ℕ) (r : ReadAnswer) (after : List ℕ) : Type 0 where
   -- It answers exactly if the text keeps the rules, its rows do, and the output is long enough.
@@ -84,11 +92,14 @@ pub record IsRead (f out : List ℕ) (r : ReadAnswer) (after : List ℕ) : Type 
   pub refused : (c : Check) (p : ℕ) → (r ≡ Refused (refusal (refusalNumber c) (linePlace c p)))
       ↔ ((xs : List ℕ) × SpellsFile f xs × FirstBroken xs c p)
   -- and 11. There is no other, and "A refusal leaves all lent memory unchanged."
+  pub no-other : (q : Refusal) → r ≡ Refused q → ReadRefusal q
   pub no-room : (r ≡ Refused (refusal 11 0)) ↔ ((xs : List ℕ) × SpellsFile f xs × Lawful xs × (length out < length xs))
   pub unchanged : (q : Refusal) → r ≡ Refused q → after ≡ out
 
 -- What write answers and leaves, for rows and a lent output: it answers exactly if the rows keep the rules and a file that says them fits, and
--- leaves such a file, "giving its length".
+-- leaves such a file, "giving its length". (Refusals 4 to 10: `Acceptance.ChecksRows`.)
 pub record IsWritten (xs out : List ℕ) (w : WriteAnswer) (after : List ℕ) : Type 0 where
   pub answers : ((bytes : ℕ) × (w ≡ Written bytes)) ↔ (Lawful xs × ((f : List ℕ) × SpellsFile f xs × (length f ≤ length out)))
   pub given : (bytes : ℕ) → w ≡ Written bytes → (f : List ℕ) × SpellsFile f xs × (bytes ≡ length f) × Leaves f out after
+  pub no-room : (w ≡ Unwritten (refusal 11 0)) ↔ (Lawful xs × ((f : List ℕ) → SpellsFile f xs → length out < length f))
+  pub unchanged : (q : Refusal) → w ≡ Unwritten q → after ≡ out

@@ -1,4 +1,4 @@
--- Demand 3 as a theorem about the entry point's answer: what `fewest` ensures says just this.
+-- Demands 2 and 3 as theorems about the entry points' answers: what they ensure says just this.
 use Prim.Native.Nat.{ℕ, _≤_}
 use native.Mathlib.Omega.{arith}
 use mathlib.Core.Path.{_≡_, refl, sym, _∙_, ap}
@@ -12,15 +12,62 @@ use Rattle.model.specs.Verdicts.{verdict}
 use Rattle.model.specs.Answers.{Returned, given, returned, ofFewest}
 use Rattle.model.specs.Questions.{Outcome, outcome, refuse, answer, distanceValues, fewestIn, fewestAsked}
 use Rattle.model.specs.declared.Verdict.the-variants.{Accepted}
+use Rattle.model.specs.declared.ReadAnswer.the-variants.{Read}
+use Rattle.model.specs.declared.WriteAnswer.the-variants.{Written}
 use Rattle.model.specs.declared.FewestAnswer.{FewestAnswer}
 use Rattle.model.specs.declared.FewestAnswer.the-variants.{Steps, None, Refused as FewestRefused}
 use Rattle.distances.specs.Demand.{Shortest}
 use Rattle.shows.proofs.Accepted.{accepted-show}
 use Rattle.distances.proofs.Fewest.{show-shortest}
-use Rattle.show.specs.Demand.{unfolded, IsFewest}
+use Rattle.demands.proofs.Acceptance.{accepted-exactly}
+use Rattle.demands.proofs.Checking.{write-checks, count-checks, locate-checks, number-checks, out-checks, in-checks, fewest-checks}
+use Rattle.demands.proofs.Reading.{is-read}
+use Rattle.demands.proofs.Writing.{is-written}
+use Rattle.demands.proofs.RoundTrips.{writes-back, reads-back}
+use Rattle.demands.proofs.Replacement.{unfolds}
+use Rattle.demands.proofs.Numbers.{is-count, is-number, is-located}
+use Rattle.demands.proofs.Lists.{list-out, list-in, pages-out, pages-in}
+use Rattle.show.specs.Demand.{RightAgainstUnfolding, Demand2, unfolded, IsFewest}
 use Rattle.answers.proofs.Outcomes.{on-yes, has-room, has-cue, cue-test}
 
--- The answer of a distance.
+-- Demand 2: of rows that keep the rules, of the rules, and of the round trips.
+right : (xs : List ℕ) → verdict xs ≡ Accepted → RightAgainstUnfolding xs
+right xs v =
+    record {
+      unfolding-steps = let s = accepted-show xs v in unfolds (blocksOf xs) (s .good) (s .blocks .0) (s .no-joins);
+      counts = is-count xs v;
+      locates = λ n lent after r low high room. is-located xs v n lent after r room low high;
+      numbers = is-number xs v;
+      lists-out = λ w n page after r. list-out xs w n page after r v;
+      lists-in = λ w n page after r. list-in xs w n page after r v;
+      pages-out = λ w n many cues more. pages-out xs w n many cues more v;
+      pages-in = λ w n many cues more. pages-in xs w n many cues more v;
+    }
+
+pub demand-2 : Demand2
+demand-2 =
+    record {
+      acceptance =
+          record {
+            read = is-read;
+            write = is-written;
+            checks-write = write-checks;
+            checks-count = count-checks;
+            checks-locate = locate-checks;
+            checks-number = number-checks;
+            checks-out = out-checks;
+            checks-in = in-checks;
+            checks-fewest = fewest-checks;
+          };
+      round-trips =
+          record {
+            write-back = λ file out after rows blocks cues e. writes-back file out after (Read rows blocks cues) rows blocks cues e refl;
+            read-back = λ xs out after bytes e. reads-back xs out after (Written bytes) bytes e refl;
+          };
+      right = λ xs l. right xs (accepted-exactly xs .1 l);
+    }
+
+-- Demand 3. The answer of a distance.
 unfoldable answerOf : Distance → FewestAnswer
 answerOf (Far n) = Steps n
 answerOf Unreachable = None

@@ -30,7 +30,7 @@ unfolding ends
 lines-of-rows vs xs e h = rw (rowLines-first vs xs e) (lines-first (text-line ends-line vs e h) (rowLines (rowsOf xs)))
 
 -- A line that says some values puts them before what the lines behind it say.
-says-first : (n : ℕ) (l vs : List ℕ) (ls : List (List ℕ)) → valuesOf ends l ≡ Values vs
+pub says-first : (n : ℕ) (l vs : List ℕ) (ls : List (List ℕ)) → valuesOf ends l ≡ Values vs
     → readLines n (l ∷ ls) ≡ rowThen vs (readLines (suc n) ls)
 unfolding readLines
 says-first n l vs ls e = rw (readLines, e)
@@ -107,15 +107,16 @@ same-is (x ∷ l) (y ∷ m) e =
     let r : l ≡ m = same-is l m q in
     cc
 
+-- Behind the line of names, the lines are read.
+pub names-first : (t : List ℕ) → readAll (linesOf (names ++ t)) ≡ readLines 2 (linesOf t)
+unfolding readAll
+names-first t = ap readAll (lines-first names-line t) ∙ true-then _ _ _ (same-refl names)
+
 -- Rows that are written to few enough bytes are read again.
 pub file-read : (xs : List ℕ) → length xs % rowSize ≡ 0 → Each Small xs → length (fileText (rowsOf xs)) ≤ maxBytes
     → readFile (fileText (rowsOf xs)) ≡ Numbers xs
-unfolding readFile readAll fileText
-file-read xs e h k =
-    lt-else _ _ _ _ k
-    ∙ ap readAll (lines-first names-line (rowLines (rowsOf xs)))
-    ∙ true-then _ _ _ (same-refl names)
-    ∙ lines-read (rowed xs e) h 2
+unfolding readFile fileText
+file-read xs e h k = lt-else _ _ _ _ k ∙ names-first (rowLines (rowsOf xs)) ∙ lines-read (rowed xs e) h 2
 
 -- The text of rows of values up to 999 has at most four bytes for each value.
 short-first : (vs xs : List ℕ) → length vs ≡ rowSize → Each (λ v. v ≤ 999) vs

@@ -1,6 +1,6 @@
 -- What a row that passes checks 5 to 8 is, check by check. That what the checks carry from row to row agrees with the blocks of the rows
 -- so far stands in Tracks.
-use Prim.Native.Nat.{ℕ, suc, _+_, _-_, _≤_, _<_}
+use Prim.Native.Nat.{ℕ, suc, _+_, _≤_, _<_}
 use native.Mathlib.Omega.{arith}
 use native.Mathlib.Decide.{ℕ-discrete}
 use mathlib.Core.Path.{_≡_}

@@ -30,13 +30,15 @@ pub read-answer : (f xs out : List ℕ) → readFile f ≡ Numbers xs → verdic
 unfolding readAsked fileVerdict readVerdict numbersOf readInto inLines onAccepted
 read-answer f xs out e v h = rw (e, v) (with-room _ _ _ h)
 
+-- The file of accepted rows says their numbers.
+pub rows-read : (xs : List ℕ) → verdict xs ≡ Accepted → readFile (fileText (rowsOf xs)) ≡ Numbers xs
+rows-read xs v = let s : Show xs = accepted-show xs v in written-read xs (s .whole) (s .values) (s .rows .1)
+
 -- Reading back what was written for accepted rows gives the rows.
 pub read-back : (xs out : List ℕ) → verdict xs ≡ Accepted → length xs ≤ length out
     → readAsked (fileText (rowsOf xs)) out
     ≡ answer (rowCount xs ∷ length (blocksOf xs) ∷ count (blocksOf xs) ∷ []) (overwrite xs out)
-read-back xs out v r =
-    let s : Show xs = accepted-show xs v in
-    read-answer (fileText (rowsOf xs)) xs out (written-read xs (s .whole) (s .values) (s .rows .1)) v r
+read-back xs out v r = read-answer (fileText (rowsOf xs)) xs out (rows-read xs v) v r
 
 -- What writing answers for accepted rows.
 pub write-answer : (xs out : List ℕ) → verdict xs ≡ Accepted → length (fileText (rowsOf xs)) ≤ length out
