@@ -33,7 +33,7 @@ use Rattle.demands.proofs.Together.{Kept, VerdictSays, lawful, unlawful
 -- The sentences of all rows are those of all checks.
 all-kept : (xs : List ℕ) → Lawful xs → Kept xs
 all-kept xs l Length p i = (l .whole, l .rows .0, l .rows .1)
-all-kept xs l Sequence p i = (l .order p i, l .blocks p i)
+all-kept xs l Sequence p i = (l .sequence p i, l .blocks p i)
 all-kept xs l Ranges p i = (l .openings p i, l .links p i, l .uses p i)
 all-kept xs l Repeats p i = (l .link-cues p i, l .use-cues p i)
 all-kept xs l Order p i = (l .links-rise p i, l .uses-never-fall p i)
@@ -46,7 +46,7 @@ all-lawful xs k =
     record {
       whole = k Length 0 refl .0;
       rows = (k Length 0 refl .1, k Length 0 refl .2);
-      order = λ r i. k Sequence r i .0;
+      sequence = λ r i. k Sequence r i .0;
       blocks = λ r i. k Sequence r i .1;
       openings = λ r i. k Ranges r i .0;
       links = λ r i. k Ranges r i .1;
@@ -122,12 +122,12 @@ refused-exactly xs c p = (λ h. to (refused-is xs _ h), λ f. from f (verdict-sa
     from f (unlawful d q e g) = let (n, z) = only-first xs c d p q f g in rw (n, z) e
 
 -- A number outside 4 to 10 is that of no check.
-no-check : (c : Check) (n : ℕ) → (n < 4) ⊎ (10 < n) → n ≡ refusalNumber c → ⊥
+no-check : (c : Check) (n : ℕ) → (n ≡ 0) ⊎ (10 < n) → n ≡ refusalNumber c → ⊥
 no-check c n (inl l) e = omega (arith, numbers c .low)
 no-check c n (inr l) e = omega (arith, numbers c .high)
 
 -- What a question returns says so.
-pub checks-rows : (xs : List ℕ) (a b : Returned) → a ≡ onAccepted (verdict xs) (λ r. returned r) b → (b .number < 4) ⊎ (10 < b .number)
+pub checks-rows : (xs : List ℕ) (a b : Returned) → a ≡ onAccepted (verdict xs) (λ r. returned r) b → (b .number ≡ 0) ⊎ (10 < b .number)
     → ChecksRows xs a
 unfolding onAccepted returned refused refusal
 checks-rows xs a b h o = go (verdict-says xs)

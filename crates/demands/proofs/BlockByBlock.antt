@@ -1,5 +1,5 @@
 -- Checks 9 and 10, block by block: at each opening row the test of its block.
-use Prim.Native.Nat.{ℕ, suc, _+_, _-_, _≤_, _<_}
+use Prim.Native.Nat.{ℕ, suc, _+_, _≤_, _<_}
 use native.Mathlib.Omega.{arith}
 use native.Mathlib.Decide.{ℕ-discrete}
 use mathlib.Core.Path.{_≡_, refl, sym, _∙_, ap}
@@ -9,7 +9,6 @@ use mathlib.Core.List.{List, [], _∷_}
 use lib.ListN.{length}
 use Rattle.model.specs.Limits.{maxTotal}
 use Rattle.model.specs.Rows.{Row, rowCount, rowsOf}
-use Rattle.model.specs.Rules.{Seen}
 use Rattle.model.specs.Blocks.{joinsOf, ownOf, total, blocksOf}
 use Rattle.model.specs.Verdicts.{refused, openingRows, checkBlocks, mayStand, totalFits}
 use Rattle.basics.proofs.Choices.{eq-then, eq-else}
@@ -18,6 +17,7 @@ use Rattle.demands.specs.Acceptance.{
   IsRow,
   column,
   Opens,
+  openingIn,
   joinsIn,
   ownIn,
   InPlace,
@@ -33,9 +33,10 @@ use Rattle.demands.specs.Acceptance.{
 }
 use Rattle.demands.proofs.Tests.{Says, in-words, less, not-less, equal-then, first-case, second-case, decided}
 use Rattle.demands.proofs.Openings.{OpenedBefore, Comes, opening, link, later-use, from-place, opened-next}
-use Rattle.demands.proofs.Knows.{Knows}
 use Rattle.demands.proofs.Stages.{Stage, at-end, go-on, stop, by-rows}
-use Rattle.demands.proofs.TotalsOfRows.{own-is, totals-are}
+use Rattle.demands.proofs.RowByRow.{RowsPassed}
+use Rattle.demands.proofs.BlocksOfRows.{opened-lower, blocks-are}
+use Rattle.demands.proofs.TotalsOfRows.{totals-are}
 
 -- The check of a block that passes goes on, that of one that fails ends.
 module _ (number : ℕ) (ok : ℕ → Bool) (k r : ℕ) (rs : List ℕ) where
@@ -108,28 +109,27 @@ module _ (xs : List ℕ) (c : Check) (ok : ℕ → Bool) (b : Blockwise xs c ok)
       (λ e. refl, λ l. absurd (omega arith))
 
 -- What is known behind the last row ties the tests to the sentences.
-module _ (xs : List ℕ) (place : (q : ℕ) → IsRow xs q → InPlace xs q) (s : Seen) (k : Knows xs (suc (rowCount xs)) s (blocksOf xs))
-    (q : ℕ) (i : IsRow xs q) (o : Opens (nthRow xs q)) where
+module _ (xs : List ℕ) (passed : RowsPassed xs) (q : ℕ) (i : IsRow xs q) (o : Opens (nthRow xs q)) where
   abbrev w : Row
   w = nthRow xs q
 
   -- The block is one of those opened; its joins and own cues are those of its opening, and how many blocks there are.
-  lower : w .block < length (s .joins)
-  lower = k .lower q (i .0) (omega arith) o
-
   one-of : w .block < length (blocksOf xs)
-  one-of = omega (arith, lower, k .tracks .count)
+  one-of = opened-lower xs passed q i o
+
+  first : openingIn (rowsOf xs) (w .block) ≡ w
+  first = passed .knows .first q (i .0) (omega arith) o
 
   joins-are : joinsOf (blocksOf xs) (w .block) ≡ w .label
-  unfolding joinsIn
-  joins-are = sym (k .tracks .joins (w .block)) ∙ k .joins (w .block) lower ∙ ap (λ (r : Row). r .label) (k .first q (i .0) (omega arith) o)
+  unfolding joinsOf joinsIn
+  joins-are = blocks-are xs passed .joins (w .block) one-of ∙ ap (λ (r : Row). r .label) first
 
   own-are : ownOf (blocksOf xs) (w .block) ≡ column w 1
-  unfolding ownIn
-  own-are = own-is xs place s k (w .block) one-of ∙ ap (λ (r : Row). column r 1) (k .first q (i .0) (omega arith) o)
+  unfolding ownOf ownIn
+  own-are = blocks-are xs passed .own (w .block) one-of ∙ ap (λ (r : Row). column r 1) first
 
   count-is : length (blocksOf xs) ≡ suc (nthRow xs (rowCount xs) .block)
-  count-is = let e : suc (rowCount xs) - 1 ≡ rowCount xs = omega arith in sym (k .tracks .count) ∙ rw e at (k .count .1 (omega arith))
+  count-is = blocks-are xs passed .many
 
   -- Check 9.
   pub ends : Says (mayStand (blocksOf xs) (w .block)) (Keeps xs Ends q)
@@ -154,7 +154,7 @@ module _ (xs : List ℕ) (place : (q : ℕ) → IsRow xs q → InPlace xs q) (s 
   pub totals : Says (totalFits (blocksOf xs) (w .block)) (Keeps xs Totals q)
   unfolding totalFits
   totals =
-      let (are, only) = totals-are xs place s k in
+      let (are, only) = totals-are xs passed in
       in-words (not-less maxTotal (total (blocksOf xs) (w .block)))
       (λ h T a. rw (only T a (w .block) one-of) h)
       (λ h. h (total (blocksOf xs)) are)

@@ -1,195 +1,190 @@
--- The blocks that rows make, when the rows stand in their places: each block has the own cues of the row that opens it, and its uses are
--- its use rows.
-use Prim.Native.Nat.{ℕ, suc, _+_, _≤_, _<_}
+-- The blocks that rows make, when the rows have passed: each block has the joins and the own cues of the row that opens it, and its links
+-- and uses are its link rows and use rows.
+use Prim.Native.Nat.{ℕ, suc, _+_, _-_, _<_}
 use native.Mathlib.Omega.{arith}
-use native.Mathlib.Decide.{ℕ-discrete, decLt}
+use native.Mathlib.Decide.{ℕ-discrete}
 use mathlib.Core.Path.{_≡_, refl, sym, _∙_, ap}
-use mathlib.Core.Logic.{_≢_}
-use mathlib.Core.List.{List, [], _∷_, _++_}
-use lib.ListN.{length}
-use borrow.Author.Tests.{eq-eqb, ne-eqb}
-use Rattle.model.specs.Rows.{Row, rowsOf}
-use Rattle.model.specs.Blocks.{Link, Use, Block, noBlock, blockAt, ownOf, addLink, addUse, addRow, addRows, sumOver, blocksOf}
+use mathlib.Core.List.{List, [], _∷_}
+use lib.ListN.{length, take}
+use Rattle.model.specs.Rows.{Row, rowCount, rowsOf}
+use Rattle.model.specs.Blocks.{Link, Use, Block, blockAt, joinsOf, addLink, addUse, addRow, addRows, blocksOf}
 use Rattle.basics.proofs.Choices.{eq-then, eq-else}
-use Rattle.shows.proofs.AtBlock.{blockAt-hit, blockAt-skip, ownOf-hit, ownOf-skip}
-use Rattle.demands.specs.Acceptance.{nthRow, IsRow, column, Opens, Links, Uses, InPlace, usesTotal}
+use Rattle.shows.proofs.BlockAt.{joinsOf-at}
+use Rattle.demands.specs.Acceptance.{nthRow, IsRow, column, openingIn, joinsIn, ownIn, Opens, Links, Uses}
+use Rattle.demands.specs.Blocks.{AreBlocks}
 use Rattle.demands.proofs.Openings.{OpenedBefore, Comes, opening, link, later-use, from-place, opened-next}
 use Rattle.demands.proofs.Stages.{by-rows}
+use Rattle.demands.proofs.RowByRow.{RowsPassed}
+use Rattle.demands.proofs.PartsOfRows.{
+  block-hit,
+  block-skip,
+  link-part,
+  use-part,
+  Goes,
+  part-opens,
+  part-grows,
+  part-stays,
+  part-whole,
+}
 
--- The sum of f over the uses of block k.
-abbrev sumAt : (ℕ → ℕ) → List Block → ℕ → ℕ
-sumAt f bs k = sumOver f (blockAt bs k .uses)
-
--- Of the last block, of one before it, and of one that is not there.
-module _ (f : ℕ → ℕ) (b : Block) (earlier : List Block) (k : ℕ) where
-  sum-hit : k ≡ length earlier → sumAt f (b ∷ earlier) k ≡ sumOver f (b .uses)
-  sum-hit e = ap (λ (c : Block). sumOver f (c .uses)) (blockAt-hit b earlier k (eq-eqb k (length earlier) e))
-
-  sum-skip : k ≢ length earlier → sumAt f (b ∷ earlier) k ≡ sumAt f earlier k
-  sum-skip n = ap (λ (c : Block). sumOver f (c .uses)) (blockAt-skip b earlier k (ne-eqb k (length earlier) n))
-
-sum-beyond : (f : ℕ → ℕ) (bs : List Block) (k : ℕ) → length bs ≤ k → sumAt f bs k ≡ 0
-unfolding blockAt noBlock sumOver
-sum-beyond f [] k h = refl
-sum-beyond f (b ∷ earlier) k h = sum-skip f b earlier k (λ e. omega arith) ∙ sum-beyond f earlier k (omega arith)
-
--- One use more.
-sum-snoc : (f : ℕ → ℕ) (us : List Use) (u : Use) → sumOver f (us ++ (u ∷ [])) ≡ sumOver f us + f (u .block)
-unfolding sumOver
-sum-snoc f [] u = omega arith
-sum-snoc f (v ∷ us) u = omega (arith, sum-snoc f us u)
-
--- What a row counts for the uses of block k: nothing if it is none of them.
-module _ (f : ℕ → ℕ) (k : ℕ) (w : Row) (ws : List Row) where
-  no-use : w .kind ≢ 2 → usesTotal f k (w ∷ ws) ≡ usesTotal f k ws
-  unfolding usesTotal
-  no-use n = eq-else (w .kind) 2 _ _ n
-
-  other-use : Uses w → w .block ≢ k → usesTotal f k (w ∷ ws) ≡ usesTotal f k ws
-  unfolding usesTotal
-  other-use e n = eq-then (w .kind) 2 _ _ e ∙ eq-else (w .block) k _ _ n
-
-  this-use : Uses w → w .block ≡ k → usesTotal f k (w ∷ ws) ≡ f (w .label) + usesTotal f k ws
-  unfolding usesTotal
-  this-use e h = eq-then (w .kind) 2 _ _ e ∙ eq-then (w .block) k _ _ h
-
--- A row that opens block k, which has n own cues.
-pub record OpenedBy (xs : List ℕ) (k n : ℕ) : Type 0 where
+-- A row that opens block k, which is b.
+pub record OpenedBy (xs : List ℕ) (k : ℕ) (b : Block) : Type 0 where
   pub row : ℕ
   pub is : IsRow xs row
   pub opens : Opens (nthRow xs row)
   pub block : nthRow xs row .block ≡ k
-  pub own : n ≡ column (nthRow xs row) 1
+  pub joins : b .joins ≡ nthRow xs row .label
+  pub own : b .own ≡ column (nthRow xs row) 1
+
+-- Every block has one.
+abbrev AllOpened : List ℕ → List Block → Type 0
+AllOpened xs bs = (k : ℕ) → k < length bs → OpenedBy xs k (blockAt bs k)
+
+-- Another last block with the same joins and own cues is opened by the same row.
+opened-still : (xs : List ℕ) (b c : Block) (earlier : List Block) → AllOpened xs (b ∷ earlier) → c .joins ≡ b .joins → c .own ≡ b .own
+    → AllOpened xs (c ∷ earlier)
+opened-still xs b c earlier all j o k h = at (ℕ-discrete k (length earlier))
+  where
+    at : Dec (k ≡ length earlier) → OpenedBy xs k (blockAt (c ∷ earlier) k)
+    at (yes z) =
+        let by : OpenedBy xs k b = rw (block-hit b earlier k z) at (all k h) in
+        rw (block-hit c earlier k z)
+        (record { row = by .row; is = by .is; opens = by .opens; block = by .block; joins = j ∙ by .joins; own = o ∙ by .own })
+    at (no n) = rw (block-skip c earlier k n) (rw (block-skip b earlier k n) at (all k h))
 
 -- The blocks bs become cs, and of the rows ws that are to come vs are left.
 record Makes (xs : List ℕ) (bs : List Block) (ws : List Row) (cs : List Block) (vs : List Row) : Type 0 where
-  longer : length bs ≤ length cs
-  own : (k : ℕ) → k < length bs → ownOf cs k ≡ ownOf bs k
-  opened : (k : ℕ) → length bs ≤ k → k < length cs → OpenedBy xs k (ownOf cs k)
-  uses : (f : ℕ → ℕ) (k : ℕ) → sumAt f cs k + usesTotal f k vs ≡ sumAt f bs k + usesTotal f k ws
+  opened : AllOpened xs cs
+  links : Goes link-part bs ws cs vs
+  uses : Goes (use-part (joinsIn xs)) bs ws cs vs
 
--- No row, and some rows after others.
-makes-none : (xs : List ℕ) (bs : List Block) (ws : List Row) → Makes xs bs ws bs ws
-makes-none xs bs ws = record { longer = omega arith; own = λ k h. refl; opened = λ k a b. absurd (omega arith); uses = λ f k. refl }
+-- Of rows that have passed.
+module _ (xs : List ℕ) (passed : RowsPassed xs) where
+  -- The row that opens a block is the first that does, so the block's joins and own cues are those that the rows say.
+  module _ (k : ℕ) (b : Block) (o : OpenedBy xs k b) where
+    opening-is : openingIn (rowsOf xs) k ≡ nthRow xs (o .row)
+    opening-is =
+        ap (openingIn (rowsOf xs)) (sym (o .block)) ∙ passed .knows .first (o .row) (o .is .0) (omega (arith, o .is)) (o .opens)
 
-makes-then : (xs : List ℕ) (bs cs ds : List Block) (us vs ws : List Row) → Makes xs bs us cs vs → Makes xs cs vs ds ws → Makes xs bs us ds ws
-makes-then xs bs cs ds us vs ws m n =
-    record {
-      longer = omega (arith, m .longer, n .longer);
-      own = λ k h. n .own k (omega (arith, m .longer)) ∙ m .own k h;
-      opened = λ k a b. at k a b (decLt k (length cs));
-      uses = λ f k. n .uses f k ∙ m .uses f k;
-    }
-  where
-    at : (k : ℕ) → length bs ≤ k → k < length ds → Dec (k < length cs) → OpenedBy xs k (ownOf ds k)
-    at k a b (yes h) = rw (n .own k h) (m .opened k a h)
-    at k a b (no h) = n .opened k (omega arith) b
+    joins-is : b .joins ≡ joinsIn xs k
+    unfolding joinsIn
+    joins-is = o .joins ∙ ap (λ (w : Row). w .label) (sym opening-is)
 
--- What row p makes of the blocks before it.
-module _ (xs : List ℕ) (p : ℕ) (i : IsRow xs p) (ws : List Row) where
-  abbrev w : Row
-  w = nthRow xs p
+    own-is : b .own ≡ ownIn xs k
+    unfolding ownIn
+    own-is = o .own ∙ ap (λ (w : Row). column w 1) (sym opening-is)
 
-  -- The blocks up to its own.
-  abbrev Next : List Block → List Block → Type 0
-  Next bs cs = (length cs ≡ suc (w .block)) × Makes xs bs (w ∷ ws) cs ws
+  -- What row p makes of the blocks before it.
+  module _ (p : ℕ) (i : IsRow xs p) (ws : List Row) where
+    abbrev w : Row
+    w = nthRow xs p
 
-  -- A new block.
-  makes-block : (b : Block) (bs : List Block) → Opens w → w .block ≡ length bs → b .own ≡ column w 1 → b .uses ≡ [] → Next bs (b ∷ bs)
-  unfolding sumOver
-  makes-block b bs q e o none = (
-    omega arith,
-    record {
-      longer = omega arith;
-      own = λ k h. ownOf-skip b bs k (ne-eqb k _ (λ z. omega arith));
-      opened = λ k a l. let z : k ≡ length bs = omega arith in
-          record { row = p; is = i; opens = q; block = e ∙ sym z; own = ownOf-hit b bs k (eq-eqb k _ z) ∙ o };
-      uses = λ f k. uses f k (ℕ-discrete k (length bs));
-    },
-  )
-    where
-      uses : (f : ℕ → ℕ) (k : ℕ) → Dec (k ≡ length bs) → sumAt f (b ∷ bs) k + usesTotal f k ws ≡ sumAt f bs k + usesTotal f k (w ∷ ws)
-      uses f k (yes z) = rw (sum-hit f b bs k z, none, sum-beyond f bs k (omega arith), no-use f k w ws (λ z. omega arith))
-      uses f k (no n) = rw (sum-skip f b bs k n, no-use f k w ws (λ z. omega arith))
+    -- The blocks up to its own.
+    abbrev Next : List Block → List Block → Type 0
+    Next bs cs = (length cs ≡ suc (w .block)) × Makes xs bs (w ∷ ws) cs ws
 
-  -- Another last block, with the same own cues,
-  makes-last : (b c : Block) (earlier : List Block) → w .block ≡ length earlier → c .own ≡ b .own
-      → ((f : ℕ → ℕ) → sumOver f (c .uses) + usesTotal f (w .block) ws ≡ sumOver f (b .uses) + usesTotal f (w .block) (w ∷ ws))
-      → ((f : ℕ → ℕ) (k : ℕ) → w .block ≢ k → usesTotal f k (w ∷ ws) ≡ usesTotal f k ws)
-      → Next (b ∷ earlier) (c ∷ earlier)
-  makes-last b c earlier e o here there = (
-    omega arith,
-    record {
-      longer = omega arith;
-      own = λ k h. own k (ℕ-discrete k (length earlier));
-      opened = λ k a l. absurd (omega arith);
-      uses = λ f k. uses f k (ℕ-discrete (w .block) k);
-    },
-  )
-    where
-      own : (k : ℕ) → Dec (k ≡ length earlier) → ownOf (c ∷ earlier) k ≡ ownOf (b ∷ earlier) k
-      own k (yes z) = ownOf-hit c earlier k (eq-eqb k _ z) ∙ o ∙ sym (ownOf-hit b earlier k (eq-eqb k _ z))
-      own k (no n) = ownOf-skip c earlier k (ne-eqb k _ n) ∙ sym (ownOf-skip b earlier k (ne-eqb k _ n))
+    -- A new block.
+    makes-block : (b : Block) (bs : List Block) → AllOpened xs bs → Opens w → w .block ≡ length bs → b .joins ≡ w .label → b .own ≡ column w 1
+        → b .links ≡ [] → b .uses ≡ [] → Next bs (b ∷ bs)
+    unfolding link-part use-part
+    makes-block b bs all q e j o no-links no-uses = (
+      omega arith,
+      record {
+        opened = λ k h. at k h (ℕ-discrete k (length bs));
+        links = part-opens link-part w ws b bs (λ z. omega arith) no-links;
+        uses = part-opens (use-part (joinsIn xs)) w ws b bs (λ z. omega arith) no-uses;
+      },
+    )
+      where
+        at : (k : ℕ) → k < length (b ∷ bs) → Dec (k ≡ length bs) → OpenedBy xs k (blockAt (b ∷ bs) k)
+        at k h (yes z) = rw (block-hit b bs k z) (record { row = p; is = i; opens = q; block = e ∙ sym z; joins = j; own = o })
+        at k h (no n) = rw (block-skip b bs k n) (all k (omega arith))
 
-      uses : (f : ℕ → ℕ) (k : ℕ) → Dec (w .block ≡ k)
-          → sumAt f (c ∷ earlier) k + usesTotal f k ws ≡ sumAt f (b ∷ earlier) k + usesTotal f k (w ∷ ws)
-      uses f k (yes z) = rw (← z, sum-hit f c earlier (w .block) e, sum-hit f b earlier (w .block) e) (here f)
-      uses f k (no n) =
-          let m : k ≢ length earlier = λ z. n (omega arith) in
-          rw (sum-skip f c earlier k m, sum-skip f b earlier k m, there f k n)
+    -- A link more in the last block,
+    makes-link : (l : Link) (bs : List Block) → AllOpened xs bs → Links w → w .block + 1 ≡ length bs → l ≡ link-part .item w
+        → Next bs (addLink l bs)
+    unfolding addLink link-part use-part
+    makes-link l [] all q h e = absurd (omega arith)
+    makes-link l (b ∷ earlier) all q h e = (
+      omega arith,
+      record {
+        opened = opened-still xs b _ earlier all refl refl;
+        links = part-grows link-part w ws b _ earlier (omega arith) q (rw e);
+        uses = part-stays (use-part (joinsIn xs)) w ws b _ earlier (omega arith) (λ z. omega arith) refl;
+      },
+    )
 
-  -- by a link,
-  makes-link : (l : Link) (bs : List Block) → Links w → w .block + 1 ≡ length bs → Next bs (addLink l bs)
-  unfolding addLink
-  makes-link l [] q h = absurd (omega arith)
-  makes-link l (b ∷ earlier) q h =
-      makes-last b _ earlier (omega arith) refl (λ f. rw (no-use f (w .block) w ws (λ z. omega arith))) (λ f k _. no-use f k w ws (λ z. omega arith))
+    -- or a use more.
+    makes-use : (u : Use) (bs : List Block) → AllOpened xs bs → Uses w → w .block + 1 ≡ length bs → u ≡ use-part (joinsIn xs) .item w
+        → Next bs (addUse u bs)
+    unfolding addUse link-part use-part
+    makes-use u [] all q h e = absurd (omega arith)
+    makes-use u (b ∷ earlier) all q h e = (
+      omega arith,
+      record {
+        opened = opened-still xs b _ earlier all refl refl;
+        links = part-stays link-part w ws b _ earlier (omega arith) (λ z. omega arith) refl;
+        uses = part-grows (use-part (joinsIn xs)) w ws b _ earlier (omega arith) q (rw e);
+      },
+    )
 
-  -- or by a use.
-  makes-use : (u : Use) (bs : List Block) → Uses w → w .block + 1 ≡ length bs → u .block ≡ w .label → Next bs (addUse u bs)
-  unfolding addUse
-  makes-use u [] q h e = absurd (omega arith)
-  makes-use u (b ∷ earlier) q h e =
-      makes-last b _ earlier (omega arith) refl
-      (λ f. rw (sum-snoc f (b .uses) u, e, this-use f (w .block) w ws q refl) (omega arith))
-      (λ f k n. other-use f k w ws q n)
+    -- A use names a lower block, whose joins are known.
+    use-is : (bs : List Block) → AllOpened xs bs → Uses w → w .block + 1 ≡ length bs
+        → _≡_ {A = Use} (record { block = w .label; at = take (joinsOf bs (w .label)) (w .columns) }) (use-part (joinsIn xs) .item w)
+    unfolding use-part
+    use-is bs all q h =
+        let l : w .label < length bs = omega (arith, passed .lower p i q) in
+        ap (λ (n : ℕ). record { block = w .label; at = take n (w .columns) })
+        (joinsOf-at bs (w .label) ∙ joins-is (w .label) (blockAt bs (w .label)) (all (w .label) l))
 
-  -- What it makes if it stands in its place.
-  row-makes : (bs : List Block) → Comes xs p (length bs) → Next bs (addRow bs w)
-  unfolding addRow
-  row-makes bs (opening q h) = rw (eq-then (w .kind) 0 _ _ q) (makes-block _ bs q h refl refl)
-  row-makes bs (link q h l m) = rw (eq-else (w .kind) 0 _ _ (λ z. omega arith), eq-then (w .kind) 1 _ _ q) (makes-link _ bs q h)
-  row-makes bs (later-use q h l) =
-      rw (eq-else (w .kind) 0 _ _ (λ z. omega arith), eq-else (w .kind) 1 _ _ (λ z. omega arith)) (makes-use _ bs q h refl)
+    -- What it makes since it stands in its place.
+    row-makes : (bs : List Block) → AllOpened xs bs → Comes xs p (length bs) → Next bs (addRow bs w)
+    unfolding addRow link-part
+    row-makes bs all (opening q h) = rw (eq-then (w .kind) 0 _ _ q) (makes-block _ bs all q h refl refl refl refl)
+    row-makes bs all (link q h l m) =
+        rw (eq-else (w .kind) 0 _ _ (λ z. omega arith), eq-then (w .kind) 1 _ _ q) (makes-link _ bs all q h refl)
+    row-makes bs all (later-use q h l) =
+        rw (eq-else (w .kind) 0 _ _ (λ z. omega arith), eq-else (w .kind) 1 _ _ (λ z. omega arith)) (makes-use _ bs all q h (use-is bs all q h))
 
--- What rows in their places make.
-module _ (xs : List ℕ) (place : (q : ℕ) → IsRow xs q → InPlace xs q) where
   -- The rows from row p on.
   abbrev MakesFrom : ℕ → List Row → Type 0
-  MakesFrom p ws = (bs : List Block) → OpenedBefore xs p (length bs) → Makes xs bs ws (addRows bs ws) []
+  MakesFrom p ws = (bs : List Block) → AllOpened xs bs → OpenedBefore xs p (length bs) → Makes xs bs ws (addRows bs ws) []
 
   -- Row p and those behind it,
   row-first : (p : ℕ) (ws : List Row) → IsRow xs p → MakesFrom (suc p) ws → MakesFrom p (nthRow xs p ∷ ws)
   unfolding addRows
-  row-first p ws i below bs o =
-      let (n, m) = row-makes xs p i ws bs (from-place xs p (length bs) (i .0) o (place p i)) in
-      makes-then xs bs _ _ _ ws [] m (below _ (opened-next xs p _ (i .0) n))
+  row-first p ws i below bs all o =
+      let (n, m) = row-makes p i ws bs all (from-place xs p (length bs) (i .0) o (passed .place p i)) in
+      let t = below (addRow bs (nthRow xs p)) (m .opened) (opened-next xs p _ (i .0) n) in
+      record { opened = t .opened; links = λ k. t .links k ∙ m .links k; uses = λ k. t .uses k ∙ m .uses k }
 
   -- no rows,
   rows-done : (p : ℕ) → MakesFrom p []
   unfolding addRows
-  rows-done p bs o = makes-none xs bs []
+  rows-done p bs all o = record { opened = all; links = λ k. refl; uses = λ k. refl }
 
   -- and all rows, from no blocks.
   rows-make : Makes xs [] (rowsOf xs) (blocksOf xs) []
   unfolding blocksOf
-  rows-make = by-rows xs MakesFrom (rows-done _) row-first [] (λ e. refl, λ l. absurd (omega arith))
+  rows-make = by-rows xs MakesFrom (rows-done _) row-first [] (λ k h. absurd (omega arith)) (λ e. refl, λ l. absurd (omega arith))
 
-  -- The uses of a block are its use rows.
-  pub uses-are : (f : ℕ → ℕ) (k : ℕ) → sumAt f (blocksOf xs) k ≡ usesTotal f k (rowsOf xs)
-  unfolding usesTotal
-  uses-are f k = omega (arith, rows-make .uses f k, sum-beyond f [] k (omega arith))
+  -- Every block has a row that opens it.
+  pub opening-of : AllOpened xs (blocksOf xs)
+  opening-of = rows-make .opened
 
-  -- Every block has a row that opens it, and the own cues which that says.
-  pub opening-of : (n : ℕ) → n < length (blocksOf xs) → OpenedBy xs n (ownOf (blocksOf xs) n)
-  opening-of n h = rows-make .opened n (omega arith) h
+  -- A block that a row opens is one of them.
+  pub opened-lower : (r : ℕ) → IsRow xs r → Opens (nthRow xs r) → nthRow xs r .block < length (blocksOf xs)
+  opened-lower r i o = omega (arith, passed .knows .lower r (i .0) (omega (arith, i)) o, passed .knows .tracks .count)
+
+  -- The blocks are those of the rows.
+  pub blocks-are : AreBlocks xs (blocksOf xs)
+  unfolding link-part use-part
+  blocks-are =
+      record {
+        many = let e : suc (rowCount xs) - 1 ≡ rowCount xs = omega arith in
+            sym (passed .knows .tracks .count) ∙ rw e at (passed .knows .count .1 (omega (arith, passed .some)));
+        joins = λ k h. joins-is k _ (opening-of k h);
+        own = λ k h. own-is k _ (opening-of k h);
+        links = λ k h. part-whole link-part (rowsOf xs) (blocksOf xs) (rows-make .links) k;
+        uses = λ k h. part-whole (use-part (joinsIn xs)) (rowsOf xs) (blocksOf xs) (rows-make .uses) k;
+      }

@@ -10,12 +10,15 @@ pub mod Following
 pub mod Sentences
 pub mod Stages
 pub mod RowByRow
+pub mod PartsOfRows
 pub mod BlocksOfRows
 pub mod TotalsOfRows
 pub mod BlockByBlock
 pub mod Together
 pub mod Acceptance
+pub mod Blocks
 pub mod Checking
+pub mod Words
 -- files
 pub mod Files
 pub mod Breaks

@@ -2,7 +2,7 @@
 use Prim.Native.Nat.{ℕ, _≤_, _<_}
 use native.Mathlib.Omega.{arith}
 use native.Mathlib.Decide.{ℕ-discrete}
-use mathlib.Core.Path.{_≡_, _∙_, ap, ap₂}
+use mathlib.Core.Path.{_≡_, sym, _∙_, ap, ap₂}
 use mathlib.Core.Logic.{_⊎_, inl, inr, _≢_}
 use mathlib.Core.List.{List, [], _∷_, List·Memᴰ}
 use lib.ListN.{length, getD, take, length-map}
@@ -32,6 +32,7 @@ use Rattle.demands.specs.Asking.{AsksCount, AsksLocate, AsksNumber}
 use Rattle.demands.specs.Numbers.{node, Before, IsCount, IsNumber, IsLocated}
 use Rattle.demands.proofs.Buffers.{leaves}
 use Rattle.demands.proofs.Outcomes.{on-yes, has-room, has-cue}
+use Rattle.demands.proofs.Blocks.{rows-totals, count-total}
 use Rattle.demands.proofs.Rearranging.{perm-length}
 use Rattle.demands.proofs.NumberOrder.{number-order}
 use Rattle.demands.proofs.Nodes.{numbered-cue, cue-numbered}
@@ -121,10 +122,15 @@ module _ (xs : List ℕ) (v : verdict xs ≡ Accepted) where
   unfolding countAsked
   is-count r e =
       record {
-        cues = count (blocksOf xs);
         answer = count-given r (count (blocksOf xs)) (e ∙ on-yes (verdict xs) _ _ v);
-        all = λ g. perm-length (unfolded .cues g) ∙ length-map (range 1 (count (blocksOf xs))) _ ∙ range-length 1 (count (blocksOf xs));
+        totals = rows-totals xs v;
+        total = count-total xs v;
+        cues = λ g. perm-length (unfolded .cues g) ∙ length-map (range 1 (count (blocksOf xs))) _ ∙ range-length 1 (count (blocksOf xs));
       }
+
+  number-is : (path : List ℕ) (c n : ℕ) → numberOf path c ≡ n → n ≡ nodeNumber (blocksOf xs) (node path c)
+  unfolding nodeNumber
+  number-is path c n e = sym e
 
   -- A number that number gives is that of the path and the own cue.
   given-is : (path : List ℕ) (c n : ℕ) → AsksNumber xs path c (Number n) → (numberOf path c ≡ n) × (n ≢ 0)
@@ -162,6 +168,7 @@ module _ (xs : List ℕ) (v : verdict xs ≡ Accepted) where
       record {
         exactly = λ g. (λ q. has-number g path c (some (q .0) (q .1)), λ i. found (is-cue g path c i));
         refused = either;
+        number = λ n q. number-is path c n (named n q);
         range = λ n q. in-range path c n (named n q) (some′ n q);
         back = λ n q lent after a room f. leads-back path c n (named n q) (some′ n q) lent after a room f;
         in-order = λ m q way d n f o. rises m q way d n f o;

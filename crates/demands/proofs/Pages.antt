@@ -10,7 +10,7 @@ use Rattle.model.specs.declared.ListAnswer.{ListAnswer}
 use Rattle.model.specs.declared.ListAnswer.the-variants.{Page}
 use Rattle.basics.proofs.Members.{getD-mem}
 use Rattle.demands.specs.Lists.{Smallest, IsList, Pages, one-page, one-more-page, ArePages}
-use Rattle.demands.proofs.Rising.{not-in, rising-append, rising-last}
+use Rattle.demands.proofs.Rising.{not-in, rising-append, rising-last, rising-few}
 
 module _ (Linked : ℕ → Type 0) where
   -- Where no further one exists, all are there.
@@ -115,12 +115,16 @@ module _ (Linked : ℕ → Type 0) where
     asked-some (one-page h a) = omega arith
     asked-some (one-more-page p h a) = omega arith
 
-    pub are-pages : {n many : ℕ} {cues : List ℕ} {more : Bool} → Pages Asks n many cues more → ArePages Linked n many cues more
-    are-pages {n} (one-page {page = page} {after = after} {written = written} {more = more} h a) =
+    -- What so many pages have written: while there is more, one cue at least for each page.
+    record Came (n many : ℕ) (cues : List ℕ) (more : Bool) : Type 0 where
+      smallest : Smallest Linked n cues more
+      some : more ≡ true → many ≤ length cues
+
+    came : {n many : ℕ} {cues : List ℕ} {more : Bool} → Pages Asks n many cues more → Came n many cues more
+    came {n} (one-page {page = page} {after = after} {written = written} {more = more} h a) =
         let w : Wrote n (take written after) more = wrote n page after written more h (lists n page after (Page written more) a) in
-        record { smallest = w .smallest; ends = w .some; whole = whole n (take written after) more (w .smallest) }
-    are-pages {n} (one-more-page {many = many} {cues = cues} {page = page} {after = after} {written = written} {more = more} p h a) =
-        go (are-pages p)
+        record { smallest = w .smallest; some = w .some }
+    came {n} (one-more-page {many = many} {cues = cues} {page = page} {after = after} {written = written} {more = more} p h a) = go (came p)
       where
         last : ℕ
         last = getD cues (length cues - 1) 0
@@ -128,12 +132,25 @@ module _ (Linked : ℕ → Type 0) where
         w : Wrote last (take written after) more
         w = wrote last page after written more h (lists last page after (Page written more) a)
 
-        go : ArePages Linked n many cues true → ArePages Linked n (suc many) (cues ++ take written after) more
+        go : Came n many cues true → Came n (suc many) (cues ++ take written after) more
         go q =
-            let long : many ≤ length cues = q .ends refl in
-            let s = both n cues (take written after) more (omega (arith, asked-some p)) (q .smallest) (w .smallest) in
+            let long : many ≤ length cues = q .some refl in
             record {
-              smallest = s;
-              ends = λ e. rw (length-append cues (take written after)) (omega (arith, w .some e));
-              whole = whole n (cues ++ take written after) more s;
+              smallest = both n cues (take written after) more (omega (arith, asked-some p)) (q .smallest) (w .smallest);
+              some = λ e. rw (length-append cues (take written after)) (omega (arith, w .some e));
             }
+
+    pub are-pages : {n many : ℕ} {cues : List ℕ} {more : Bool} → Pages Asks n many cues more → ArePages Linked n many cues more
+    are-pages {n} {many} {cues} {more} p =
+        let c : Came n many cues more = came p in
+        let s : Smallest Linked n cues more = c .smallest in
+        record {
+          smallest = s;
+          ends = λ e most h.
+              omega (
+                arith,
+                c .some e,
+                rising-few 0 most (s .rising) (λ y i. omega (arith, s .above y i)) (λ y i. h y (s .linked y i)) (omega arith),
+              );
+          whole = whole n cues more s;
+        }

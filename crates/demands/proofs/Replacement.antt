@@ -2,7 +2,7 @@
 -- unfolded show. At every point of a run, what is done and what the uses that stand are still to bring is the whole show.
 use Prim.Native.Nat.{ℕ, suc, _+_, _≤_}
 use native.Mathlib.Omega.{arith}
-use mathlib.Core.Path.{_≡_, refl, sym, _∙_, ap}
+use mathlib.Core.Path.{_≡_, refl, sym}
 use mathlib.Core.Logic.{_⊎_, inl, inr}
 use mathlib.Core.List.{List, [], _∷_, _++_, map, map-append, flatMap, append-nil, List·Permᴰ, List·Permᴰ·trans, Permᴰ·refl, List·Memᴰ, List·Memᴰ·head, List·Memᴰ·tail, List·Memᴰ·not-nil, List·Memᴰ·eq-of-singleton, List·Memᴰ·append-cases, Memᴰ·append-left, Memᴰ·append-right}
 use lib.ListN.{length}
@@ -14,7 +14,7 @@ use Rattle.shows.specs.WellFormed.{Good}
 use Rattle.shows.specs.Copies.{after, ends}
 use Rattle.shows.proofs.Locality.{show-links-at, show-count}
 use Rattle.shows.proofs.Ranges.{Within, inner, join, links-within}
-use Rattle.demands.specs.Replacement.{Edge, Standing, Graph, nodesOf, Step, Run, stay, then, begin, copies, nodeNumber, nodeAt, numbered, Ended, Unfolds}
+use Rattle.demands.specs.Replacement.{Edge, Standing, Graph, nodesOf, Step, Run, stay, then, begin, copies, nodeAt, byNumbers, Ended, Unfolds}
 use Rattle.demands.proofs.Rearranging.{perm-mem, replaced}
 use Rattle.demands.proofs.Counts.{copies-at, left, left-append, left-standing}
 use Rattle.demands.proofs.Standing.{linksFor, cuesFor, Stands, new, split-links, split-cues, new-stands}
@@ -22,7 +22,7 @@ use Rattle.demands.proofs.Nodes.{number-back, numbered-cue}
 
 -- What holds after n steps.
 record Kept (bs : List Block) (n : ℕ) (g : Graph) : Type 0 where
-  links : List·Permᴰ (map (numbered bs) (g .links) ++ flatMap (linksFor bs) (g .uses)) (showLinks bs)
+  links : List·Permᴰ (map (byNumbers bs) (g .links) ++ flatMap (linksFor bs) (g .uses)) (showLinks bs)
   cues : List·Permᴰ (g .cues ++ flatMap (cuesFor bs) (g .uses)) (map (nodeAt bs) (range 1 (count bs)))
   number : n + left bs (g .uses) ≡ copies bs (lastBlock bs)
   each : (u : Standing) → List·Memᴰ u (g .uses) → Stands bs u
@@ -64,10 +64,10 @@ module _ (bs : List Block) (good : Good bs) where
         rw (s .uses)
         (List·Permᴰ·trans (replaced f done own (s .before) (s .chosen) (s .after) (new bs good stands) e) (rw (s .stood) at p))
 
-    step-links : List·Permᴰ (map (numbered bs) (h .links) ++ flatMap (linksFor bs) (h .uses)) (showLinks bs)
+    step-links : List·Permᴰ (map (byNumbers bs) (h .links) ++ flatMap (linksFor bs) (h .uses)) (showLinks bs)
     step-links =
-        rw (s .links, map-append (numbered bs) (g .links) _)
-        (brought (linksFor bs) (map (numbered bs) (g .links)) _ _ (split-links bs good stands) (k .links))
+        rw (s .links, map-append (byNumbers bs) (g .links) _)
+        (brought (linksFor bs) (map (byNumbers bs) (g .links)) _ _ (split-links bs good stands) (k .links))
 
     step-cues : List·Permᴰ (h .cues ++ flatMap (cuesFor bs) (h .uses)) (map (nodeAt bs) (range 1 (count bs)))
     step-cues = rw (s .cues) (brought (cuesFor bs) (g .cues) _ _ (split-cues bs good stands) (k .cues))
@@ -129,11 +129,11 @@ module _ (bs : List Block) (good : Good bs) where
 
   -- So a link that is left leads from a cue that is left to one.
   links-join : joinsOf bs (lastBlock bs) ≡ 0 → (g : Graph) → List·Permᴰ (g .cues) (map (nodeAt bs) (range 1 (count bs)))
-      → List·Permᴰ (map (numbered bs) (g .links)) (showLinks bs) → (e : Edge) → List·Memᴰ e (g .links)
+      → List·Permᴰ (map (byNumbers bs) (g .links)) (showLinks bs) → (e : Edge) → List·Memᴰ e (g .links)
       → List·Memᴰ (e .from) (g .cues) × List·Memᴰ (e .to) (g .cues)
-  unfolding numbered
+  unfolding byNumbers
   links-join closed g cues links e i =
-      let (x, y) = link-numbers closed (numbered bs e) (perm-mem links (mem-map (numbered bs) i)) in
+      let (x, y) = link-numbers closed (byNumbers bs e) (perm-mem links (mem-map (byNumbers bs) i)) in
       (numbered-cue bs good cues (e .from) x, numbered-cue bs good cues (e .to) y)
 
 -- The demand.
@@ -146,7 +146,7 @@ unfolds bs good some closed =
       all = λ {n} {g} r.
           (λ e. omega (arith, kept r .number, over-left bs g e), λ e. none-left bs good (kept r) (omega (arith, kept r .number)));
       cues = cues;
-      once = λ m n a b c d e. sym (number-back bs good m a b) ∙ ap (nodeNumber bs) e ∙ number-back bs good n c d;
+      named = number-back bs good;
       links = links;
       ends-in = λ {n} {g} e. links-join bs good closed g (cues e) (links e);
     }
@@ -157,5 +157,5 @@ unfolds bs good some closed =
     cues : {n : ℕ} {g : Graph} → Ended bs n g → List·Permᴰ (g .cues) (map (nodeAt bs) (range 1 (count bs)))
     cues e = rw append-nil at (rw (e .over) at (kept (e .run) .cues))
 
-    links : {n : ℕ} {g : Graph} → Ended bs n g → List·Permᴰ (map (numbered bs) (g .links)) (showLinks bs)
+    links : {n : ℕ} {g : Graph} → Ended bs n g → List·Permᴰ (map (byNumbers bs) (g .links)) (showLinks bs)
     links e = rw append-nil at (rw (e .over) at (kept (e .run) .links))

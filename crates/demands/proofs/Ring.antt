@@ -13,7 +13,7 @@ use Rattle.model.specs.Unfolding.{cueAt, renamed, usesLinks, links, showLinks}
 use Rattle.model.specs.Paths.{ownNumber, usesNumber, copyNumber, numberIn, nowhere, stepThen, usesPlace, placeIn}
 use Rattle.model.specs.Lists.{range}
 use Rattle.model.specs.Ring.{ring}
-use Rattle.demands.specs.Replacement.{Node, Edge, Standing, Graph, ownNodes, nodesOf, nth, edge, standing, Step, stay, then, begin, Ended, nodeNumber, nodeAt, numbered}
+use Rattle.demands.specs.Replacement.{Node, Edge, Standing, Graph, ownNodes, nodesOf, nth, edge, standing, Step, stay, then, begin, Ended, nodeNumber, nodeAt, byNumbers}
 use Rattle.demands.specs.Numbers.{node, Before, own-order, own-first, use-order, same-use}
 
 -- How often a thing stands in a list, and that two lists have each thing as often.
@@ -134,8 +134,8 @@ ring-ended : Ended bs 4 after-4
 ring-ended = record { run = then (then (then (then stay step-1) step-2) step-3) step-4; over = refl }
 
 -- "its links, each cue replaced by its number", are those of the unfolded show; its cues have the numbers 1 to the count.
-ring-links : alike same-link (map (numbered bs) (after-4 .links)) (showLinks bs) ≡ true
-unfolding alike as-often times same-link numbered nodeNumber ifLt ifEq ifTrue sumOver total lastBlock cueAt renamed usesLinks links showLinks ownNumber usesNumber copyNumber numberIn
+ring-links : alike same-link (map (byNumbers bs) (after-4 .links)) (showLinks bs) ≡ true
+unfolding alike as-often times same-link byNumbers nodeNumber ifLt ifEq ifTrue sumOver total lastBlock cueAt renamed usesLinks links showLinks ownNumber usesNumber copyNumber numberIn
 ring-links = refl
 
 ring-cues : alike eqb (map (nodeNumber bs) (after-4 .cues)) (range 1 (count bs)) ≡ true

@@ -1,5 +1,5 @@
--- Rising lists: cut in two, laid one behind the other, and their last number.
-use Prim.Native.Nat.{ℕ, _-_, _≤_, _<_}
+-- Rising lists: cut in two, laid one behind the other, their last number, and how many numbers they have.
+use Prim.Native.Nat.{ℕ, _+_, _-_, _≤_, _<_}
 use native.Mathlib.Omega.{arith}
 use native.Mathlib.Decide.{decLt}
 use mathlib.Core.Path.{_≡_, refl}
@@ -57,3 +57,11 @@ rising-last xs r w i = let (j, h, e) = mem-at w i in go j h e (decLt j (length x
 -- A number greater than all of a list is not in it.
 pub not-in : (u : ℕ) (xs : List ℕ) → ((w : ℕ) → List·Memᴰ w xs → w < u) → List·Memᴰ u xs → ⊥
 not-in u xs h i = omega (arith, h u i)
+
+-- A rising list of numbers from n + 1 up to some most has no more of them than lie between.
+pub rising-few : (n most : ℕ) {xs : List ℕ} → Rising xs → ((y : ℕ) → List·Memᴰ y xs → n < y) → ((y : ℕ) → List·Memᴰ y xs → y ≤ most)
+    → n ≤ most → n + length xs ≤ most
+rising-few n most none low high h = omega arith
+rising-few n most (more {x} {xs} above r) low high h =
+    let first : List·Memᴰ x (x ∷ xs) = List·Memᴰ·head refl in
+    omega (arith, low x first, rising-few x most r above (λ y i. high y (List·Memᴰ·tail i)) (high x first))

@@ -1,5 +1,5 @@
 -- Checks 5 to 8 of a row in their order, and of all rows.
-use Prim.Native.Nat.{ℕ, zero, suc, _<_}
+use Prim.Native.Nat.{ℕ, zero, suc, _≤_, _<_}
 use native.Mathlib.Omega.{arith}
 use native.Mathlib.Decide.{ℕ-discrete}
 use mathlib.Core.Path.{_≡_, refl, sym, _∙_}
@@ -10,19 +10,19 @@ use lib.ListN.{length}
 use Rattle.model.specs.Choice.{ifTrue}
 use Rattle.model.specs.Rows.{Row, rowCount, rowsOf}
 use Rattle.model.specs.Rules.{Seen, start, mayFollow, named, inRange, distinct, inOrder, fault, after}
-use Rattle.model.specs.Blocks.{Block, addRow, addRows}
+use Rattle.model.specs.Blocks.{Block, addRow, addRows, blocksOf}
 use Rattle.model.specs.Verdicts.{refused, checkRows}
 use Rattle.model.specs.declared.Verdict.the-variants.{Accepted}
 use Rattle.basics.proofs.Choices.{true-then, true-else}
 use Rattle.shows.proofs.Accepted.{not-accepted}
-use Rattle.demands.specs.Acceptance.{nthRow, IsRow, Check, LooksAt, Keeps, refusalNumber, turn}
+use Rattle.demands.specs.Acceptance.{nthRow, IsRow, Uses, InPlace, Check, LooksAt, Keeps, refusalNumber, turn}
 use Rattle.demands.specs.Acceptance.{Length, Sequence, Ranges, Repeats, Order, Ends, Totals}
 use Rattle.demands.proofs.Tests.{Says, decided}
 use Rattle.demands.proofs.Openings.{Comes, from-place}
 use Rattle.demands.proofs.Knows.{Knows, knows-start, knows-next}
 use Rattle.demands.proofs.Following.{sequence}
 use Rattle.demands.proofs.Sentences.{ranges, repeats, order}
-use Rattle.demands.proofs.Stages.{numbers, same-check, Stage, at-end, go-on, stop, by-rows}
+use Rattle.demands.proofs.Stages.{numbers, same-check, Stage, passes, fails, at-end, go-on, stop, by-rows}
 
 -- The checks of a row with numbers below n find nothing.
 abbrev KeptBelow : List ℕ → ℕ → ℕ → Type 0
@@ -90,7 +90,7 @@ row-fails s p w ws (suc n) h f = rw (f, checkRows)
 -- What the checks of the rows from row p on say; and if nothing, what is known at the end.
 pub record RowsSay (xs : List ℕ) (s : Seen) (bs : List Block) (p : ℕ) (ws : List Row) : Type 0 where
   pub stage : Stage xs 1 p (checkRows s p ws)
-  pub known : checkRows s p ws ≡ Accepted → (t : Seen) × Knows xs (suc (rowCount xs)) t (addRows bs ws)
+  known : checkRows s p ws ≡ Accepted → (t : Seen) × Knows xs (suc (rowCount xs)) t (addRows bs ws)
 
 -- Of row p and those behind it.
 row-first : (xs : List ℕ) (p : ℕ) (s : Seen) (bs : List Block) → IsRow xs p → Knows xs p s bs → (ws : List Row)
@@ -124,3 +124,27 @@ rows-say xs =
     start
     []
     (knows-start xs)
+
+-- What is known when all rows have passed: what the checks carry, that the rows stand in their places, and that uses name lower blocks.
+pub record RowsPassed (xs : List ℕ) : Type 0 where
+  pub some : 1 ≤ rowCount xs
+  pub seen : Seen
+  pub knows : Knows xs (suc (rowCount xs)) seen (blocksOf xs)
+  pub place : (q : ℕ) → IsRow xs q → InPlace xs q
+  pub lower : (q : ℕ) → IsRow xs q → Uses (nthRow xs q) → nthRow xs q .label < nthRow xs q .block
+
+-- The checks of all rows, passed, say so.
+pub rows-passed : (xs : List ℕ) → 1 ≤ rowCount xs → checkRows start 1 (rowsOf xs) ≡ Accepted → RowsPassed xs
+unfolding blocksOf turn
+rows-passed xs some ok = go (rows-say xs .stage) (rows-say xs .known ok)
+  where
+    go : Stage xs 1 1 (checkRows start 1 (rowsOf xs)) → (t : Seen) × Knows xs (suc (rowCount xs)) t (blocksOf xs) → RowsPassed xs
+    go (passes e all) (s, k) =
+        record {
+          some = some;
+          seen = s;
+          knows = k;
+          place = λ q i. all Sequence q refl (i .0) i .0;
+          lower = λ q i u. all Ranges q refl (i .0) i .2 u .lower;
+        }
+    go (fails c q e h l n f) k = absurd (not-accepted _ q (sym e ∙ ok))

@@ -20,7 +20,7 @@ use Rattle.shows.proofs.Ranges.{cueAt-own, cueAt-join}
 use Rattle.shows.proofs.BlockAt.{good-at, total-at, links-at}
 use Rattle.shows.proofs.Numbering.{named}
 use Rattle.shows.proofs.Trails.{after-snoc, numberIn-at, number-after}
-use Rattle.demands.specs.Replacement.{Node, Standing, ownNodes, nodesOf, nth, edge, standing, nodeNumber, nodeAt, numbered}
+use Rattle.demands.specs.Replacement.{Node, Standing, ownNodes, nodesOf, nth, edge, standing, nodeNumber, nodeAt, byNumbers}
 use Rattle.demands.proofs.Rearranging.{ranges-alike, range-parts}
 use Rattle.demands.proofs.PutIn.{none, nth-own, nth-join, noUse, use-mem, stand, standing-at}
 
@@ -91,11 +91,11 @@ module _ (bs : List Block) (good : Good bs) where
             ∙ sym (cueAt-join (block .own) (s .base) (map (nodeNumber bs) (u .met)) c h)
 
     -- Its links.
-    own-edges : map (numbered bs) (map (edge cues) (block .links)) ≡ own-links copy
-    unfolding numbered edge renamed
-    own-edges = map-map (numbered bs) (edge cues) (block .links) ∙ map-same _ _ (block .links) alike
+    own-edges : map (byNumbers bs) (map (edge cues) (block .links)) ≡ own-links copy
+    unfolding byNumbers edge renamed
+    own-edges = map-map (byNumbers bs) (edge cues) (block .links) ∙ map-same _ _ (block .links) alike
       where
-        alike : (l : Link) → List·Memᴰ l (block .links) → numbered bs (edge cues l) ≡ renamed (number copy) l
+        alike : (l : Link) → List·Memᴰ l (block .links) → byNumbers bs (edge cues l) ≡ renamed (number copy) l
         alike l i =
             let g : GoodLink block l = good-at bs good (u .block) .links l i in
             ap₂ (λ (x y : ℕ). record { from = x; to = y; label = l .label }) (cue-number (l .from) (g .from .0)) (cue-number (l .to) (g .to .0))
@@ -165,7 +165,7 @@ module _ (bs : List Block) (good : Good bs) where
     new = standing cues (u .path) 1 (block .uses)
 
     pub split-links : linksFor bs u
-        ≡ map (numbered bs) (map (edge cues) (block .links)) ++ flatMap (linksFor bs) new
+        ≡ map (byNumbers bs) (map (edge cues) (block .links)) ++ flatMap (linksFor bs) new
     split-links =
         ap all-links (s .is)
         ∙ ap₂ _++_ (sym own-edges)

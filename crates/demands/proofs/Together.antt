@@ -9,18 +9,14 @@ use mathlib.Core.List.{List}
 use lib.ListN.{length}
 use Rattle.model.specs.Limits.{rowSize, maxRows}
 use Rattle.model.specs.Rows.{rowCount, rowsOf}
-use Rattle.model.specs.Rules.{Seen}
 use Rattle.model.specs.Blocks.{blocksOf}
 use Rattle.model.specs.Verdicts.{refused, andThen, checkLength, openingRows, checkBlocks, mayStand, totalFits, verdict}
 use Rattle.model.specs.declared.Verdict.{Verdict}
 use Rattle.model.specs.declared.Verdict.the-variants.{Accepted, Refused}
 use Rattle.basics.proofs.Choices.{eq-then, eq-else, lt-then, lt-else}
 use Rattle.demands.specs.Acceptance.{
-  IsRow,
-  InPlace,
   Check,
   Length,
-  Sequence,
   Ends,
   Totals,
   refusalNumber,
@@ -30,9 +26,8 @@ use Rattle.demands.specs.Acceptance.{
   Earlier,
   FirstBroken,
 }
-use Rattle.demands.proofs.Knows.{Knows}
 use Rattle.demands.proofs.Stages.{numbers, same-check, looks-at-row, Stage, passes, fails, go-on, stop}
-use Rattle.demands.proofs.RowByRow.{rows-say}
+use Rattle.demands.proofs.RowByRow.{rows-say, RowsPassed, rows-passed}
 use Rattle.demands.proofs.BlockByBlock.{Blockwise, blocks-say, ends, totals}
 
 -- Every check is kept at every place.
@@ -99,7 +94,7 @@ and-accepted Accepted = refl
 and-accepted (Refused r) = refl
 
 -- Checks 9 and 10, once all rows have passed.
-module _ (xs : List ℕ) (s : Seen) (k : Knows xs (suc (rowCount xs)) s (blocksOf xs)) (place : (q : ℕ) → IsRow xs q → InPlace xs q) where
+module _ (xs : List ℕ) (passed : RowsPassed xs) where
   ends-blockwise : Blockwise xs Ends (mayStand (blocksOf xs))
   unfolding turn refusalNumber
   ends-blockwise =
@@ -107,8 +102,8 @@ module _ (xs : List ℕ) (s : Seen) (k : Knows xs (suc (rowCount xs)) s (blocksO
         late = omega arith;
         alone = λ d z. same-check d Ends (numbers d .third z);
         looks = λ q. Iff·rfl;
-        says = ends xs place s k;
-        place = place;
+        says = ends xs passed;
+        place = passed .place;
       }
 
   totals-blockwise : Blockwise xs Totals (totalFits (blocksOf xs))
@@ -118,8 +113,8 @@ module _ (xs : List ℕ) (s : Seen) (k : Knows xs (suc (rowCount xs)) s (blocksO
         late = omega arith;
         alone = λ d z. same-check d Totals (numbers d .last z);
         looks = λ q. Iff·rfl;
-        says = totals xs place s k;
-        place = place;
+        says = totals xs passed;
+        place = passed .place;
       }
 
   -- Each of the two from the first row on,
@@ -137,15 +132,10 @@ module _ (xs : List ℕ) (s : Seen) (k : Knows xs (suc (rowCount xs)) s (blocksO
       (λ _ b. rw (and-accepted (checkBlocks 10 (totalFits (blocksOf xs)) 0 (openingRows 1 (rowsOf xs))))
       (stage-then xs 3 _ _ (blocks-stage Totals _ totals-blockwise) b (λ _ b. lawful refl (λ c p l. b c p (numbers c .few) l))))
 
--- Rows that have passed stand in their places.
-in-place : (xs : List ℕ) → KeptBefore xs 2 → (q : ℕ) → IsRow xs q → InPlace xs q
-unfolding turn
-in-place xs b q i = b Sequence q (omega arith) i .0
-
 -- All four.
 pub verdict-says : (xs : List ℕ) → VerdictSays xs (verdict xs)
-unfolding verdict blocksOf
+unfolding verdict turn
 verdict-says xs =
     stage-then xs 0 _ _ (length-says xs) (λ c p h. absurd (omega arith))
     (λ _ b. stage-then xs 1 _ _ (from-first xs 1 _ (omega arith) (rows-say xs .stage)) b
-    (λ e b. let (s, k) = rows-say xs .known e in blocks-then xs s k (in-place xs b) b))
+    (λ e b. blocks-then xs (rows-passed xs (b Length 0 (omega arith) refl .1) e) b))

@@ -84,6 +84,7 @@ pub is-written : (xs out after : List ℕ) (w : WriteAnswer) → AsksWrite xs ou
 unfolding answer
 is-written xs out after w e =
     record {
+      file = λ l. (fileText (rowsOf xs), says xs (accepted-exactly xs .1 l));
       answers = (λ (bytes, a). lawful bytes (wrote xs out after w e bytes a), λ (l, (f, s, h)). answers l f s h);
       given = λ bytes a. given bytes (wrote xs out after w e bytes a);
       no-room = (λ a. short a case, λ (l, h). refuses (accepted-exactly xs .1 l) h case);

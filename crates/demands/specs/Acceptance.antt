@@ -1,5 +1,5 @@
--- Which rows are a show: the sentences of document 01, "The show file", one by one, said of the rows themselves and not by the checks;
--- and which refusal is given for rows that break one. Rows are counted from 1.
+-- Which rows are a show: the sentences of document 01, "The show file" and, for the totals, "Unfolding", one by one, said of the rows themselves
+-- and not by the checks; and which refusal is given for rows that break one. Rows are counted from 1.
 use Prim.Native.Nat.{ℕ, suc, _+_, _-_, _%_, _≤_, _<_}
 use mathlib.Core.Path.{_≡_}
 use mathlib.Core.Logic.{_⊎_, _↔_, _≢_}
@@ -32,7 +32,7 @@ Links w = w .kind ≡ 1
 abbrev pub Uses : Row → Type 0
 Uses w = w .kind ≡ 2
 
--- The row that opens block k: the first of kind 0 that has its number. Where there is none, one of no block.
+-- The row that opens block k: the first of kind 0 that has its number. Where there is none, one with no joins and no own cue.
 unfoldable pub openingIn : List Row → ℕ → Row
 openingIn [] k = record { block = 0; kind = 0; label = 0; columns = [] }
 openingIn (w ∷ ws) k = ifEq (w .kind) 0 (ifEq (w .block) k w (openingIn ws k)) (openingIn ws k)
@@ -132,7 +132,7 @@ AreTotals xs T =
     (r : ℕ) → IsRow xs r → Opens (nthRow xs r)
     → T (nthRow xs r .block) ≡ ownIn xs (nthRow xs r .block) + usesTotal T (nthRow xs r .block) (rowsOf xs)
 
--- "No total may exceed 2,147,483,647." (Totals exist, and are the same whoever gives them: `totals-are` in the proofs.)
+-- "No total may exceed 2,147,483,647." (Where checks 4 to 8 pass, totals exist and are the same whoever gives them: `IsCount` in Numbers.)
 abbrev pub TotalFits : List ℕ → Row → Type 0
 TotalFits xs w = (T : ℕ → ℕ) → AreTotals xs T → T (w .block) ≤ maxTotal
 
@@ -140,7 +140,7 @@ TotalFits xs w = (T : ℕ → ℕ) → AreTotals xs T → T (w .block) ≤ maxTo
 pub record Lawful (xs : List ℕ) : Type 0 where
   pub whole : length xs % rowSize ≡ 0
   pub rows : (1 ≤ rowCount xs) × (rowCount xs ≤ maxRows)
-  pub order : (r : ℕ) → IsRow xs r → InPlace xs r
+  pub sequence : (r : ℕ) → IsRow xs r → InPlace xs r
   pub blocks : (r : ℕ) → IsRow xs r → FewBlocks (nthRow xs r)
   pub openings : (r : ℕ) → IsRow xs r → Opens (nthRow xs r) → OpeningFits (nthRow xs r)
   pub links : (r : ℕ) → IsRow xs r → Links (nthRow xs r) → LinkFits xs (nthRow xs r)
@@ -223,5 +223,5 @@ pub record FirstBroken (xs : List ℕ) (c : Check) (p : ℕ) : Type 0 where
 pub record ChecksRows (xs : List ℕ) (a : Returned) : Type 0 where
   -- Each of 4 to 10 with its place exactly if its sentence is the first that is broken,
   pub refused : (c : Check) (p : ℕ) → ((a .number ≡ refusalNumber c) × (a .place ≡ p)) ↔ FirstBroken xs c p
-  -- and none of them exactly if the rows keep every sentence.
-  pub accepted : ((a .number < 4) ⊎ (10 < a .number)) ↔ Lawful xs
+  -- and none of them, but an answer or a refusal from 11 on, exactly if the rows keep every sentence.
+  pub accepted : ((a .number ≡ 0) ⊎ (10 < a .number)) ↔ Lawful xs

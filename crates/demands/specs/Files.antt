@@ -96,9 +96,10 @@ pub record IsRead (f out : List ℕ) (r : ReadAnswer) (after : List ℕ) : Type 
   pub no-room : (r ≡ Refused (refusal 11 0)) ↔ ((xs : List ℕ) × SpellsFile f xs × Lawful xs × (length out < length xs))
   pub unchanged : (q : Refusal) → r ≡ Refused q → after ≡ out
 
--- What write answers and leaves, for rows and a lent output: it answers exactly if the rows keep the rules and a file that says them fits, and
--- leaves such a file, "giving its length". (Refusals 4 to 10: `Acceptance.ChecksRows`.)
+-- What write answers and leaves, for rows and a lent output. Rows that keep the rules have a file; it answers exactly if such a file fits, and leaves
+-- it, "giving its length". (Refusals 4 to 10: `Acceptance.ChecksRows`.)
 pub record IsWritten (xs out : List ℕ) (w : WriteAnswer) (after : List ℕ) : Type 0 where
+  pub file : Lawful xs → (f : List ℕ) × SpellsFile f xs
   pub answers : ((bytes : ℕ) × (w ≡ Written bytes)) ↔ (Lawful xs × ((f : List ℕ) × SpellsFile f xs × (length f ≤ length out)))
   pub given : (bytes : ℕ) → w ≡ Written bytes → (f : List ℕ) × SpellsFile f xs × (bytes ≡ length f) × Leaves f out after
   pub no-room : (w ≡ Unwritten (refusal 11 0)) ↔ (Lawful xs × ((f : List ℕ) → SpellsFile f xs → length out < length f))

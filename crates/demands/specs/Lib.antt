@@ -2,8 +2,11 @@
 pub mod Asking
 pub mod Buffers
 pub mod Acceptance
+pub mod Blocks
+pub mod Words
 pub mod Files
 pub mod RoundTrips
+pub mod Refusals
 pub mod Replacement
 pub mod Numbers
 pub mod Lists

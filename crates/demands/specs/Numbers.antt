@@ -7,6 +7,7 @@ use mathlib.Core.Logic.{_⊎_, _↔_}
 use mathlib.Core.List.{List, [], _∷_, List·Memᴰ}
 use lib.ListN.{length, take}
 use Rattle.model.specs.Limits.{maxDepth}
+use Rattle.model.specs.Rows.{rowCount}
 use Rattle.model.specs.Blocks.{ownOf, blocksOf, lastBlock, count}
 use Rattle.model.specs.Verdicts.{refusal}
 use Rattle.model.specs.declared.CountAnswer.{CountAnswer}
@@ -18,7 +19,8 @@ use Rattle.model.specs.declared.NumberAnswer.the-variants.{Number, Refused}
 use Rattle.shows.specs.Numbering.{blockAfter}
 use Rattle.demands.specs.Asking.{AsksLocate, AsksNumber}
 use Rattle.demands.specs.Buffers.{Leaves}
-use Rattle.demands.specs.Replacement.{Node, Graph, Ended}
+use Rattle.demands.specs.Acceptance.{nthRow, AreTotals}
+use Rattle.demands.specs.Replacement.{Node, Graph, Ended, nodeNumber}
 
 abbrev pub node : List ℕ → ℕ → Node
 node path c = record { path = path; own = c }
@@ -31,18 +33,21 @@ pub data Before : List ℕ → ℕ → List ℕ → ℕ → Type 0 where
   use-order : {c d p q : ℕ} {path way : List ℕ} → p < q → Before (p ∷ path) c (q ∷ way) d
   same-use : {c d p q : ℕ} {path way : List ℕ} → p ≡ q → Before path c way d → Before (p ∷ path) c (q ∷ way) d
 
--- What count answers: so many cues the unfolded show has, by whatever steps.
+-- What count answers: "the total of the show", which is the last block, and so many cues the unfolded show has, by whatever steps. The rows have
+-- totals, and only these.
 pub record IsCount (xs : List ℕ) (r : CountAnswer) : Type 0 where
-  pub cues : ℕ
-  pub answer : r ≡ Cues cues
-  pub all : {m : ℕ} {g : Graph} → Ended (blocksOf xs) m g → length (g .cues) ≡ cues
+  pub answer : r ≡ Cues (count (blocksOf xs))
+  pub totals : (T : ℕ → ℕ) × AreTotals xs T
+  pub total : (T : ℕ → ℕ) → AreTotals xs T → T (nthRow xs (rowCount xs) .block) ≡ count (blocksOf xs)
+  pub cues : {m : ℕ} {g : Graph} → Ended (blocksOf xs) m g → length (g .cues) ≡ count (blocksOf xs)
 
 -- What number answers about a path and an own cue.
 pub record IsNumber (xs path : List ℕ) (c : ℕ) (r : NumberAnswer) : Type 0 where
   -- It answers exactly if the unfolded show, by whatever steps, has this cue; else the refusal is 13.
   pub exactly : {m : ℕ} {g : Graph} → Ended (blocksOf xs) m g → ((n : ℕ) × (r ≡ Number n)) ↔ List·Memᴰ (node path c) (g .cues)
   pub refused : ((n : ℕ) × (r ≡ Number n)) ⊎ (r ≡ Refused (refusal 13 0))
-  -- The number is one of 1 to the count, and locate leads from it back to the path and the own cue.
+  -- The number is that of the cue in the unfolded show, one of 1 to the count, and locate leads from it back to the path and the own cue.
+  pub number : (n : ℕ) → r ≡ Number n → n ≡ nodeNumber (blocksOf xs) (node path c)
   pub range : (n : ℕ) → r ≡ Number n → (1 ≤ n) × (n ≤ count (blocksOf xs))
   pub back : (n : ℕ) → r ≡ Number n → (lent after : List ℕ) (a : LocateAnswer) → maxDepth ≤ length lent → AsksLocate xs n lent a after
       → ((block : ℕ) × (a ≡ Found (length path) block c)) × (take (length path) after ≡ path)

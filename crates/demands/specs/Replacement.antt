@@ -104,8 +104,8 @@ nodeNumber bs v = numberIn bs (lastBlock bs) 0 (v .path) (v .own)
 unfoldable pub nodeAt : List Block → ℕ → Node
 nodeAt bs n = record { path = placeIn bs (lastBlock bs) n .path; own = placeIn bs (lastBlock bs) n .own }
 
-unfoldable pub numbered : List Block → Edge → Link
-numbered bs e = record { from = nodeNumber bs (e .from); to = nodeNumber bs (e .to); label = e .label }
+unfoldable pub byNumbers : List Block → Edge → Link
+byNumbers bs e = record { from = nodeNumber bs (e .from); to = nodeNumber bs (e .to); label = e .label }
 
 -- Whatever use is replaced at each step, it ends, and in the same graph.
 pub record Unfolds (bs : List Block) : Type 0 where
@@ -113,10 +113,11 @@ pub record Unfolds (bs : List Block) : Type 0 where
   pub bounded : {n : ℕ} {g : Graph} → Run bs n (begin bs) g → n ≤ copies bs (lastBlock bs)
   pub goes-on : {n : ℕ} {g : Graph} → Run bs n (begin bs) g → n < copies bs (lastBlock bs) → (h : Graph) × Step bs g h
   pub all : {n : ℕ} {g : Graph} → Run bs n (begin bs) g → (g .uses ≡ []) ↔ (n ≡ copies bs (lastBlock bs))
-  -- Its cues are those that the numbers 1 to the count name, each once. Its links lead from cue to cue and, each cue replaced by its number,
-  -- are the links of the unfolded show, as often as they stand there. (List·Permᴰ: one list is a rearrangement of the other.)
+  -- The number n names the cue that has the number n. Its cues are those that the numbers 1 to the count name, so each is there once. Its links
+  -- lead from cue to cue and, each cue replaced by its number, are the links of the unfolded show, as often as they stand there.
+  -- (List·Permᴰ: one list is a rearrangement of the other.)
+  pub named : (n : ℕ) → 1 ≤ n → n ≤ count bs → nodeNumber bs (nodeAt bs n) ≡ n
   pub cues : {n : ℕ} {g : Graph} → Ended bs n g → List·Permᴰ (g .cues) (map (nodeAt bs) (range 1 (count bs)))
-  pub once : (m n : ℕ) → 1 ≤ m → m ≤ count bs → 1 ≤ n → n ≤ count bs → nodeAt bs m ≡ nodeAt bs n → m ≡ n
-  pub links : {n : ℕ} {g : Graph} → Ended bs n g → List·Permᴰ (map (numbered bs) (g .links)) (showLinks bs)
+  pub links : {n : ℕ} {g : Graph} → Ended bs n g → List·Permᴰ (map (byNumbers bs) (g .links)) (showLinks bs)
   pub ends-in : {n : ℕ} {g : Graph} → Ended bs n g → (e : Edge) → List·Memᴰ e (g .links)
       → List·Memᴰ (e .from) (g .cues) × List·Memᴰ (e .to) (g .cues)

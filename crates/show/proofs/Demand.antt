@@ -20,6 +20,7 @@ use Rattle.distances.specs.Demand.{Shortest}
 use Rattle.shows.proofs.Accepted.{accepted-show}
 use Rattle.distances.proofs.Fewest.{show-shortest}
 use Rattle.demands.proofs.Acceptance.{accepted-exactly}
+use Rattle.demands.proofs.Blocks.{are-blocks}
 use Rattle.demands.proofs.Checking.{write-checks, count-checks, locate-checks, number-checks, out-checks, in-checks, fewest-checks}
 use Rattle.demands.proofs.Reading.{is-read}
 use Rattle.demands.proofs.Writing.{is-written}
@@ -34,6 +35,7 @@ use Rattle.answers.proofs.Outcomes.{on-yes, has-room, has-cue, cue-test}
 right : (xs : List ℕ) → verdict xs ≡ Accepted → RightAgainstUnfolding xs
 right xs v =
     record {
+      blocks = are-blocks xs v;
       unfolding-steps = let s = accepted-show xs v in unfolds (blocksOf xs) (s .good) (s .blocks .0) (s .no-joins);
       counts = is-count xs v;
       locates = λ n lent after r low high room. is-located xs v n lent after r room low high;

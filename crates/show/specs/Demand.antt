@@ -23,6 +23,7 @@ use Rattle.model.specs.declared.FewestAnswer.the-variants.{Steps, None}
 use Rattle.distances.specs.Demand.{NoChain}
 use Rattle.demands.specs.Asking.{AsksRead, AsksWrite, AsksCount, AsksLocate, AsksNumber, AsksOut, AsksIn, AsksFewest}
 use Rattle.demands.specs.Acceptance.{Lawful, ChecksRows}
+use Rattle.demands.specs.Blocks.{AreBlocks}
 use Rattle.demands.specs.Files.{IsRead, IsWritten}
 use Rattle.demands.specs.RoundTrips.{WritesBack, ReadsBack}
 use Rattle.demands.specs.Replacement.{Unfolds}
@@ -31,8 +32,9 @@ use Rattle.demands.specs.Lists.{LinkedOut, LinkedIn, IsList, Pages, ArePages}
 
 -- Demand 2.
 
--- Acceptance is exact: reading answers, and each question about rows is answered and not refused with 4 to 10, exactly if every sentence of
--- the rules is kept; and the refusal is that of the first sentence that is broken, with its place.
+-- Acceptance is exact: reading answers exactly if every sentence of the rules is kept and the output is long enough; a question about rows passes
+-- checks 4 to 10 exactly if every sentence is kept; and each refusal is that of the first sentence that is broken, with its place. (What is
+-- refused with 11 and 12, and that a refusal leaves what was lent, is demand 1: the promises say it.)
 pub record AcceptanceExact : Type 0 where
   pub read : (file out after : List ℕ) (r : ReadAnswer) → AsksRead file out r after → IsRead file out r after
   pub write : (xs out after : List ℕ) (r : WriteAnswer) → AsksWrite xs out r after → IsWritten xs out r after
@@ -53,8 +55,10 @@ pub record RoundTripsExact : Type 0 where
       → (r : ReadAnswer) (out′ after′ : List ℕ) → AsksRead (take bytes after) out′ r after′ → length xs ≤ length out′
       → ReadsBack xs r out′ after′
 
--- Of rows that keep the rules: numbers, paths and lists are right against the unfolding, which single steps in any order lead to.
+-- Of rows that keep the rules: the blocks are those of the rows; numbers, paths and lists are right against the unfolding of the blocks, which
+-- single steps in any order lead to.
 pub record RightAgainstUnfolding (xs : List ℕ) : Type 0 where
+  pub blocks : AreBlocks xs (blocksOf xs)
   pub unfolding-steps : Unfolds (blocksOf xs)
   pub counts : (r : CountAnswer) → AsksCount xs r → IsCount xs r
   pub locates : (n : ℕ) (lent after : List ℕ) (r : LocateAnswer) → 1 ≤ n → n ≤ count (blocksOf xs) → maxDepth ≤ length lent

@@ -1,0 +1,95 @@
+-- The words shared with the model mean what document 01 means by them.
+use Prim.Native.Nat.{ℕ, zero, suc, _+_, _*_, _-_, _<_}
+use native.Mathlib.Omega.{arith}
+use mathlib.Core.Path.{_≡_, refl, _∙_, ap}
+use mathlib.Core.List.{List}
+use lib.ListN.{length, getD}
+use Rattle.model.specs.Text.{names, ends, decimal}
+use Rattle.model.specs.Rows.{Row, cell, rowAt, rowsFrom, rowCount, rowsOf}
+use Rattle.model.specs.Blocks.{lastBlock}
+use Rattle.model.specs.Verdicts.{refusal}
+use Rattle.model.specs.Answers.{returned, given, flag, ofRead, ofWrite, ofCount, ofLocate, ofNumber, ofList}
+use Rattle.basics.proofs.Members.{range-length, range-at}
+use Rattle.shows.proofs.Digits.{decimal-last}
+use Rattle.demands.specs.Words.{Figures, Bytes, RowWords, ListWords, AnswerWords, Words}
+
+figures : Figures
+figures =
+    record {
+      row = refl;
+      value = refl;
+      joins = refl;
+      own = refl;
+      label = refl;
+      blocks = refl;
+      bytes = refl;
+      rows = refl;
+      total = refl;
+      depth = refl;
+    }
+
+bytes : Bytes
+unfolding names ends decimal
+bytes =
+    record {
+      digit-0 = refl;
+      a-comma = refl;
+      line-feed = refl;
+      line-of-names = refl;
+      line-ends = refl;
+      no-digit = refl;
+      next-digit = decimal-last 0;
+    }
+
+-- The rows from row r on: how many, and which.
+rows-long : (xs : List ℕ) (r n : ℕ) → length (rowsFrom xs r n) ≡ n
+unfolding rowsFrom
+rows-long xs r zero = refl
+rows-long xs r (suc n) = ap suc (rows-long xs (r + 1) n)
+
+row-from : (xs : List ℕ) (r n i : ℕ) (w : Row) → i < n → getD (rowsFrom xs r n) i w ≡ rowAt xs (r + i)
+unfolding rowsFrom
+row-from xs r zero i w h = absurd (omega arith)
+row-from xs r (suc n) zero w h = let e : r + 0 ≡ r = omega arith in rw e
+row-from xs r (suc n) (suc i) w h = let e : r + suc i ≡ r + 1 + i = omega arith in rw e (row-from xs (r + 1) n i w (omega arith))
+
+rows : (xs : List ℕ) → RowWords xs
+unfolding rowCount rowsOf rowAt cell
+rows xs =
+    record {
+      count = refl;
+      block = λ r. let e : (r - 1) * 11 + 0 ≡ (r - 1) * 11 = omega arith in ap (λ (i : ℕ). getD xs i 0) e;
+      kind = λ r. refl;
+      label = λ r. refl;
+      a-to-h = λ r. refl;
+      rows-many = rows-long xs 0 _;
+      rows-are = λ r i. let e : 0 + (r - 1) ≡ r - 1 = omega arith in row-from xs 0 _ (r - 1) _ (omega arith) ∙ ap (rowAt xs) e;
+    }
+
+lists : ListWords
+unfolding lastBlock
+lists = record { range-many = range-length; range-are = range-at; last = λ b earlier. omega arith }
+
+answers : AnswerWords
+unfolding refusal returned given flag ofRead ofWrite ofCount ofLocate ofNumber ofList
+answers =
+    record {
+      refusal-is = λ n p. (refl, refl);
+      refused = λ q. (refl, refl, refl);
+      read = λ rows blocks cues. (refl, refl, refl);
+      unread = λ q. refl;
+      written = λ bytes. (refl, refl, refl);
+      unwritten = λ q. refl;
+      counted = λ n. (refl, refl, refl);
+      uncounted = λ q. refl;
+      found = λ depth block own. (refl, refl, refl);
+      unlocated = λ q. refl;
+      numbered = λ n. (refl, refl, refl);
+      unnumbered = λ q. refl;
+      page = λ written. (refl, refl, refl);
+      page-more = λ written. (refl, refl, refl);
+      unlisted = λ q. refl;
+    }
+
+pub words : Words
+words = record { figures = figures; bytes = bytes; rows = rows; lists = lists; answers = answers }

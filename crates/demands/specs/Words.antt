@@ -1,0 +1,94 @@
+-- The words that these pages share with the model, by what they mean: figures, bytes, rows, ranges, and the numbers that an answer has.
+use Prim.Native.Nat.{ℕ, _+_, _*_, _-_, _/_, _<_}
+use mathlib.Core.Path.{_≡_}
+use mathlib.Core.Bool.{true, false}
+use mathlib.Core.List.{List, [], _∷_, _++_}
+use lib.ListN.{length, getD}
+use Rattle.model.specs.Limits.{rowSize, maxValue, maxJoins, maxOwn, maxLabel, maxBlocks, maxBytes, maxRows, maxTotal, maxDepth}
+use Rattle.model.specs.Text.{digitZero, comma, lineFeed, names, ends, decimal}
+use Rattle.model.specs.Rows.{rowCount, rowsOf}
+use Rattle.model.specs.Blocks.{Block, lastBlock}
+use Rattle.model.specs.Verdicts.{refusal}
+use Rattle.model.specs.Lists.{range}
+use Rattle.model.specs.Answers.{Returned, returned, ofRead, ofWrite, ofCount, ofLocate, ofNumber, ofList}
+use Rattle.model.specs.declared.Refusal.{Refusal}
+use Rattle.model.specs.declared.ReadAnswer.the-variants.{Read, Refused as Unread}
+use Rattle.model.specs.declared.WriteAnswer.the-variants.{Written, Refused as Unwritten}
+use Rattle.model.specs.declared.CountAnswer.the-variants.{Cues, Refused as Uncounted}
+use Rattle.model.specs.declared.LocateAnswer.the-variants.{Found, Refused as Unlocated}
+use Rattle.model.specs.declared.NumberAnswer.the-variants.{Number, Refused as Unnumbered}
+use Rattle.model.specs.declared.ListAnswer.the-variants.{Page, Refused as Unlisted}
+use Rattle.demands.specs.Acceptance.{nthRow, IsRow}
+
+-- The figures of document 01.
+pub record Figures : Type 0 where
+  pub row : rowSize ≡ 11
+  pub value : maxValue ≡ 65535
+  pub joins : maxJoins ≡ 8
+  pub own : maxOwn ≡ 255
+  pub label : maxLabel ≡ 255
+  pub blocks : maxBlocks ≡ 128
+  pub bytes : maxBytes ≡ 65536
+  pub rows : maxRows ≡ 1024
+  pub total : maxTotal ≡ 2147483647
+  pub depth : maxDepth ≡ 127
+
+-- Its bytes, in ASCII: the digit 0, the comma, the line feed; the line of names; what stands behind the eleven values of a line. "Figures are in
+-- base ten".
+pub record Bytes : Type 0 where
+  pub digit-0 : digitZero ≡ 48
+  pub a-comma : comma ≡ 44
+  pub line-feed : lineFeed ≡ 10
+  pub line-of-names : names
+      ≡ 98 ∷ 108 ∷ 111 ∷ 99 ∷ 107 ∷ 44 ∷ 107 ∷ 105 ∷ 110 ∷ 100 ∷ 44 ∷ 108 ∷ 97 ∷ 98 ∷ 101 ∷ 108 ∷ 44
+      ∷ 97 ∷ 44 ∷ 98 ∷ 44 ∷ 99 ∷ 44 ∷ 100 ∷ 44 ∷ 101 ∷ 44 ∷ 102 ∷ 44 ∷ 103 ∷ 44 ∷ 104 ∷ 10 ∷ []
+  pub line-ends : ends ≡ 44 ∷ 44 ∷ 44 ∷ 44 ∷ 44 ∷ 44 ∷ 44 ∷ 44 ∷ 44 ∷ 44 ∷ 10 ∷ []
+  pub no-digit : decimal 0 [] ≡ 0
+  pub next-digit : (ds : List ℕ) (d : ℕ) → decimal 0 (ds ++ (d ∷ [])) ≡ decimal 0 ds * 10 + d
+
+-- "A line of values is a row: eleven 32-bit unsigned numbers in lent memory", in the order of the line of names; and the rows of lent numbers are
+-- row 1, row 2 and so on.
+pub record RowWords (xs : List ℕ) : Type 0 where
+  pub count : rowCount xs ≡ length xs / 11
+  pub block : (r : ℕ) → nthRow xs r .block ≡ getD xs ((r - 1) * 11) 0
+  pub kind : (r : ℕ) → nthRow xs r .kind ≡ getD xs ((r - 1) * 11 + 1) 0
+  pub label : (r : ℕ) → nthRow xs r .label ≡ getD xs ((r - 1) * 11 + 2) 0
+  pub a-to-h : (r : ℕ) → nthRow xs r .columns
+      ≡ getD xs ((r - 1) * 11 + 3) 0 ∷ getD xs ((r - 1) * 11 + 4) 0 ∷ getD xs ((r - 1) * 11 + 5) 0 ∷ getD xs ((r - 1) * 11 + 6) 0
+      ∷ getD xs ((r - 1) * 11 + 7) 0 ∷ getD xs ((r - 1) * 11 + 8) 0 ∷ getD xs ((r - 1) * 11 + 9) 0 ∷ getD xs ((r - 1) * 11 + 10) 0 ∷ []
+  pub rows-many : length (rowsOf xs) ≡ rowCount xs
+  pub rows-are : (r : ℕ) → IsRow xs r → getD (rowsOf xs) (r - 1) (nthRow xs r) ≡ nthRow xs r
+
+-- The numbers from n on, so many of them. "The last block is the show": of blocks that are counted from 0.
+pub record ListWords : Type 0 where
+  pub range-many : (n many : ℕ) → length (range n many) ≡ many
+  pub range-are : (n many i : ℕ) → i < many → getD (range n many) i 0 ≡ n + i
+  pub last : (b : Block) (earlier : List Block) → lastBlock (b ∷ earlier) ≡ length earlier
+
+-- "returned (number, place)", and the values of an answer in order, 1 for "more".
+abbrev pub IsReturned : Returned → ℕ → ℕ → List ℕ → Type 0
+IsReturned a number place values = (a .number ≡ number) × (a .place ≡ place) × (a .values ≡ values)
+
+pub record AnswerWords : Type 0 where
+  pub refusal-is : (n p : ℕ) → (refusal n p .number ≡ n) × (refusal n p .place ≡ p)
+  pub refused : (q : Refusal) → IsReturned (returned q) (q .number) (q .place) []
+  pub read : (rows blocks cues : ℕ) → IsReturned (ofRead (Read rows blocks cues)) 0 0 (rows ∷ blocks ∷ cues ∷ [])
+  pub unread : (q : Refusal) → ofRead (Unread q) ≡ returned q
+  pub written : (bytes : ℕ) → IsReturned (ofWrite (Written bytes)) 0 0 (bytes ∷ [])
+  pub unwritten : (q : Refusal) → ofWrite (Unwritten q) ≡ returned q
+  pub counted : (n : ℕ) → IsReturned (ofCount (Cues n)) 0 0 (n ∷ [])
+  pub uncounted : (q : Refusal) → ofCount (Uncounted q) ≡ returned q
+  pub found : (depth block own : ℕ) → IsReturned (ofLocate (Found depth block own)) 0 0 (depth ∷ block ∷ own ∷ [])
+  pub unlocated : (q : Refusal) → ofLocate (Unlocated q) ≡ returned q
+  pub numbered : (n : ℕ) → IsReturned (ofNumber (Number n)) 0 0 (n ∷ [])
+  pub unnumbered : (q : Refusal) → ofNumber (Unnumbered q) ≡ returned q
+  pub page : (written : ℕ) → IsReturned (ofList (Page written false)) 0 0 (written ∷ 0 ∷ [])
+  pub page-more : (written : ℕ) → IsReturned (ofList (Page written true)) 0 0 (written ∷ 1 ∷ [])
+  pub unlisted : (q : Refusal) → ofList (Unlisted q) ≡ returned q
+
+pub record Words : Type 0 where
+  pub figures : Figures
+  pub bytes : Bytes
+  pub rows : (xs : List ℕ) → RowWords xs
+  pub lists : ListWords
+  pub answers : AnswerWords
