@@ -1,5 +1,6 @@
--- The ring show by single steps, the second of two uses before the first: a run, and what the demands on unfolding and numbers say of it, by computation. Nothing
--- here rests on a law, so a definition that does not meet these demands is refused here by itself.
+-- The ring show by computation: its rows are accepted and stand for these blocks; a run of single steps, the second of two uses before the first; and
+-- what the demands on unfolding and numbers say of it. Nothing here rests on a law, so a definition that does not meet these demands is
+-- refused here by itself.
 use Prim.Native.Nat.{ℕ, suc, _<_}
 use native.Mathlib.Omega.{arith}
 use mathlib.Core.Path.{_≡_, refl}
@@ -8,7 +9,10 @@ use mathlib.Core.List.{List, [], _∷_, _++_, map}
 use lib.Dec.{eqb}
 use Rattle.model.specs.Choice.{ifLt, ifEq, ifTrue}
 use Rattle.model.specs.Rows.{cell, rowAt, rowsFrom, rowCount, rowsOf}
-use Rattle.model.specs.Blocks.{Link, Use, Block, noBlock, blockAt, joinsOf, addLink, addUse, addRow, addRows, blocksOf, sumOver, total, lastBlock, count}
+use Rattle.model.specs.Blocks.{Link, Use, Block, noBlock, blockAt, joinsOf, ownOf, addLink, addUse, addRow, addRows, blocksOf, sumOver, total, lastBlock, count}
+use Rattle.model.specs.Rules.{start, cuesIn, mayOpen, goesOn, mayFollow, columnsUsed, named, every, isCue, isZero, labelFits, ownFits, inRange, differs, distinct, isBelow, linkKey, useKey, inOrder, fault, after}
+use Rattle.model.specs.Verdicts.{refusal, refused, andThen, checkLength, checkRows, openingRows, checkBlocks, mayStand, totalFits, verdict}
+use Rattle.model.specs.declared.Verdict.the-variants.{Accepted}
 use Rattle.model.specs.Unfolding.{cueAt, renamed, usesLinks, links, showLinks}
 use Rattle.model.specs.Paths.{ownNumber, usesNumber, copyNumber, numberIn, nowhere, stepThen, usesPlace, placeIn}
 use Rattle.model.specs.Lists.{range}
@@ -49,6 +53,11 @@ bs =
     record { joins = 0; own = 2; links = link-of 2 1 2 ∷ []; uses = use-of 1 (1 ∷ 2 ∷ []) ∷ [] }
     ∷ record { joins = 2; own = 1; links = []; uses = use-of 0 (1 ∷ 3 ∷ []) ∷ use-of 0 (2 ∷ 1 ∷ []) ∷ [] }
     ∷ record { joins = 2; own = 1; links = link-of 1 3 1 ∷ link-of 2 1 1 ∷ []; uses = [] } ∷ []
+
+-- Its rows are accepted.
+pub ring-accepted : verdict ring ≡ Accepted
+unfolding ifLt ifEq ifTrue cell rowAt rowsFrom rowCount rowsOf start cuesIn mayOpen goesOn mayFollow columnsUsed named every isCue isZero labelFits ownFits inRange differs distinct isBelow linkKey useKey inOrder fault after noBlock blockAt joinsOf ownOf addLink addUse addRow addRows blocksOf sumOver total refusal refused andThen checkLength checkRows openingRows checkBlocks mayStand totalFits verdict
+ring-accepted = refl
 
 ring-blocks : blocksOf ring ≡ bs
 unfolding ifLt ifEq cell rowAt rowsFrom rowCount rowsOf noBlock blockAt joinsOf addLink addUse addRow addRows blocksOf

@@ -12,6 +12,7 @@ use Rattle.model.specs.Verdicts.{verdict}
 use Rattle.model.specs.Answers.{Returned, given, returned, ofFewest}
 use Rattle.model.specs.Questions.{Outcome, outcome, refuse, answer, distanceValues, fewestIn, fewestAsked}
 use Rattle.model.specs.declared.Verdict.the-variants.{Accepted}
+use Rattle.model.specs.Ring.{ring}
 use Rattle.model.specs.declared.ReadAnswer.the-variants.{Read}
 use Rattle.model.specs.declared.WriteAnswer.the-variants.{Written}
 use Rattle.model.specs.declared.FewestAnswer.{FewestAnswer}
@@ -20,7 +21,10 @@ use Rattle.distances.specs.Demand.{Shortest}
 use Rattle.shows.proofs.Accepted.{accepted-show}
 use Rattle.distances.proofs.Fewest.{show-shortest}
 use Rattle.demands.proofs.Acceptance.{accepted-exactly}
+use Rattle.demands.proofs.Words.{words}
+use Rattle.demands.proofs.Ring.{ring-accepted}
 use Rattle.demands.proofs.Blocks.{are-blocks}
+use Rattle.demands.proofs.Refusals.{locate-refuses, out-refuses, in-refuses, fewest-refuses}
 use Rattle.demands.proofs.Checking.{write-checks, count-checks, locate-checks, number-checks, out-checks, in-checks, fewest-checks}
 use Rattle.demands.proofs.Reading.{is-read}
 use Rattle.demands.proofs.Writing.{is-written}
@@ -49,6 +53,7 @@ right xs v =
 pub demand-2 : Demand2
 demand-2 =
     record {
+      words = words;
       acceptance =
           record {
             read = is-read;
@@ -61,6 +66,8 @@ demand-2 =
             checks-in = in-checks;
             checks-fewest = fewest-checks;
           };
+      refusals = record { locate = locate-refuses; list-out = out-refuses; list-in = in-refuses; fewest = fewest-refuses };
+      a-show = accepted-exactly ring .0 ring-accepted;
       round-trips =
           record {
             write-back = λ file out after rows blocks cues e. writes-back file out after (Read rows blocks cues) rows blocks cues e refl;

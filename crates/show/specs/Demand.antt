@@ -10,6 +10,7 @@ use Rattle.model.specs.Blocks.{Link, blocksOf, count}
 use Rattle.model.specs.Unfolding.{showLinks}
 use Rattle.model.specs.Chains.{Chain, followed}
 use Rattle.model.specs.Answers.{ofWrite, ofCount, ofLocate, ofNumber, ofList, ofFewest}
+use Rattle.model.specs.Ring.{ring}
 use Rattle.model.specs.declared.ReadAnswer.{ReadAnswer}
 use Rattle.model.specs.declared.ReadAnswer.the-variants.{Read}
 use Rattle.model.specs.declared.WriteAnswer.{WriteAnswer}
@@ -23,7 +24,9 @@ use Rattle.model.specs.declared.FewestAnswer.the-variants.{Steps, None}
 use Rattle.distances.specs.Demand.{NoChain}
 use Rattle.demands.specs.Asking.{AsksRead, AsksWrite, AsksCount, AsksLocate, AsksNumber, AsksOut, AsksIn, AsksFewest}
 use Rattle.demands.specs.Acceptance.{Lawful, ChecksRows}
+use Rattle.demands.specs.Words.{Words}
 use Rattle.demands.specs.Blocks.{AreBlocks}
+use Rattle.demands.specs.Refusals.{LocateRefuses, ListRefuses, FewestRefuses}
 use Rattle.demands.specs.Files.{IsRead, IsWritten}
 use Rattle.demands.specs.RoundTrips.{WritesBack, ReadsBack}
 use Rattle.demands.specs.Replacement.{Unfolds}
@@ -33,8 +36,7 @@ use Rattle.demands.specs.Lists.{LinkedOut, LinkedIn, IsList, Pages, ArePages}
 -- Demand 2.
 
 -- Acceptance is exact: reading answers exactly if every sentence of the rules is kept and the output is long enough; a question about rows passes
--- checks 4 to 10 exactly if every sentence is kept; and each refusal is that of the first sentence that is broken, with its place. (What is
--- refused with 11 and 12, and that a refusal leaves what was lent, is demand 1: the promises say it.)
+-- checks 4 to 10 exactly if every sentence is kept; and each refusal is that of the first sentence that is broken, with its place.
 pub record AcceptanceExact : Type 0 where
   pub read : (file out after : List ℕ) (r : ReadAnswer) → AsksRead file out r after → IsRead file out r after
   pub write : (xs out after : List ℕ) (r : WriteAnswer) → AsksWrite xs out r after → IsWritten xs out r after
@@ -45,6 +47,13 @@ pub record AcceptanceExact : Type 0 where
   pub checks-out : (xs : List ℕ) (v n : ℕ) (page after : List ℕ) (r : ListAnswer) → AsksOut xs v n page r after → ChecksRows xs (ofList r)
   pub checks-in : (xs : List ℕ) (v n : ℕ) (page after : List ℕ) (r : ListAnswer) → AsksIn xs v n page r after → ChecksRows xs (ofList r)
   pub checks-fewest : (xs : List ℕ) (s t : ℕ) (work after : List ℕ) (r : FewestAnswer) → AsksFewest xs s t work r after → ChecksRows xs (ofFewest r)
+
+-- So are refusals 11 and 12, and a refusal leaves the lent list as it was. (For read and write that stands above, for number in `IsNumber`.)
+pub record RefusalsExact : Type 0 where
+  pub locate : (xs : List ℕ) (n : ℕ) (lent after : List ℕ) (r : LocateAnswer) → AsksLocate xs n lent r after → LocateRefuses xs n lent r after
+  pub list-out : (xs : List ℕ) (v n : ℕ) (page after : List ℕ) (r : ListAnswer) → AsksOut xs v n page r after → ListRefuses xs v page r after
+  pub list-in : (xs : List ℕ) (v n : ℕ) (page after : List ℕ) (r : ListAnswer) → AsksIn xs v n page r after → ListRefuses xs v page r after
+  pub fewest : (xs : List ℕ) (s t : ℕ) (work after : List ℕ) (r : FewestAnswer) → AsksFewest xs s t work r after → FewestRefuses xs s t work r after
 
 -- Round trips are exact, of what the buffers hold: read, then write what was left; write, then read what was left.
 pub record RoundTripsExact : Type 0 where
@@ -73,8 +82,12 @@ pub record RightAgainstUnfolding (xs : List ℕ) : Type 0 where
   pub pages-in : (v n many : ℕ) (cues : List ℕ) (more : Bool) → 1 ≤ v → v ≤ count (blocksOf xs) → Pages (AsksIn xs v) n many cues more
       → ArePages (LinkedIn xs v) n many cues more
 
+-- All of it; the words mean what they say, and there is a show.
 pub record Demand2 : Type 0 where
+  pub words : Words
   pub acceptance : AcceptanceExact
+  pub refusals : RefusalsExact
+  pub a-show : Lawful ring
   pub round-trips : RoundTripsExact
   pub right : (xs : List ℕ) → Lawful xs → RightAgainstUnfolding xs
 
