@@ -9,9 +9,9 @@ use lib.Seq.{drop-cons}
 use Rattle.model.specs.Choice.{ifEq}
 use Rattle.model.specs.Text.{names, linesOf}
 use Rattle.model.specs.Verdicts.{refusal, Unread, readLines, same, readAll}
-use Rattle.basics.proofs.Choices.{lt-else, lt-second, eq-then, eq-else, true-then, true-else}
-use Rattle.shows.proofs.Files.{same-refl, same-is}
-use Rattle.shows.proofs.Lines.{lines-first, lines-flatten, names-line}
+use Rattle.basics.proofs.Choices.{lt-else, lt-second, eq-then, eq-else, true-else}
+use Rattle.shows.proofs.Files.{same-refl, same-is, names-first}
+use Rattle.shows.proofs.Lines.{lines-flatten}
 use Rattle.codec.specs.Scanning.{namesSize, startsNamed}
 
 -- Two lists byte by byte, from place i on.
@@ -54,11 +54,7 @@ starts-is f e =
 
 -- The lines behind it are read from the second on.
 pub named-read : (f : List ℕ) → startsNamed f ≡ true → readAll (linesOf f) ≡ readLines 2 (linesOf (drop namesSize f))
-unfolding readAll
-named-read f e =
-    ap (λ (t : List ℕ). readAll (linesOf t)) (starts-is f e)
-    ∙ ap readAll (lines-first names-line (drop namesSize f))
-    ∙ true-then _ _ _ (same-refl names)
+named-read f e = ap (λ (t : List ℕ). readAll (linesOf t)) (starts-is f e) ∙ names-first (drop namesSize f)
 
 -- Otherwise nothing is read.
 pub unnamed-read : (f : List ℕ) → startsNamed f ≡ false → readAll (linesOf f) ≡ Unread (refusal 2 1)

@@ -1,4 +1,5 @@
 -- That the definitions meet the demands.
+pub mod Answers
 pub mod Buffers
 pub mod Outcomes
 -- which rows are a show, and which refusal is given
@@ -18,6 +19,7 @@ pub mod Together
 pub mod Acceptance
 pub mod Blocks
 pub mod Checking
+pub mod Refusals
 pub mod Words
 -- files
 pub mod Files

@@ -1,10 +1,10 @@
 -- What list_out and list_in answer and leave is what document 01 demands, for one page and for pages asked for one after another.
 use Prim.Native.Nat.{ℕ, _≤_, _<_, min}
 use native.Mathlib.Omega.{arith}
-use mathlib.Core.Path.{_≡_, refl, sym, _∙_, ap}
+use mathlib.Core.Path.{_≡_, sym, _∙_, ap}
 use mathlib.Core.Logic.{_⊎_, inl, inr, _↔_}
-use mathlib.Core.Bool.{Bool, true, false}
-use mathlib.Core.List.{List, [], _∷_, _++_, List·Memᴰ, List·Memᴰ·not-nil, List·Memᴰ·append-cases, Memᴰ·append-left, Memᴰ·append-right}
+use mathlib.Core.Bool.{Bool, true}
+use mathlib.Core.List.{List, [], _++_, List·Memᴰ, List·Memᴰ·not-nil, List·Memᴰ·append-cases, Memᴰ·append-left, Memᴰ·append-right}
 use lib.ListN.{length, getD, take, drop, length-take, length-drop, take-append-drop}
 use lib.Dec.{ltb}
 use borrow.Author.Tests.{lt-ltb, ltb-true}
@@ -12,11 +12,10 @@ use Rattle.model.specs.Blocks.{Link, blocksOf, total, lastBlock, count}
 use Rattle.model.specs.Unfolding.{showLinks}
 use Rattle.model.specs.Verdicts.{verdict}
 use Rattle.model.specs.Lists.{cuesAfter, isOut, isInto}
-use Rattle.model.specs.Answers.{Returned, given, returned, flag, ofList}
+use Rattle.model.specs.Answers.{ofList}
 use Rattle.model.specs.Questions.{Outcome, outcome, refuse, onAccepted, answer, listed, listIn, outAsked, inAsked}
 use Rattle.model.specs.declared.Verdict.the-variants.{Accepted}
 use Rattle.model.specs.declared.ListAnswer.{ListAnswer}
-use Rattle.model.specs.declared.ListAnswer.the-variants.{Page, Refused}
 use Rattle.basics.proofs.Members.{getD-mem, mem-at}
 use Rattle.shows.specs.Accepted.{Show}
 use Rattle.shows.specs.Lists.{Rising}
@@ -25,26 +24,11 @@ use Rattle.shows.proofs.Lists.{in-out, in-in, after-rising}
 use Rattle.shows.proofs.Ranges.{Within, inner, join, links-within}
 use Rattle.demands.specs.Asking.{AsksOut, AsksIn}
 use Rattle.demands.specs.Lists.{LinkedOut, LinkedIn, Smallest, IsList, Pages, ArePages}
+use Rattle.demands.proofs.Answers.{page-is}
 use Rattle.demands.proofs.Buffers.{leaves}
 use Rattle.demands.proofs.Outcomes.{on-yes, has-cue}
 use Rattle.demands.proofs.Rising.{Parts, rising-parts, not-in}
 use Rattle.demands.proofs.Pages.{are-pages}
-
--- An answer has a page's values only if it is that page.
-flag-same : (a b : Bool) → flag a ≡ flag b → a ≡ b
-unfolding flag
-flag-same true true e = refl
-flag-same true false e = absurd (omega arith)
-flag-same false true e = absurd (omega arith)
-flag-same false false e = refl
-
-same-page : (r : ListAnswer) (written : ℕ) (more : Bool) → ofList r ≡ given (written ∷ flag more ∷ []) → r ≡ Page written more
-unfolding ofList given returned
-same-page (Page n b) written more e =
-    let p : n ≡ written = ap (λ (x : Returned). getD (x .values) 0 0) e in
-    let q : b ≡ more = flag-same b more (ap (λ (x : Returned). getD (x .values) 1 0) e) in
-    cc
-same-page (Refused f) written more e = let k = ap (λ (x : Returned). length (x .values)) e in absurd (omega arith)
 
 -- A list of all linked cues after each number, rising.
 module _ (Linked : ℕ → Type 0) (after : ℕ → List ℕ) (rises : (n : ℕ) → Rising (after n))
@@ -106,7 +90,7 @@ module _ (Linked : ℕ → Type 0) (after : ℕ → List ℕ) (rises : (n : ℕ)
       record {
         cues = first n (length page);
         more = ltb (length page) (length (after n));
-        answer = rw many (same-page r _ _ (ap (λ (o : Outcome). o .answer) e));
+        answer = rw many (page-is r _ _ (ap (λ (o : Outcome). o .answer) e));
         smallest = first-smallest n (length page);
         leaves = rw (ap (λ (o : Outcome). o .after) e) (leaves (first n (length page)) page (omega arith));
         fit = omega arith;

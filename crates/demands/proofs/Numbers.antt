@@ -2,23 +2,21 @@
 use Prim.Native.Nat.{ℕ, _≤_, _<_}
 use native.Mathlib.Omega.{arith}
 use native.Mathlib.Decide.{ℕ-discrete}
-use mathlib.Core.Path.{_≡_, sym, _∙_, ap, ap₂}
+use mathlib.Core.Path.{_≡_, sym, _∙_, ap}
 use mathlib.Core.Logic.{_⊎_, inl, inr, _≢_}
-use mathlib.Core.List.{List, [], _∷_, List·Memᴰ}
-use lib.ListN.{length, getD, take, length-map}
+use mathlib.Core.List.{List, List·Memᴰ}
+use lib.ListN.{length, take, length-map}
 use Rattle.model.specs.Limits.{maxDepth}
 use Rattle.model.specs.Blocks.{blocksOf, lastBlock, count}
 use Rattle.model.specs.Verdicts.{refusal, verdict}
 use Rattle.model.specs.Paths.{Place, numberIn, placeIn}
 use Rattle.model.specs.Lists.{range, overwrite}
-use Rattle.model.specs.Answers.{Returned, given, returned, ofCount, ofLocate, ofNumber}
+use Rattle.model.specs.Answers.{ofLocate, ofNumber}
 use Rattle.model.specs.Questions.{Outcome, outcome, answer, located, locateIn, countAsked, locateAsked, numbered, numberAsked, onAccepted}
-use Rattle.model.specs.declared.Refusal.{Refusal}
 use Rattle.model.specs.declared.Verdict.the-variants.{Accepted}
 use Rattle.model.specs.declared.CountAnswer.{CountAnswer}
-use Rattle.model.specs.declared.CountAnswer.the-variants.{Cues, Refused as Uncounted}
 use Rattle.model.specs.declared.LocateAnswer.{LocateAnswer}
-use Rattle.model.specs.declared.LocateAnswer.the-variants.{Found, Refused as Unlocated}
+use Rattle.model.specs.declared.LocateAnswer.the-variants.{Found}
 use Rattle.model.specs.declared.NumberAnswer.{NumberAnswer}
 use Rattle.model.specs.declared.NumberAnswer.the-variants.{Number, Refused as Unnumbered}
 use Rattle.basics.proofs.Choices.{eq-then, eq-else}
@@ -30,6 +28,7 @@ use Rattle.shows.proofs.Numbering.{numbering, never-too-deep}
 use Rattle.demands.specs.Replacement.{Graph, Ended, nodeNumber, Unfolds}
 use Rattle.demands.specs.Asking.{AsksCount, AsksLocate, AsksNumber}
 use Rattle.demands.specs.Numbers.{node, Before, IsCount, IsNumber, IsLocated}
+use Rattle.demands.proofs.Answers.{cues-is, found-is, number-is, unnumbered-is}
 use Rattle.demands.proofs.Buffers.{leaves}
 use Rattle.demands.proofs.Outcomes.{on-yes, has-room, has-cue}
 use Rattle.demands.proofs.Blocks.{rows-totals, count-total}
@@ -38,43 +37,16 @@ use Rattle.demands.proofs.NumberOrder.{number-order}
 use Rattle.demands.proofs.Nodes.{numbered-cue, cue-numbered}
 use Rattle.demands.proofs.Replacement.{unfolds}
 
--- The answer that has a number's values, and the one that has the refusal's.
-number-given : (r : NumberAnswer) (n : ℕ) → ofNumber r ≡ given (n ∷ []) → r ≡ Number n
-unfolding ofNumber given returned
-number-given (Number m) n e = ap Number (ap (λ (x : Returned). getD (x .values) 0 0) e)
-number-given (Unnumbered f) n e = absurd (let z : _≡_ {A = ℕ} 0 1 = ap (λ (x : Returned). length (x .values)) e in omega arith)
-
-number-refused : (r : NumberAnswer) (f : Refusal) → ofNumber r ≡ returned f → r ≡ Unnumbered f
-unfolding ofNumber given returned refusal
-number-refused (Number m) f e = absurd (let z : _≡_ {A = ℕ} 1 0 = ap (λ (x : Returned). length (x .values)) e in omega arith)
-number-refused (Unnumbered g) f e =
-    let h : refusal (g .number) (g .place) ≡ refusal (f .number) (f .place) =
-    ap₂ refusal (ap (λ (x : Returned). x .number) e) (ap (λ (x : Returned). x .place) e) in
-    ap Unnumbered h
-
-count-given : (r : CountAnswer) (n : ℕ) → ofCount r ≡ given (n ∷ []) → r ≡ Cues n
-unfolding ofCount given returned
-count-given (Cues m) n e = ap Cues (ap (λ (x : Returned). getD (x .values) 0 0) e)
-count-given (Uncounted f) n e = absurd (let z : _≡_ {A = ℕ} 0 1 = ap (λ (x : Returned). length (x .values)) e in omega arith)
-
 -- What number says of the number of a path and an own cue, which is 0 where they have none.
 data Says (n : ℕ) (r : NumberAnswer) : Type 0 where
   says : n ≢ 0 → r ≡ Number n → Says n r
   none : n ≡ 0 → r ≡ Unnumbered (refusal 13 0) → Says n r
 
--- The answer that has a place's values.
+-- The answer that has a place's values, and what it leaves.
 located-given : (r : LocateAnswer) (q : Place) (lent after : List ℕ) → outcome (ofLocate r) after ≡ located q lent
     → (r ≡ Found (length (q .path)) (q .block) (q .own)) × (after ≡ overwrite (q .path) lent)
-unfolding ofLocate located answer given returned
-located-given r q lent after e = (go r (ap (λ (o : Outcome). o .answer) e), ap (λ (o : Outcome). o .after) e)
-  where
-    go : (r : LocateAnswer) → ofLocate r ≡ given (length (q .path) ∷ q .block ∷ q .own ∷ []) → r ≡ Found (length (q .path)) (q .block) (q .own)
-    go (Found d k c) e =
-        let x : d ≡ length (q .path) = ap (λ (x : Returned). getD (x .values) 0 0) e in
-        let y : k ≡ q .block = ap (λ (x : Returned). getD (x .values) 1 0) e in
-        let z : c ≡ q .own = ap (λ (x : Returned). getD (x .values) 2 0) e in
-        cc
-    go (Unlocated f) e = absurd (let z : _≡_ {A = ℕ} 0 3 = ap (λ (x : Returned). length (x .values)) e in omega arith)
+unfolding located answer
+located-given r q lent after e = (found-is r _ _ _ (ap (λ (o : Outcome). o .answer) e), ap (λ (o : Outcome). o .after) e)
 
 module _ (xs : List ℕ) (v : verdict xs ≡ Accepted) where
   abbrev numberOf : List ℕ → ℕ → ℕ
@@ -91,8 +63,8 @@ module _ (xs : List ℕ) (v : verdict xs ≡ Accepted) where
       said = e ∙ (rw v) ∙ ap numbered (never-too-deep (blocksOf xs) (shown .good) (shown .blocks .1) path c)
 
       go : Dec (numberOf path c ≡ 0) → Says (numberOf path c) r
-      go (yes z) = none z (number-refused r (refusal 13 0) (said ∙ eq-then _ _ _ _ z))
-      go (no z) = says z (number-given r (numberOf path c) (said ∙ eq-else _ _ _ _ z))
+      go (yes z) = none z (unnumbered-is r (refusal 13 0) (said ∙ eq-then _ _ _ _ z))
+      go (no z) = says z (number-is r (numberOf path c) (said ∙ eq-else _ _ _ _ z))
 
   -- Where locate finds a number of the show.
   abbrev placeOf : ℕ → Place
@@ -122,15 +94,15 @@ module _ (xs : List ℕ) (v : verdict xs ≡ Accepted) where
   unfolding countAsked
   is-count r e =
       record {
-        answer = count-given r (count (blocksOf xs)) (e ∙ on-yes (verdict xs) _ _ v);
+        answer = cues-is r (count (blocksOf xs)) (e ∙ on-yes (verdict xs) _ _ v);
         totals = rows-totals xs v;
         total = count-total xs v;
         cues = λ g. perm-length (unfolded .cues g) ∙ length-map (range 1 (count (blocksOf xs))) _ ∙ range-length 1 (count (blocksOf xs));
       }
 
-  number-is : (path : List ℕ) (c n : ℕ) → numberOf path c ≡ n → n ≡ nodeNumber (blocksOf xs) (node path c)
+  node-number : (path : List ℕ) (c n : ℕ) → numberOf path c ≡ n → n ≡ nodeNumber (blocksOf xs) (node path c)
   unfolding nodeNumber
-  number-is path c n e = sym e
+  node-number path c n e = sym e
 
   -- A number that number gives is that of the path and the own cue.
   given-is : (path : List ℕ) (c n : ℕ) → AsksNumber xs path c (Number n) → (numberOf path c ≡ n) × (n ≢ 0)
@@ -168,7 +140,7 @@ module _ (xs : List ℕ) (v : verdict xs ≡ Accepted) where
       record {
         exactly = λ g. (λ q. has-number g path c (some (q .0) (q .1)), λ i. found (is-cue g path c i));
         refused = either;
-        number = λ n q. number-is path c n (named n q);
+        number = λ n q. node-number path c n (named n q);
         range = λ n q. in-range path c n (named n q) (some′ n q);
         back = λ n q lent after a room f. leads-back path c n (named n q) (some′ n q) lent after a room f;
         in-order = λ m q way d n f o. rises m q way d n f o;

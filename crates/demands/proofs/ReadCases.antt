@@ -2,14 +2,14 @@
 use Prim.Native.Nat.{ℕ, _≤_, _<_}
 use native.Mathlib.Omega.{arith}
 use native.Mathlib.Decide.{decLt}
-use mathlib.Core.Path.{_≡_, refl, _∙_, ap, ap₂}
-use mathlib.Core.List.{List, [], _∷_}
-use lib.ListN.{length, getD}
+use mathlib.Core.Path.{_≡_, refl, _∙_, ap}
+use mathlib.Core.List.{List}
+use lib.ListN.{length}
 use Rattle.model.specs.Rows.{rowCount}
 use Rattle.model.specs.Blocks.{blocksOf, count}
 use Rattle.model.specs.Lists.{overwrite}
 use Rattle.model.specs.Verdicts.{refusal, verdict, Reading, Numbers, Unread, readFile, byLine, inLines, numbersOf, readVerdict, fileVerdict}
-use Rattle.model.specs.Answers.{Returned, given, returned, ofRead}
+use Rattle.model.specs.Answers.{ofRead}
 use Rattle.model.specs.Questions.{Outcome, outcome, refuse, answer, onAccepted, withRoom, readInto, readAsked}
 use Rattle.model.specs.declared.Refusal.{Refusal}
 use Rattle.model.specs.declared.Verdict.{Verdict}
@@ -19,22 +19,8 @@ use Rattle.model.specs.declared.ReadAnswer.the-variants.{Read, Refused as ReadR
 use Rattle.basics.proofs.Choices.{lt-then}
 use Rattle.shows.proofs.RoundTrips.{read-answer}
 use Rattle.demands.specs.Buffers.{Leaves}
+use Rattle.demands.proofs.Answers.{read-is, unread-is}
 use Rattle.demands.proofs.Buffers.{leaves}
-
--- An answer is known by its number, place and values.
-pub is-given : (r : ReadAnswer) (rows blocks cues : ℕ) → ofRead r ≡ given (rows ∷ blocks ∷ cues ∷ []) → r ≡ Read rows blocks cues
-unfolding ofRead given returned
-is-given (Read a b c) rows blocks cues e =
-    let p : a ≡ rows = ap (λ (x : Returned). getD (x .values) 0 0) e in
-    let q : b ≡ blocks = ap (λ (x : Returned). getD (x .values) 1 0) e in
-    let s : c ≡ cues = ap (λ (x : Returned). getD (x .values) 2 0) e in
-    cc
-is-given (ReadRefused f) rows blocks cues e = let k = ap (λ (x : Returned). length (x .values)) e in absurd (omega arith)
-
-is-returned : (r : ReadAnswer) (f : Refusal) → ofRead r ≡ returned f → r ≡ ReadRefused f
-unfolding ofRead given returned refusal
-is-returned (Read a b c) f e = let k = ap (λ (x : Returned). length (x .values)) e in absurd (omega arith)
-is-returned (ReadRefused g) f e = ap ReadRefused (ap₂ refusal (ap (λ (x : Returned). x .number) e) (ap (λ (x : Returned). x .place) e))
 
 -- What is answered where the text breaks a rule, where its rows are refused, and where there is too little room.
 module _ (f out : List ℕ) where
@@ -65,7 +51,7 @@ module _ (f out after : List ℕ) (r : ReadAnswer) (e : outcome (ofRead r) after
   -- A refusal that is due is given, and nothing is written.
   pub is-refused : (q : Refusal) → readAsked f out ≡ refuse q out → r ≡ ReadRefused q
   unfolding refuse
-  is-refused q p = is-returned r q (ap (λ (o : Outcome). o .answer) (e ∙ p))
+  is-refused q p = unread-is r q (ap (λ (o : Outcome). o .answer) (e ∙ p))
 
   is-unchanged : (q : Refusal) → readAsked f out ≡ refuse q out → after ≡ out
   unfolding refuse
@@ -75,7 +61,7 @@ module _ (f out after : List ℕ) (r : ReadAnswer) (e : outcome (ofRead r) after
   pub is-answered : (xs : List ℕ) → readFile f ≡ Numbers xs → verdict xs ≡ Accepted → length xs ≤ length out
       → r ≡ Read (rowCount xs) (length (blocksOf xs)) (count (blocksOf xs))
   unfolding answer
-  is-answered xs p v h = is-given r _ _ _ (ap (λ (o : Outcome). o .answer) (e ∙ read-answer f xs out p v h))
+  is-answered xs p v h = read-is r _ _ _ (ap (λ (o : Outcome). o .answer) (e ∙ read-answer f xs out p v h))
 
   -- Every answer is one of these cases.
   pub read-case : ReadCase f out r after

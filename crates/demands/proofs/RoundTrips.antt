@@ -8,26 +8,21 @@ use Rattle.model.specs.Limits.{rowSize}
 use Rattle.model.specs.Rows.{rowCount, rowsOf, fileText}
 use Rattle.model.specs.Lists.{overwrite}
 use Rattle.model.specs.Verdicts.{verdict}
-use Rattle.model.specs.Answers.{Returned, given, returned, ofRead, ofWrite}
+use Rattle.model.specs.Answers.{given, ofRead, ofWrite}
 use Rattle.model.specs.Questions.{Outcome, outcome, answer, writeInto, readAsked, writeAsked}
 use Rattle.model.specs.declared.Verdict.the-variants.{Accepted}
 use Rattle.model.specs.declared.ReadAnswer.{ReadAnswer}
 use Rattle.model.specs.declared.ReadAnswer.the-variants.{Read}
 use Rattle.model.specs.declared.WriteAnswer.{WriteAnswer}
-use Rattle.model.specs.declared.WriteAnswer.the-variants.{Written, Refused as WriteRefused}
+use Rattle.model.specs.declared.WriteAnswer.the-variants.{Written}
 use Rattle.shows.proofs.Accepted.{accepted-show}
 use Rattle.shows.proofs.RoundTrips.{read-back, write-back}
 use Rattle.demands.specs.Buffers.{Leaves}
 use Rattle.demands.specs.RoundTrips.{WritesBack, ReadsBack}
 use Rattle.demands.proofs.Buffers.{leaves}
 use Rattle.demands.proofs.Outcomes.{was-accepted, had-room}
-use Rattle.demands.proofs.ReadCases.{is-given, Answered, answered}
-
--- An answer to write is known by its length.
-pub written-is : (w : WriteAnswer) (bytes : ℕ) → ofWrite w ≡ given (bytes ∷ []) → w ≡ Written bytes
-unfolding ofWrite given returned
-written-is (Written n) bytes e = ap Written (ap (λ (x : Returned). getD (x .values) 0 0) e)
-written-is (WriteRefused f) bytes e = let k = ap (λ (x : Returned). length (x .values)) e in absurd (omega arith)
+use Rattle.demands.proofs.ReadCases.{Answered, answered}
+use Rattle.demands.proofs.Answers.{read-is, written-is}
 
 -- The rows that were read are all of the numbers.
 rows-long : (xs : List ℕ) → verdict xs ≡ Accepted → rowCount xs * rowSize ≡ length xs
@@ -83,6 +78,6 @@ reads-back xs out after w bytes e a r out′ after′ e′ h =
     let t : take bytes after ≡ fileText (rowsOf xs) = rw (k .bytes-are) (k .left .first) in
     let b = (rw t at e′) ∙ read-back xs out′ (k .lawful) h in
     record {
-      answer = is-given r _ _ _ (ap (λ (o : Outcome). o .answer) b);
+      answer = read-is r _ _ _ (ap (λ (o : Outcome). o .answer) b);
       rows = rw (ap (λ (o : Outcome). o .after) b) (leaves xs out′ h);
     }

@@ -8,7 +8,7 @@ use Rattle.model.specs.Text.{names, ends, decimal}
 use Rattle.model.specs.Rows.{Row, cell, rowAt, rowsFrom, rowCount, rowsOf}
 use Rattle.model.specs.Blocks.{lastBlock}
 use Rattle.model.specs.Verdicts.{refusal}
-use Rattle.model.specs.Answers.{returned, given, flag, ofRead, ofWrite, ofCount, ofLocate, ofNumber, ofList}
+use Rattle.model.specs.Answers.{returned, given, flag, ofRead, ofWrite, ofCount, ofLocate, ofNumber, ofList, ofFewest}
 use Rattle.basics.proofs.Members.{range-length, range-at}
 use Rattle.shows.proofs.Digits.{decimal-last}
 use Rattle.demands.specs.Words.{Figures, Bytes, RowWords, ListWords, AnswerWords, Words}
@@ -71,7 +71,7 @@ unfolding lastBlock
 lists = record { range-many = range-length; range-are = range-at; last = λ b earlier. omega arith }
 
 answers : AnswerWords
-unfolding refusal returned given flag ofRead ofWrite ofCount ofLocate ofNumber ofList
+unfolding refusal returned given flag ofRead ofWrite ofCount ofLocate ofNumber ofList ofFewest
 answers =
     record {
       refusal-is = λ n p. (refl, refl);
@@ -89,6 +89,9 @@ answers =
       page = λ written. (refl, refl, refl);
       page-more = λ written. (refl, refl, refl);
       unlisted = λ q. refl;
+      steps = λ n. (refl, refl, refl);
+      no-chain = (refl, refl, refl);
+      unsearched = λ q. refl;
     }
 
 pub words : Words

@@ -2,12 +2,12 @@
 use Prim.Native.Nat.{ℕ, _≤_, _<_}
 use native.Mathlib.Omega.{arith}
 use native.Mathlib.Decide.{decLt}
-use mathlib.Core.Path.{_≡_, refl, _∙_, ap, ap₂}
+use mathlib.Core.Path.{_≡_, refl, _∙_, ap}
 use mathlib.Core.List.{List}
 use lib.ListN.{length}
 use Rattle.model.specs.Rows.{rowsOf, fileText}
 use Rattle.model.specs.Verdicts.{refusal, verdict}
-use Rattle.model.specs.Answers.{Returned, given, returned, ofWrite}
+use Rattle.model.specs.Answers.{given, ofWrite}
 use Rattle.model.specs.Questions.{Outcome, refuse, answer, onAccepted, withRoom, writeInto, writeAsked}
 use Rattle.model.specs.declared.Refusal.{Refusal}
 use Rattle.model.specs.declared.Verdict.{Verdict}
@@ -24,17 +24,12 @@ use Rattle.demands.specs.Files.{SpellsFile, IsWritten}
 use Rattle.demands.proofs.Stages.{numbers}
 use Rattle.demands.proofs.Acceptance.{accepted-exactly, refused-is}
 use Rattle.demands.proofs.Files.{file-reads}
-use Rattle.demands.proofs.RoundTrips.{written-is, Wrote, wrote}
+use Rattle.demands.proofs.Answers.{written-is, unwritten-is}
+use Rattle.demands.proofs.RoundTrips.{Wrote, wrote}
 
 -- The file of accepted rows says them.
 says : (xs : List ℕ) → verdict xs ≡ Accepted → SpellsFile (fileText (rowsOf xs)) xs
 says xs v = file-reads (fileText (rowsOf xs)) xs .0 (rows-read xs v)
-
--- An answer that returns a refusal is that refusal.
-unwritten-is : (w : WriteAnswer) (q : Refusal) → ofWrite w ≡ returned q → w ≡ Unwritten q
-unfolding ofWrite given returned refusal
-unwritten-is (Written n) q e = let k = ap (λ (x : Returned). length (x .values)) e in absurd (omega arith)
-unwritten-is (Unwritten p) q e = ap Unwritten (ap₂ refusal (ap (λ (x : Returned). x .number) e) (ap (λ (x : Returned). x .place) e))
 
 -- What is answered where the rows are refused, and where there is too little room.
 module _ (xs out : List ℕ) where

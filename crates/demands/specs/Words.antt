@@ -10,7 +10,7 @@ use Rattle.model.specs.Rows.{rowCount, rowsOf}
 use Rattle.model.specs.Blocks.{Block, lastBlock}
 use Rattle.model.specs.Verdicts.{refusal}
 use Rattle.model.specs.Lists.{range}
-use Rattle.model.specs.Answers.{Returned, returned, ofRead, ofWrite, ofCount, ofLocate, ofNumber, ofList}
+use Rattle.model.specs.Answers.{Returned, returned, ofRead, ofWrite, ofCount, ofLocate, ofNumber, ofList, ofFewest}
 use Rattle.model.specs.declared.Refusal.{Refusal}
 use Rattle.model.specs.declared.ReadAnswer.the-variants.{Read, Refused as Unread}
 use Rattle.model.specs.declared.WriteAnswer.the-variants.{Written, Refused as Unwritten}
@@ -18,6 +18,7 @@ use Rattle.model.specs.declared.CountAnswer.the-variants.{Cues, Refused as Unco
 use Rattle.model.specs.declared.LocateAnswer.the-variants.{Found, Refused as Unlocated}
 use Rattle.model.specs.declared.NumberAnswer.the-variants.{Number, Refused as Unnumbered}
 use Rattle.model.specs.declared.ListAnswer.the-variants.{Page, Refused as Unlisted}
+use Rattle.model.specs.declared.FewestAnswer.the-variants.{Steps, None, Refused as Unsearched}
 use Rattle.demands.specs.Acceptance.{nthRow, IsRow}
 
 -- The figures of document 01.
@@ -65,7 +66,7 @@ pub record ListWords : Type 0 where
   pub range-are : (n many i : ℕ) → i < many → getD (range n many) i 0 ≡ n + i
   pub last : (b : Block) (earlier : List Block) → lastBlock (b ∷ earlier) ≡ length earlier
 
--- "returned (number, place)", and the values of an answer in order, 1 for "more".
+-- "returned (number, place)", and the values of an answer in order: 1 for "more", and 1 before the fewest follow-ons, 0 and 0 for none.
 abbrev pub IsReturned : Returned → ℕ → ℕ → List ℕ → Type 0
 IsReturned a number place values = (a .number ≡ number) × (a .place ≡ place) × (a .values ≡ values)
 
@@ -85,6 +86,9 @@ pub record AnswerWords : Type 0 where
   pub page : (written : ℕ) → IsReturned (ofList (Page written false)) 0 0 (written ∷ 0 ∷ [])
   pub page-more : (written : ℕ) → IsReturned (ofList (Page written true)) 0 0 (written ∷ 1 ∷ [])
   pub unlisted : (q : Refusal) → ofList (Unlisted q) ≡ returned q
+  pub steps : (n : ℕ) → IsReturned (ofFewest (Steps n)) 0 0 (1 ∷ n ∷ [])
+  pub no-chain : IsReturned (ofFewest None) 0 0 (0 ∷ 0 ∷ [])
+  pub unsearched : (q : Refusal) → ofFewest (Unsearched q) ≡ returned q
 
 pub record Words : Type 0 where
   pub figures : Figures

@@ -1,0 +1,117 @@
+-- An answer is known by its number, place and values: what each kind of answer is, from what it returns.
+use Prim.Native.Nat.{ℕ, _≤_}
+use native.Mathlib.Omega.{arith}
+use mathlib.Core.Path.{_≡_, refl, sym, ap, ap₂}
+use mathlib.Core.Bool.{Bool, true, false}
+use mathlib.Core.List.{List, [], _∷_}
+use lib.ListN.{length, getD}
+use Rattle.model.specs.Verdicts.{refusal}
+use Rattle.model.specs.Answers.{Returned, given, returned, flag, ofRead, ofWrite, ofCount, ofLocate, ofNumber, ofList, ofFewest}
+use Rattle.model.specs.declared.Refusal.{Refusal}
+use Rattle.model.specs.declared.ReadAnswer.{ReadAnswer}
+use Rattle.model.specs.declared.ReadAnswer.the-variants.{Read, Refused as Unread}
+use Rattle.model.specs.declared.WriteAnswer.{WriteAnswer}
+use Rattle.model.specs.declared.WriteAnswer.the-variants.{Written, Refused as Unwritten}
+use Rattle.model.specs.declared.CountAnswer.{CountAnswer}
+use Rattle.model.specs.declared.CountAnswer.the-variants.{Cues, Refused as Uncounted}
+use Rattle.model.specs.declared.LocateAnswer.{LocateAnswer}
+use Rattle.model.specs.declared.LocateAnswer.the-variants.{Found, Refused as Unlocated}
+use Rattle.model.specs.declared.NumberAnswer.{NumberAnswer}
+use Rattle.model.specs.declared.NumberAnswer.the-variants.{Number, Refused as Unnumbered}
+use Rattle.model.specs.declared.ListAnswer.{ListAnswer}
+use Rattle.model.specs.declared.ListAnswer.the-variants.{Page, Refused as Unlisted}
+use Rattle.model.specs.declared.FewestAnswer.{FewestAnswer}
+use Rattle.model.specs.declared.FewestAnswer.the-variants.{Steps, None, Refused as Unsearched}
+
+-- Refusals that are returned alike are one refusal, values that are given alike are the same, and a refusal has no values.
+same-refusal : (p q : Refusal) → returned p ≡ returned q → p ≡ q
+unfolding returned refusal
+same-refusal p q e = ap₂ refusal (ap (λ (x : Returned). x .number) e) (ap (λ (x : Returned). x .place) e)
+
+same-value : (vs ws : List ℕ) → given vs ≡ given ws → (i : ℕ) → getD vs i 0 ≡ getD ws i 0
+unfolding given
+same-value vs ws e i = ap (λ (x : Returned). getD (x .values) i 0) e
+
+pub no-values : (vs : List ℕ) (q : Refusal) → 1 ≤ length vs → given vs ≡ returned q → ⊥
+unfolding given returned
+no-values vs q h e = let k = ap (λ (x : Returned). length (x .values)) e in omega arith
+
+pub read-is : (r : ReadAnswer) (rows blocks cues : ℕ) → ofRead r ≡ given (rows ∷ blocks ∷ cues ∷ []) → r ≡ Read rows blocks cues
+unfolding ofRead
+read-is (Read a b c) rows blocks cues e =
+    let p : a ≡ rows = same-value _ _ e 0 in
+    let q : b ≡ blocks = same-value _ _ e 1 in
+    let s : c ≡ cues = same-value _ _ e 2 in
+    cc
+read-is (Unread p) rows blocks cues e = absurd (no-values _ p (omega arith) (sym e))
+
+pub unread-is : (r : ReadAnswer) (q : Refusal) → ofRead r ≡ returned q → r ≡ Unread q
+unfolding ofRead
+unread-is (Read a b c) q e = absurd (no-values _ q (omega arith) e)
+unread-is (Unread p) q e = ap Unread (same-refusal p q e)
+
+pub written-is : (r : WriteAnswer) (bytes : ℕ) → ofWrite r ≡ given (bytes ∷ []) → r ≡ Written bytes
+unfolding ofWrite
+written-is (Written n) bytes e = ap Written (same-value _ _ e 0)
+written-is (Unwritten p) bytes e = absurd (no-values _ p (omega arith) (sym e))
+
+pub unwritten-is : (r : WriteAnswer) (q : Refusal) → ofWrite r ≡ returned q → r ≡ Unwritten q
+unfolding ofWrite
+unwritten-is (Written n) q e = absurd (no-values _ q (omega arith) e)
+unwritten-is (Unwritten p) q e = ap Unwritten (same-refusal p q e)
+
+pub cues-is : (r : CountAnswer) (n : ℕ) → ofCount r ≡ given (n ∷ []) → r ≡ Cues n
+unfolding ofCount
+cues-is (Cues m) n e = ap Cues (same-value _ _ e 0)
+cues-is (Uncounted p) n e = absurd (no-values _ p (omega arith) (sym e))
+
+pub found-is : (r : LocateAnswer) (depth block own : ℕ) → ofLocate r ≡ given (depth ∷ block ∷ own ∷ []) → r ≡ Found depth block own
+unfolding ofLocate
+found-is (Found a b c) depth block own e =
+    let p : a ≡ depth = same-value _ _ e 0 in
+    let q : b ≡ block = same-value _ _ e 1 in
+    let s : c ≡ own = same-value _ _ e 2 in
+    cc
+found-is (Unlocated p) depth block own e = absurd (no-values _ p (omega arith) (sym e))
+
+pub unlocated-is : (r : LocateAnswer) (q : Refusal) → ofLocate r ≡ returned q → r ≡ Unlocated q
+unfolding ofLocate
+unlocated-is (Found a b c) q e = absurd (no-values _ q (omega arith) e)
+unlocated-is (Unlocated p) q e = ap Unlocated (same-refusal p q e)
+
+pub number-is : (r : NumberAnswer) (n : ℕ) → ofNumber r ≡ given (n ∷ []) → r ≡ Number n
+unfolding ofNumber
+number-is (Number m) n e = ap Number (same-value _ _ e 0)
+number-is (Unnumbered p) n e = absurd (no-values _ p (omega arith) (sym e))
+
+pub unnumbered-is : (r : NumberAnswer) (q : Refusal) → ofNumber r ≡ returned q → r ≡ Unnumbered q
+unfolding ofNumber
+unnumbered-is (Number m) q e = absurd (no-values _ q (omega arith) e)
+unnumbered-is (Unnumbered p) q e = ap Unnumbered (same-refusal p q e)
+
+-- "more" or not.
+flag-same : (a b : Bool) → flag a ≡ flag b → a ≡ b
+unfolding flag
+flag-same true true e = refl
+flag-same true false e = absurd (omega arith)
+flag-same false true e = absurd (omega arith)
+flag-same false false e = refl
+
+pub page-is : (r : ListAnswer) (written : ℕ) (more : Bool) → ofList r ≡ given (written ∷ flag more ∷ []) → r ≡ Page written more
+unfolding ofList
+page-is (Page n b) written more e =
+    let p : n ≡ written = same-value _ _ e 0 in
+    let q : b ≡ more = flag-same b more (same-value _ _ e 1) in
+    cc
+page-is (Unlisted p) written more e = absurd (no-values _ p (omega arith) (sym e))
+
+pub unlisted-is : (r : ListAnswer) (q : Refusal) → ofList r ≡ returned q → r ≡ Unlisted q
+unfolding ofList
+unlisted-is (Page a b) q e = absurd (no-values _ q (omega arith) e)
+unlisted-is (Unlisted p) q e = ap Unlisted (same-refusal p q e)
+
+pub unsearched-is : (r : FewestAnswer) (q : Refusal) → ofFewest r ≡ returned q → r ≡ Unsearched q
+unfolding ofFewest
+unsearched-is (Steps n) q e = absurd (no-values _ q (omega arith) e)
+unsearched-is None q e = absurd (no-values _ q (omega arith) e)
+unsearched-is (Unsearched p) q e = ap Unsearched (same-refusal p q e)
