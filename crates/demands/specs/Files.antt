@@ -91,9 +91,10 @@ pub record IsRead (f out : List ℕ) (r : ReadAnswer) (after : List ℕ) : Type 
   -- each of 4 to 10 if the text keeps the rules and this sentence of its rows is the first that is broken,
   pub refused : (c : Check) (p : ℕ) → (r ≡ Refused (refusal (refusalNumber c) (linePlace c p)))
       ↔ ((xs : List ℕ) × SpellsFile f xs × FirstBroken xs c p)
-  -- and 11. There is no other, and "A refusal leaves all lent memory unchanged."
-  pub no-other : (q : Refusal) → r ≡ Refused q → ReadRefusal q
+  -- and 11 if all that is kept and the output is too short.
   pub no-room : (r ≡ Refused (refusal 11 0)) ↔ ((xs : List ℕ) × SpellsFile f xs × Lawful xs × (length out < length xs))
+  -- There is no other. "A refusal leaves all lent memory unchanged."
+  pub no-other : (q : Refusal) → r ≡ Refused q → ReadRefusal q
   pub unchanged : (q : Refusal) → r ≡ Refused q → after ≡ out
 
 -- What write answers and leaves, for rows and a lent output. Rows that keep the rules have a file; it answers exactly if such a file fits, and leaves
