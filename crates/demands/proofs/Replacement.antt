@@ -1,6 +1,6 @@
 -- The unfolding by single steps: whatever use is replaced at each step, it ends, in the cues that the numbers name and in the links of the
 -- unfolded show. At every point of a run, what is done and what the uses that stand are still to bring is the whole show.
-use Prim.Native.Nat.{ℕ, suc, _+_, _≤_}
+use Prim.Native.Nat.{ℕ, zero, suc, _+_, _≤_, _<_}
 use native.Mathlib.Omega.{arith}
 use mathlib.Core.Path.{_≡_, refl, sym}
 use mathlib.Core.Logic.{_⊎_, inl, inr}
@@ -142,9 +142,9 @@ unfolding flatMap
 unfolds bs good some closed =
     record {
       bounded = λ r. omega (arith, kept r .number);
-      goes-on = λ {n} {g} r l. one-more bs g (omega (arith, kept r .number));
-      all = λ {n} {g} r.
-          (λ e. omega (arith, kept r .number, over-left bs g e), λ e. none-left bs good (kept r) (omega (arith, kept r .number)));
+      goes-on = goes-on;
+      all = λ {n} {g} r. (λ e. omega (arith, kept r .number, over-left bs g e), λ e. over r e);
+      ended = let (g, r) = run-to (copies bs (lastBlock bs)) (omega arith) in (g, record { run = r; over = over r refl });
       cues = cues;
       named = number-back bs good;
       links = links;
@@ -153,6 +153,16 @@ unfolds bs good some closed =
   where
     kept : {n : ℕ} {g : Graph} → Run bs n (begin bs) g → Kept bs n g
     kept r = kept-run bs good r (kept-begin bs good some)
+
+    goes-on : {n : ℕ} {g : Graph} → Run bs n (begin bs) g → n < copies bs (lastBlock bs) → (h : Graph) × Step bs g h
+    goes-on {n} {g} r l = one-more bs g (omega (arith, kept r .number))
+
+    over : {n : ℕ} {g : Graph} → Run bs n (begin bs) g → n ≡ copies bs (lastBlock bs) → g .uses ≡ []
+    over r e = none-left bs good (kept r) (omega (arith, kept r .number))
+
+    run-to : (n : ℕ) → n ≤ copies bs (lastBlock bs) → (g : Graph) × Run bs n (begin bs) g
+    run-to zero h = (begin bs, stay)
+    run-to (suc n) h = let (g, r) = run-to n (omega arith) in let (i, s) = goes-on r h in (i, then r s)
 
     cues : {n : ℕ} {g : Graph} → Ended bs n g → List·Permᴰ (g .cues) (map (nodeAt bs) (range 1 (count bs)))
     cues e = rw append-nil at (rw (e .over) at (kept (e .run) .cues))

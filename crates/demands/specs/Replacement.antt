@@ -110,9 +110,11 @@ byNumbers bs e = record { from = nodeNumber bs (e .from); to = nodeNumber bs (e 
 -- Whatever use is replaced at each step, it ends, and in the same graph.
 pub record Unfolds (bs : List Block) : Type 0 where
   -- A run has at most as many steps as there are copies; with fewer, a use stands and is replaced; with all of them, none stands.
+  -- So there is a run to the end.
   pub bounded : {n : ℕ} {g : Graph} → Run bs n (begin bs) g → n ≤ copies bs (lastBlock bs)
   pub goes-on : {n : ℕ} {g : Graph} → Run bs n (begin bs) g → n < copies bs (lastBlock bs) → (h : Graph) × Step bs g h
   pub all : {n : ℕ} {g : Graph} → Run bs n (begin bs) g → (g .uses ≡ []) ↔ (n ≡ copies bs (lastBlock bs))
+  pub ended : (g : Graph) × Ended bs (copies bs (lastBlock bs)) g
   -- The number n names the cue that has the number n. Its cues are those that the numbers 1 to the count name, so each is there once. Its links
   -- lead from cue to cue and, each cue replaced by its number, are the links of the unfolded show, as often as they stand there.
   -- (List·Permᴰ: one list is a rearrangement of the other.)
