@@ -132,7 +132,7 @@ AreTotals xs T =
     (r : ℕ) → IsRow xs r → Opens (nthRow xs r)
     → T (nthRow xs r .block) ≡ ownIn xs (nthRow xs r .block) + usesTotal T (nthRow xs r .block) (rowsOf xs)
 
--- "No total may exceed 2,147,483,647." (Accepted rows have totals, the same whoever gives them: `Numbers.IsCount`.)
+-- "No total may exceed 2,147,483,647." (Accepted rows have totals: `Numbers.IsCount`.)
 abbrev pub TotalFits : List ℕ → Row → Type 0
 TotalFits xs w = (T : ℕ → ℕ) → AreTotals xs T → T (w .block) ≤ maxTotal
 

@@ -50,8 +50,8 @@ pub data Pages (Asks : ℕ → List ℕ → ListAnswer → List ℕ → Type 0) 
   one-more-page : {many : ℕ} {cues page after : List ℕ} {written : ℕ} {more : Bool} → Pages Asks n many cues true → 1 ≤ length page
       → Asks (getD cues (length cues - 1) 0) page (Page written more) after → Pages Asks n (suc many) (cues ++ take written after) more
 
--- What they come to: the smallest linked cues again; no more pages say "more" than there are cues, so this ends; and when no more is said, every
--- linked cue greater than n was written, once.
+-- What they come to: the smallest linked cues again; no more pages say "more" than the number of any cue that no linked one exceeds, so this
+-- ends; and when no more is said, every linked cue greater than n was written, once.
 pub record ArePages (Linked : ℕ → Type 0) (n many : ℕ) (cues : List ℕ) (more : Bool) : Type 0 where
   pub smallest : Smallest Linked n cues more
   pub ends : more ≡ true → (most : ℕ) → ((u : ℕ) → Linked u → u ≤ most) → many ≤ most

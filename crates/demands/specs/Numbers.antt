@@ -34,7 +34,7 @@ pub data Before : List ℕ → ℕ → List ℕ → ℕ → Type 0 where
   same-use : {c d p q : ℕ} {path way : List ℕ} → p ≡ q → Before path c way d → Before (p ∷ path) c (q ∷ way) d
 
 -- What count answers: "the total of the show", which is the last block, and so many cues the unfolded show has, by whatever steps. The rows have
--- totals, and only these.
+-- totals, and whoever gives them gives the show this one.
 pub record IsCount (xs : List ℕ) (r : CountAnswer) : Type 0 where
   pub answer : r ≡ Cues (count (blocksOf xs))
   pub totals : (T : ℕ → ℕ) × AreTotals xs T

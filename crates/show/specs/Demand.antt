@@ -48,7 +48,7 @@ pub record AcceptanceExact : Type 0 where
   pub checks-in : (xs : List ℕ) (v n : ℕ) (page after : List ℕ) (r : ListAnswer) → AsksIn xs v n page r after → ChecksRows xs (ofList r)
   pub checks-fewest : (xs : List ℕ) (s t : ℕ) (work after : List ℕ) (r : FewestAnswer) → AsksFewest xs s t work r after → ChecksRows xs (ofFewest r)
 
--- So are refusals 11 and 12, and a refusal leaves the lent list as it was. (For read and write that stands above, for number in `IsNumber`.)
+-- So are refusals 11 and 12, and a refusal leaves the lent list as it was. (For read and write that stands above; 13, which number alone gives, is in `IsNumber`.)
 pub record RefusalsExact : Type 0 where
   pub locate : (xs : List ℕ) (n : ℕ) (lent after : List ℕ) (r : LocateAnswer) → AsksLocate xs n lent r after → LocateRefuses xs n lent r after
   pub list-out : (xs : List ℕ) (v n : ℕ) (page after : List ℕ) (r : ListAnswer) → AsksOut xs v n page r after → ListRefuses xs v page r after
