@@ -17,8 +17,7 @@ fn file_of(rows: &[u32]) -> Vec<u8> {
 
 /// What the program prints for a file. A program that stops reading early is no failure.
 fn ask(program: &str, file: Vec<u8>) -> std::io::Result<Vec<u8>> {
-    let mut child =
-        Command::new(program).stdin(Stdio::piped()).stdout(Stdio::piped()).spawn()?;
+    let mut child = Command::new(program).stdin(Stdio::piped()).stdout(Stdio::piped()).spawn()?;
     let mut stdin = child.stdin.take().expect("it was piped");
     let writer = thread::spawn(move || {
         let _ = stdin.write_all(&file);
@@ -97,5 +96,9 @@ fn main() -> ExitCode {
         }
     }
     println!("{passed} passed, {failed} failed");
-    if failed == 0 { ExitCode::SUCCESS } else { ExitCode::FAILURE }
+    if failed == 0 {
+        ExitCode::SUCCESS
+    } else {
+        ExitCode::FAILURE
+    }
 }

@@ -307,7 +307,8 @@ pub fn millions() -> Vec<u32> {
     build.open(1, 240);
     for slope in 0..5 {
         for start in 1..=30 {
-            let cues: Vec<u32> = (0..8).map(|k| 30 * k + (start - 1 + slope * k) % 30 + 1).collect();
+            let cues: Vec<u32> =
+                (0..8).map(|k| 30 * k + (start - 1 + slope * k) % 30 + 1).collect();
             build.take(1, &cues);
         }
     }
