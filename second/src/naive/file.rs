@@ -20,13 +20,16 @@ fn row_of(line: &[u8]) -> Option<Row> {
     values?.try_into().ok()
 }
 
-/// A value is well formed if printing it gives the same text.
+/// A value is one to five digits, leading zeros allowed, and at most 65,535.
 fn value_of(text: &str) -> Option<u32> {
-    let value: u16 = text.parse().ok()?;
-    (value.to_string() == text).then_some(value.into())
+    let digits = text.bytes().all(|byte| byte.is_ascii_digit());
+    if !digits || text.is_empty() || text.len() > 5 {
+        return None;
+    }
+    text.parse().ok().filter(|value| *value <= 65_535)
 }
 
-/// Rows as a file.
+/// Rows as a file, without padding.
 pub fn print(rows: &[Row]) -> Vec<u8> {
     let mut file = NAMES.to_vec();
     for row in rows {

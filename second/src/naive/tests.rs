@@ -180,3 +180,53 @@ fn refused_files() {
     lines[1398] = "0";
     assert_eq!(printed(&file(&lines)), "refusal,place\n3,1400\n");
 }
+
+/// What the naive tool says of a show of one row whose own cues are written so.
+fn with_own(text: &str) -> Result<u32, (u32, u32)> {
+    let show = Show::of_file(&file(&[&format!("0,0,0,{text},0,0,0,0,0,0,0")]));
+    show.map(|show| show.count()).map_err(|refusal| (refusal.number, refusal.place))
+}
+
+#[test]
+fn a_value_has_one_to_five_digits() {
+    for text in ["7", "07", "007", "0007", "00007"] {
+        assert_eq!(with_own(text), Ok(7));
+    }
+    assert_eq!(with_own("00255"), Ok(255));
+    assert_eq!(with_own("00256"), Err((6, 2)));
+    assert_eq!(with_own("65535"), Err((6, 2)));
+    for zero in ["0", "00", "000", "0000", "00000"] {
+        assert_eq!(with_own(zero), Err((9, 2)));
+    }
+}
+
+#[test]
+fn malformed_values() {
+    let six = ["000000", "000001", "000255", "065535", "065536", "100000"];
+    let large = ["65536", "65540", "70000", "99999"];
+    let others =
+        ["", "+7", "-7", "-0", " 7", "7 ", "+0007", " 0007", "0 007", "0x007", "7.0", "\u{667}"];
+    for text in six.iter().chain(&large).chain(&others) {
+        assert_eq!(with_own(text), Err((3, 2)), "{text:?}");
+    }
+}
+
+#[test]
+fn a_padded_file_is_written_without_padding() {
+    let lines = "block,kind,label,a,b,c,d,e,f,g,h
+00000,00000,00002,00001,00000,00000,00000,00000,00000,00000,00000
+00000,00001,00001,00001,00003,00000,00000,00000,00000,00000,00000
+00000,00001,00001,00002,00001,00000,00000,00000,00000,00000,00000
+00001,00000,00002,00001,00000,00000,00000,00000,00000,00000,00000
+00001,00002,00000,00001,00003,00000,00000,00000,00000,00000,00000
+00001,00002,00000,00002,00001,00000,00000,00000,00000,00000,00000
+00002,00000,00000,00002,00000,00000,00000,00000,00000,00000,00000
+00002,00001,00002,00002,00001,00000,00000,00000,00000,00000,00000
+00002,00002,00001,00001,00002,00000,00000,00000,00000,00000,00000
+";
+    let padded = Show::of_file(lines.as_bytes()).expect("the padded ring is read");
+    assert_eq!(padded.rows.concat(), known::ring());
+    let written = padded.answer(&Question::Write { room: 231 }, 3).expect("231 bytes are enough");
+    assert_eq!(written.bytes, super::file::print(known::ring().as_chunks().0));
+    assert_eq!(written.given, [231]);
+}

@@ -4,6 +4,9 @@ use super::check::{Show, EMPTY};
 use super::checked;
 use crate::limits::{Refusal, Row, BYTES, COLUMNS, GIVEN, NAMES, ROWS};
 
+/// The most digits of a value.
+const DIGITS: usize = 5;
+
 pub fn read(file: &[u8], rows: &mut [u32], given: &mut [u32]) -> Result<(), Refusal> {
     let mut parsed = [[0; COLUMNS]; ROWS];
     let count = parse(file, &mut parsed)?;
@@ -52,28 +55,27 @@ fn line<'a>(mut text: &'a [u8], row: &mut Row) -> Option<&'a [u8]> {
     Some(text)
 }
 
-/// Takes a value and the byte after it off the text.
+/// Takes a value and the byte after it off the text. Five digits fit without a test, so the
+/// largest value is looked at once, behind them.
 fn value(text: &[u8], end: u8) -> Option<(u32, &[u8])> {
     let (first, mut text) = text.split_first()?;
     let mut number = u32::from(first.wrapping_sub(b'0'));
     if number > 9 {
         return None;
     }
-    loop {
+    for _ in 0..DIGITS {
         let (byte, rest) = text.split_first()?;
         text = rest;
         if *byte == end {
-            return Some((number, text));
+            return (number <= 65_535).then_some((number, text));
         }
         let digit = u32::from(byte.wrapping_sub(b'0'));
-        if digit > 9 || number == 0 {
+        if digit > 9 {
             return None;
         }
         number = number * 10 + digit;
-        if number > 65_535 {
-            return None;
-        }
     }
+    None
 }
 
 pub fn write(rows: &[u32], out: &mut [u8], given: &mut [u32]) -> Result<(), Refusal> {
