@@ -5,7 +5,7 @@
 use std::process::ExitCode;
 
 use second::compare::checker::{Census, Checker, Failure};
-use second::compare::{big, random, report};
+use second::compare::{big, padded, random, report};
 use second::subject::{self, Subject};
 
 struct Words {
@@ -74,7 +74,7 @@ fn compare(words: &Words) -> Result<Tally, String> {
     let cases = match words.case {
         Some(case) => case..case + 1,
         None => {
-            for (name, case) in big::CASES {
+            for (name, case) in big::CASES.iter().chain(padded::CASES) {
                 tally.run(&subject, name, case);
             }
             0..words.count

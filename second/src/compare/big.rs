@@ -59,7 +59,7 @@ fn near_rows(checker: &mut Checker) {
     for (rows, turn) in edges::bases().iter().flat_map(|base| edges::near_rows(base)).zip(0..) {
         let file = print(rows.as_chunks().0);
         let room = rows.len();
-        Subjected::new(checker, Input::File(file)).ask(Question::Read { room });
+        Subjected::new(checker, Input::File(file)).ask_once(room);
         let mut asked = Subjected::new(checker, Input::Rows(rows));
         asked.ask(Question::Count);
         if turn % 100 == 0 {
@@ -71,7 +71,7 @@ fn near_rows(checker: &mut Checker) {
 /// Every small change of a file.
 fn near_files(checker: &mut Checker) {
     for file in edges::near_files(&print(known::ring().as_chunks().0)) {
-        Subjected::new(checker, Input::File(file)).ask(Question::Read { room: 100 });
+        Subjected::new(checker, Input::File(file)).ask_once(100);
     }
 }
 

@@ -29,16 +29,23 @@ impl<'a> Checker<'a> {
         Checker { subject, census: [0; 14], failure: None }
     }
 
-    /// Compares a call with a result that is known.
-    pub fn compare(&mut self, input: &Input, call: Call, result: &Result<Answer, Refusal>) {
-        let Some(actual) = Outcome::actual(self.subject, input, &call) else { return };
+    /// Compares a call with a result that is known. Gives what the call left; nothing if the
+    /// question is switched off.
+    pub fn compare(
+        &mut self,
+        input: &Input,
+        call: Call,
+        result: &Result<Answer, Refusal>,
+    ) -> Option<Outcome> {
+        let actual = Outcome::actual(self.subject, input, &call)?;
         let refusal = result.as_ref().err().map_or(0, |refusal| refusal.number);
         self.census[refusal as usize] += 1;
         let expected = Outcome::expected(&call, result);
         if actual != expected && self.failure.is_none() {
-            let input = input.clone();
+            let (input, actual) = (input.clone(), actual.clone());
             self.failure = Some(Box::new(Failure { input, call, expected, actual }));
         }
+        Some(actual)
     }
 }
 

@@ -3,6 +3,8 @@
 pub mod big;
 pub mod checker;
 pub mod outcome;
+pub mod padded;
 pub mod questions;
 pub mod random;
 pub mod report;
+pub mod round;

@@ -11,9 +11,16 @@ const SMALL: u32 = 24;
 const SAMPLE: u32 = 60;
 
 impl Subjected<'_, '_> {
-    /// Asks for the contents of a file, with room of several lengths.
+    /// Asks for the contents of a file, with room of several lengths, and goes its round.
     pub fn ask_file(&mut self, prng: &mut Prng) {
         self.ask_rooms(prng, Question::Read { room: 0 });
+        self.ask_round();
+    }
+
+    /// Asks once for the contents of a file, and goes its round.
+    pub fn ask_once(&mut self, room: usize) {
+        self.ask(Question::Read { room });
+        self.ask_round();
     }
 
     /// Asks everything about rows that can be unfolded.

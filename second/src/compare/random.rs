@@ -2,7 +2,7 @@
 
 use super::checker::{Checker, Subjected};
 use crate::gen::prng::Prng;
-use crate::gen::{damage, random};
+use crate::gen::{damage, padding, random};
 use crate::limits::TOTAL;
 use crate::naive::file::print;
 use crate::question::Input;
@@ -24,8 +24,13 @@ fn small(prng: &mut Prng) -> Vec<u32> {
     random::show(prng, shape)
 }
 
-fn file_of(rows: &[u32]) -> Vec<u8> {
-    print(rows.as_chunks().0)
+/// The file of these rows; one in four is padded.
+fn file_of(prng: &mut Prng, rows: &[u32]) -> Vec<u8> {
+    let file = print(rows.as_chunks().0);
+    if prng.one_in(4) {
+        return padding::some_way(prng, &file);
+    }
+    file
 }
 
 fn ask_rows(checker: &mut Checker, prng: &mut Prng, rows: Vec<u32>) {
@@ -36,15 +41,20 @@ fn ask_file(checker: &mut Checker, prng: &mut Prng, file: Vec<u8>) {
     Subjected::new(checker, Input::File(file)).ask_file(prng);
 }
 
+fn ask_file_of(checker: &mut Checker, prng: &mut Prng, rows: &[u32]) {
+    let file = file_of(prng, rows);
+    ask_file(checker, prng, file);
+}
+
 fn whole_show(checker: &mut Checker, prng: &mut Prng) {
     let rows = small(prng);
-    ask_file(checker, prng, file_of(&rows));
+    ask_file_of(checker, prng, &rows);
     ask_rows(checker, prng, rows);
 }
 
 fn larger_show(checker: &mut Checker, prng: &mut Prng) {
     let rows = random::show(prng, &random::LARGER);
-    ask_file(checker, prng, file_of(&rows));
+    ask_file_of(checker, prng, &rows);
     ask_rows(checker, prng, rows);
 }
 
@@ -58,7 +68,7 @@ fn long_show(checker: &mut Checker, prng: &mut Prng) {
     if prng.one_in(2) {
         damage::rows(prng, &mut rows);
     }
-    ask_file(checker, prng, file_of(&rows));
+    ask_file_of(checker, prng, &rows);
     let mut asked = Subjected::new(checker, Input::Rows(rows));
     if small {
         asked.ask_rows(prng);
@@ -72,7 +82,7 @@ fn damaged_file(checker: &mut Checker, prng: &mut Prng) {
     if prng.one_in(4) {
         damage::rows(prng, &mut rows);
     }
-    let mut file = file_of(&rows);
+    let mut file = file_of(prng, &rows);
     damage::file(prng, &mut file);
     ask_file(checker, prng, file);
 }
@@ -81,6 +91,6 @@ fn damaged_file(checker: &mut Checker, prng: &mut Prng) {
 fn damaged_rows(checker: &mut Checker, prng: &mut Prng) {
     let mut rows = small(prng);
     damage::rows(prng, &mut rows);
-    ask_file(checker, prng, file_of(&rows));
+    ask_file_of(checker, prng, &rows);
     ask_rows(checker, prng, rows);
 }

@@ -1,6 +1,7 @@
 //! Damaged files and rows. All kinds of damage have one type, so that one can be picked.
 #![allow(clippy::ptr_arg)]
 
+use super::padding::values;
 use super::prng::Prng;
 use crate::limits::{BYTES, COLUMNS, NAMES, ROWS};
 
@@ -8,7 +9,7 @@ type Damage<T> = fn(&mut Prng, &mut Vec<T>);
 
 /// Damages a file in one place, now and then in a second one.
 pub fn file(prng: &mut Prng, file: &mut Vec<u8>) {
-    const KINDS: [Damage<u8>; 12] = [
+    const KINDS: [Damage<u8>; 14] = [
         drop_byte,
         double_byte,
         put_byte,
@@ -16,6 +17,8 @@ pub fn file(prng: &mut Prng, file: &mut Vec<u8>) {
         change_byte,
         new_value,
         new_value,
+        pad_value,
+        pad_value,
         value_count,
         extra_line,
         cut,
@@ -95,43 +98,40 @@ fn change_byte(prng: &mut Prng, file: &mut Vec<u8>) {
     }
 }
 
-/// Where the values stand: after the line of names, between commas and line feeds.
-fn values(file: &[u8]) -> Vec<(usize, usize)> {
-    let mut values = Vec::new();
-    let mut begin = NAMES.len();
-    for (place, byte) in file.iter().enumerate().skip(begin) {
-        if *byte == b',' || *byte == b'\n' {
-            values.push((begin, place));
-            begin = place + 1;
-        }
-    }
-    values
-}
+/// Texts in the place of a value: some are values, padded or not.
+const TEXTS: [&str; 28] = [
+    "",
+    "00",
+    "01",
+    "00000",
+    "000000",
+    "00001",
+    "000001",
+    "00256",
+    "+1",
+    "-1",
+    "-0",
+    "+0001",
+    " 1",
+    "1 ",
+    "1.0",
+    "1e1",
+    "0x1",
+    "65535",
+    "65536",
+    "065535",
+    "065536",
+    "65540",
+    "70000",
+    "99999",
+    "100000",
+    "4294967297",
+    "18446744073709551617",
+    "000000000001",
+];
 
 /// Puts another text in the place of a value.
 fn new_value(prng: &mut Prng, file: &mut Vec<u8>) {
-    const TEXTS: [&str; 20] = [
-        "",
-        "00",
-        "01",
-        "+1",
-        "-1",
-        "-0",
-        " 1",
-        "1 ",
-        "1.0",
-        "1e1",
-        "0x1",
-        "65535",
-        "65536",
-        "65540",
-        "70000",
-        "99999",
-        "100000",
-        "4294967297",
-        "18446744073709551617",
-        "000000000001",
-    ];
     let values = values(file);
     if values.is_empty() {
         return;
@@ -142,6 +142,17 @@ fn new_value(prng: &mut Prng, file: &mut Vec<u8>) {
         _ => prng.pick(&TEXTS).to_string(),
     };
     file.splice(begin..end, text.bytes());
+}
+
+/// Zeros before a value, up to seven digits; six are too many.
+fn pad_value(prng: &mut Prng, file: &mut Vec<u8>) {
+    let values = values(file);
+    if values.is_empty() {
+        return;
+    }
+    let (begin, end) = *prng.pick(&values);
+    let zeros = (2 + prng.below(6)).saturating_sub(end - begin);
+    file.splice(begin..begin, vec![b'0'; zeros]);
 }
 
 /// Ten or twelve values in a line.
@@ -187,11 +198,16 @@ fn names(prng: &mut Prng, file: &mut Vec<u8>) {
 
 /// Around the longest length: filled up with lines of zeros, then cut or stretched.
 fn length(prng: &mut Prng, file: &mut Vec<u8>) {
-    const ZEROS: &[u8] = b"0,0,0,0,0,0,0,0,0,0,0\n";
-    let lines = *prng.pick(&[ROWS - 2, ROWS - 1, ROWS, ROWS + 1, BYTES / ZEROS.len() - 1, 4000]);
+    const ZEROS: [&[u8]; 3] = [
+        b"0,0,0,0,0,0,0,0,0,0,0\n",
+        b"0,0,0,0,0,0,0,0,0,0,0\n",
+        b"00000,00000,00000,00000,00000,00000,00000,00000,00000,00000,00000\n",
+    ];
+    let zeros = *prng.pick(&ZEROS);
+    let lines = *prng.pick(&[ROWS - 2, ROWS - 1, ROWS, ROWS + 1, BYTES / zeros.len() - 1, 4000]);
     file.truncate(file.len().min(BYTES));
     for _ in 0..lines {
-        file.extend(ZEROS);
+        file.extend(zeros);
     }
     match prng.below(5) {
         0 => file.resize(BYTES, b'\n'),

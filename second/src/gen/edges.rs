@@ -1,7 +1,7 @@
 //! Every small change of a show or a file, in order, so that no limit goes untried.
 
 use super::build::Build;
-use super::known;
+use super::{known, padding};
 use crate::limits::{Row, BLOCKS, COLUMNS, JOINS};
 
 /// Values around every limit.
@@ -9,6 +9,12 @@ const VALUES: [u32; 18] =
     [0, 1, 2, 3, 4, 8, 9, 127, 128, 255, 256, 263, 264, 65_535, 65_536, 65_537, 1 << 31, u32::MAX];
 /// Bytes that could be taken for others.
 const BYTES: &[u8] = b"\r\n ,+-./:019a\0\t\xFF";
+/// Values of one to seven digits, padded and not.
+const TEXTS: [&str; 24] = [
+    "0", "00", "000", "0000", "00000", "000000", "0000000", "1", "01", "00001", "000001", "00255",
+    "00256", "000256", "256", "65535", "065535", "0065535", "65536", "065536", "99999", "099999",
+    "100000", "010000",
+];
 
 /// Small shows that stand close to many limits.
 pub fn bases() -> Vec<Vec<u32>> {
@@ -115,6 +121,22 @@ pub fn near_files(file: &[u8]) -> Vec<Vec<u8>> {
         for byte in BYTES {
             all.push([before, &[*byte], after].concat());
             all.push([before, &[*byte], rest].concat());
+        }
+    }
+    all
+}
+
+/// All files that differ from this one by one value, in any column of the first, a middle or
+/// the last line: with up to six zeros before it, and as one of the texts.
+pub fn near_values(file: &[u8]) -> Vec<Vec<u8>> {
+    let values = padding::values(file);
+    let (lines, _) = values.as_chunks::<COLUMNS>();
+    let mut all = Vec::new();
+    for line in [0, lines.len() / 2, lines.len() - 1] {
+        for (begin, end) in lines[line] {
+            let (before, value, after) = (&file[..begin], &file[begin..end], &file[end..]);
+            all.extend((1..=6).map(|zeros| [before, &b"000000"[..zeros], value, after].concat()));
+            all.extend(TEXTS.map(|text| [before, text.as_bytes(), after].concat()));
         }
     }
     all

@@ -1,8 +1,10 @@
-//! Shows to ask about: the named ones, random ones, and damaged files and rows.
+//! Shows to ask about: the named ones, random ones, padded files, and damaged files
+//! and rows.
 
 pub mod build;
 pub mod damage;
 pub mod edges;
 pub mod known;
+pub mod padding;
 pub mod prng;
 pub mod random;
