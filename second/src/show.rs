@@ -74,13 +74,15 @@ fn ask(call: impl FnOnce(&mut [u32]) -> u64) -> Result<[u32; GIVEN], Refused> {
     }
 }
 
-/// Reads a file to the beginning of `rows`; refusals of rows are placed at their lines.
+/// Reads a file, padded or not, to the beginning of `rows`; refusals of rows are placed at
+/// their lines.
 pub fn read(file: &[u8], rows: &mut [u32]) -> Result<Sizes, Refused> {
     let [rows, blocks, cues] = ask(|given| calls::read(file, rows, given))?;
     Ok(Sizes { rows: rows as usize, blocks, cues })
 }
 
-/// Writes rows as a file to the beginning of `out`; gives the length of the file.
+/// Writes rows as a file to the beginning of `out`, without padding; gives the length of the
+/// file.
 pub fn write(rows: &[u32], out: &mut [u8]) -> Result<usize, Refused> {
     Ok(ask(|given| calls::write(rows, out, given))?[0] as usize)
 }
@@ -146,6 +148,16 @@ mod tests {
         assert_eq!(read_back[..11 * 9], rows);
         assert_eq!(read_back[11 * 9], 7);
         assert_eq!(count(&rows), Ok(5));
+    }
+
+    #[test]
+    fn a_padded_file_is_written_without_padding() {
+        let line = b"00000,00000,00000,00012,00000,00000,00000,00000,00000,00000,00000\n";
+        let (mut rows, mut file) = ([0; 11], [0; 100]);
+        let sizes = read(&[NAMES, line].concat(), &mut rows);
+        assert_eq!(sizes, Ok(Sizes { rows: 1, blocks: 1, cues: 12 }));
+        let length = write(&rows, &mut file).expect("what was read is written");
+        assert_eq!(file[..length], [NAMES, b"0,0,0,12,0,0,0,0,0,0,0\n"].concat());
     }
 
     #[test]

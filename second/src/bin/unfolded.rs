@@ -7,7 +7,8 @@ use std::process::{Command, ExitCode, Stdio};
 use std::thread;
 
 use second::gen::prng::Prng;
-use second::gen::{damage, edges, known, random};
+use second::gen::{damage, edges, known, padding, random};
+use second::limits::BYTES;
 use second::naive::file::print;
 use second::naive::print::printed;
 
@@ -50,8 +51,22 @@ fn named() -> Vec<(String, Vec<u8>)> {
     let ring = file_of(&known::ring());
     let near = edges::near_files(&ring).into_iter().step_by(7);
     files.extend(near.map(|file| ("near the ring".to_string(), file)));
+    files.extend(padded());
     for length in [0, 1, 65_535, 65_536, 65_537, 10_000_000] {
         files.push((format!("{length} zeros"), vec![b'0'; length]));
+    }
+    files
+}
+
+/// Padded files, up to the longest length and a byte more, and some with one value changed.
+fn padded() -> Vec<(String, Vec<u8>)> {
+    let ring = padding::to_digits(&file_of(&known::ring()), padding::DIGITS);
+    let mut files = vec![("padded ring".to_string(), ring.clone())];
+    let near = edges::near_values(&ring).into_iter().step_by(7);
+    files.extend(near.map(|file| ("near the padded ring".to_string(), file)));
+    let wide = file_of(&known::wide(1024));
+    for length in [BYTES, BYTES + 1] {
+        files.push((format!("padded to {length} bytes"), padding::to_length(&wide, length)));
     }
     files
 }
@@ -63,6 +78,9 @@ fn some(prng: &mut Prng) -> Vec<u8> {
         damage::rows(prng, &mut rows);
     }
     let mut file = file_of(&rows);
+    if prng.one_in(4) {
+        file = padding::some_way(prng, &file);
+    }
     if prng.one_in(8) {
         damage::file(prng, &mut file);
     }

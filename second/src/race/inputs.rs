@@ -1,7 +1,7 @@
 //! What is timed: for each question, the inputs of the table of figures.
 
 use crate::gen::prng::Prng;
-use crate::gen::{known, random};
+use crate::gen::{known, padding, random};
 use crate::limits::{PATH, TOTAL, WORK};
 use crate::naive::file::print;
 use crate::question::{Input, Question};
@@ -45,6 +45,14 @@ fn some_cues(rows: &[u32]) -> Vec<u32> {
     (0..TURNS).map(|_| prng.within(1, count)).collect()
 }
 
+/// Reading a file with this many digits to a value at least. Its bytes stand in the name.
+fn read(name: &str, rows: &[u32], digits: usize) -> Entry {
+    let file = padding::to_digits(&print(rows.as_chunks().0), digits);
+    let input = format!("{name}, {} bytes", file.len());
+    let asked = vec![Question::Read { room: rows.len() }];
+    Entry { question: "read", input, lent: Input::File(file), asked }
+}
+
 /// All lines, in the order of the table.
 pub fn entries() -> Vec<Entry> {
     let lengths = [100, 500, 1024].map(sized);
@@ -55,12 +63,9 @@ pub fn entries() -> Vec<Entry> {
         lengths[2].clone(),
     ];
     let mut entries = Vec::new();
-    for show in &lengths {
-        let file = print(show.1.as_chunks().0);
-        let asked = vec![Question::Read { room: show.1.len() }];
-        let input = Input::File(file);
-        entries.push(Entry { lent: input, ..entry("read", show, asked) });
-    }
+    entries.extend(lengths.iter().map(|show| read(&show.0, &show.1, 1)));
+    entries.push(read("padded 992", &sized(992).1, 5));
+    entries.push(read("padded 1024", &lengths[2].1, 4));
     for show in &lengths {
         entries.push(entry("write", show, vec![Question::Write { room: 65_536 }]));
     }
