@@ -1,1 +1,1 @@
-// Laws of lists and choices; no code.
+// Laws of lists, choices and values in a text; no code.

@@ -6,7 +6,7 @@ use native.Mathlib.Omega.{arith}
 use native.Mathlib.Decide.{decLt}
 use lib.ListN.{length, set, length-append}
 use Rattle.model.specs.Choice.{ifLt}
-use Rattle.model.specs.Text.{digitAt, digits}
+use Rattle.model.specs.Values.{digitAt, digits}
 use Rattle.basics.proofs.Choices.{lt-then, lt-else}
 use Rattle.codec.specs.Writing.{one, two, valueText, Puts}
 use Rattle.codec.proofs.Stores.{puts-byte, puts-both, puts-as, puts-long}

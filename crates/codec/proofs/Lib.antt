@@ -1,5 +1,5 @@
 -- Laws that tie the code's definitions to those of crates/model.
-pub mod Values
+pub mod Ends
 pub mod Names
 pub mod LineScan
 pub mod FileScan

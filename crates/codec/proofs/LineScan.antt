@@ -10,9 +10,10 @@ use Rattle.model.specs.Limits.{rowSize, maxRows}
 use Rattle.model.specs.Text.{lineFeed, ends}
 use Rattle.model.specs.Verdicts.{refusal}
 use Rattle.basics.proofs.Choices.{lt-then, lt-else}
-use Rattle.codec.specs.Scanning.{valueAt, ValueFound, Values, Broken, behind, lineAt, LineSays, stored, RowSays, StepSays}
-use Rattle.codec.specs.declared.Field.{Field}
-use Rattle.codec.specs.declared.Field.the-variants.{Value, Bad}
+use Rattle.values.specs.Fields.{valueAt}
+use Rattle.codec.specs.Scanning.{ValueFound, Values, Broken, behind, lineAt, LineSays, stored, RowSays, StepSays}
+use Rattle.values.specs.declared.Field.{Field}
+use Rattle.values.specs.declared.Field.the-variants.{Value, Bad}
 use Rattle.codec.specs.declared.Line.{Line}
 use Rattle.codec.specs.declared.Line.the-variants.{Next, Malformed}
 use Rattle.codec.specs.declared.Parsed.{Parsed}

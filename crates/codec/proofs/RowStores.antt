@@ -7,13 +7,14 @@ use native.Mathlib.Numerals.{add-one}
 use lib.ListN.{length, getD, take, drop, set, length-append, length-drop, take-append-drop, drop-of-length-le}
 use lib.Seq.{length-take-le, drop-cons, drop-drop, take-add, take-all, take-suc, getD-take, getD-drop}
 use Rattle.model.specs.Limits.{rowSize}
-use Rattle.model.specs.Text.{comma, lineFeed, names, ends, digits, lineText}
+use Rattle.model.specs.Values.{digits}
+use Rattle.model.specs.Text.{comma, lineFeed, names, ends, lineText}
 use Rattle.model.specs.Rows.{Row, cell, rowAt, rowsFrom, rowValues, rowLines, fileText}
 use Rattle.model.specs.Lists.{overwrite}
 use Rattle.shows.proofs.FlatRows.{first-values}
 use Rattle.codec.specs.Scanning.{namesSize}
 use Rattle.codec.specs.Writing.{valueText, rowText, Puts, Spills}
-use Rattle.codec.proofs.Values.{comma-at, feed-at}
+use Rattle.codec.proofs.Ends.{comma-at, feed-at}
 use Rattle.codec.proofs.Spills.{Spilled, spilled-begin, spilled-on, spilled-end, spilled-room, text-some}
 use Rattle.codec.proofs.Stores.{
   puts-byte,

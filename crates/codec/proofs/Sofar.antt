@@ -12,6 +12,7 @@ use Rattle.model.specs.Text.{ends, linesOf}
 use Rattle.model.specs.Rows.{rowCount}
 use Rattle.model.specs.Verdicts.{refusal, Reading, Numbers, Unread, rowThen, readLines, readAll, readFile}
 use Rattle.basics.proofs.Choices.{lt-then, lt-else}
+use Rattle.shows.proofs.Lines.{spelled-many}
 use Rattle.codec.specs.Scanning.{namesSize, stored, StepSays, startsNamed}
 use Rattle.codec.specs.Parsing.{room, Parses}
 use Rattle.codec.specs.declared.Parsed.{Parsed}
@@ -91,12 +92,13 @@ module _ (f rows ys : List ℕ) (at n : ℕ) (s : Sofar f at n rows) (m : length
     sofar-on =
         let (vs, p, q) = row-line _ n next rows ys (w .1) in
         let t = line-text ends f at vs next p in
+        let many : length vs ≡ rowSize = spelled-many (t .spells) in
         let e : suc (n + 2) ≡ n + 1 + 2 = omega arith in
         record {
           xs = s .xs ++ vs;
           reads = s .reads ∙ rw (read-on f at (n + 2) vs next p, e) (then-both (s .xs) vs _);
-          many = rw (length-append (s .xs) vs, s .many, t .many) (omega arith);
-          kept = ap (take (length (s .xs ++ vs))) q ∙ stored-in (s .xs) vs rows n (s .long) (s .many) (t .many) (s .kept);
+          many = rw (length-append (s .xs) vs, s .many, many) (omega arith);
+          kept = ap (take (length (s .xs ++ vs))) q ∙ stored-in (s .xs) vs rows n (s .long) (s .many) many (s .kept);
           inside = t .inside (s .inside);
           few = omega (arith, t .on, s .few);
           long = m ∙ s .long;

@@ -7,7 +7,8 @@ use native.Mathlib.Decide.{decLt}
 use lib.ListN.{length, getD, take, drop, set, length-set, length-append}
 use lib.Seq.{sets, length-sets, length-take-le, drop-cons, set-set, set-comm, take-at, take-take, getD-at, getD-take, getD-drop, take-append-add, drop-append-add}
 use Rattle.model.specs.Choice.{ifLt}
-use Rattle.model.specs.Text.{digitZero, comma}
+use Rattle.model.specs.Values.{digitZero}
+use Rattle.model.specs.Text.{comma}
 use Rattle.basics.proofs.Choices.{lt-then, lt-else}
 use Rattle.codec.specs.Writing.{tableSize, textSize, valueText, Puts, Spills, fourBytes, shortText, shortTexts}
 use Rattle.codec.proofs.Stores.{sets-both}

@@ -1,36 +1,20 @@
--- Reading as the code does it: at a place of the file. proofs/ ties it to the lines and values of crates/model.
-use Prim.Native.Nat.{ℕ, _+_, _*_, _-_, _≤_, _<_}
+-- Reading lines as the code does it: at a place of the file. proofs/ ties it to the lines of crates/model.
+use Prim.Native.Nat.{ℕ, _+_, _*_, _≤_, _<_}
 use mathlib.Core.Path.{_≡_}
 use mathlib.Core.Bool.{Bool, false}
 use mathlib.Core.List.{List, [], _∷_, _++_}
-use lib.ListN.{length, getD, take, drop}
-use Rattle.model.specs.Choice.{ifLt, ifEq, ifTrue}
+use lib.ListN.{length, take, drop}
+use Rattle.model.specs.Choice.{ifLt}
 use Rattle.model.specs.Limits.{rowSize, maxRows}
-use Rattle.model.specs.Text.{digitZero, names, ends, run, decimal, isValue}
+use Rattle.model.specs.Text.{names, ends}
 use Rattle.model.specs.Verdicts.{same, refusal}
-use Rattle.codec.specs.declared.Field.{Field}
-use Rattle.codec.specs.declared.Field.the-variants.{Value, Bad}
+use Rattle.values.specs.Fields.{valueAt}
+use Rattle.values.specs.declared.Field.the-variants.{Value, Bad}
 use Rattle.codec.specs.declared.Line.{Line}
 use Rattle.codec.specs.declared.Line.the-variants.{Next, Malformed}
 use Rattle.codec.specs.declared.Parsed.the-variants.{Rows, Refused}
 use Rattle.codec.specs.declared.Step.{Step}
 use Rattle.codec.specs.declared.Step.the-variants.{On, Done}
-
--- A digit as a number, and 10 for any other byte and past the end.
-unfoldable pub figure : ℕ → ℕ
-figure b = ifLt b digitZero 10 (ifLt 57 b 10 (b - digitZero))
-
-unfoldable pub figureAt : List ℕ → ℕ → ℕ
-figureAt f i = ifLt i (length f) (figure (getD f i 0)) 10
-
--- The value v if the byte e stands at place i.
-unfoldable pub endedAt : List ℕ → ℕ → ℕ → ℕ → Field
-endedAt f e i v = ifLt i (length f) (ifEq (getD f i 0) e (Value v (i + 1)) Bad) Bad
-
--- The value at a place that the byte e ends.
-unfoldable pub valueAt : List ℕ → ℕ → ℕ → Field
-valueAt f e at =
-    ifTrue (isValue (run (drop at f))) (endedAt f e (at + length (run (drop at f))) (decimal 0 (run (drop at f)))) Bad
 
 -- What stands at a place: values and the place behind them, or no such values.
 pub data ValueFound : Type 0 where

@@ -4,7 +4,8 @@ use mathlib.Core.Path.{_≡_}
 use mathlib.Core.List.{List, [], _∷_, _++_}
 use lib.ListN.{length, take}
 use lib.Seq.{sets}
-use Rattle.model.specs.Text.{digitZero, comma, ends, digitAt, digits, lineText}
+use Rattle.model.specs.Values.{digitZero, digitAt, digits}
+use Rattle.model.specs.Text.{comma, ends, lineText}
 use Rattle.model.specs.Rows.{rowAt, rowValues}
 
 -- The last digit of a number, and the last two.

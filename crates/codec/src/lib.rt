@@ -1,5 +1,6 @@
 // The show file as bytes. Others call parse, which reads it to rows; measure and emit, which write it from rows; and put_bytes.
 use model::Refusal;
+use values::Field;
 ghost use mathlib.Core.Path.{_≡_};
 ghost use mathlib.Core.Bool.{true};
 ghost use Prim.Native.Nat.{_+_, _*_, _-_, _≤_, _<_};
@@ -7,11 +8,12 @@ ghost use lib.ListN.{length, take, drop, getD};
 ghost use lib.Seq.{sets};
 ghost use Rattle.model.specs.Choice.{ifLt};
 ghost use Rattle.model.specs.Limits.{rowSize, maxBytes, maxRows};
-ghost use Rattle.model.specs.Text.{comma, lineFeed, names, ends, digits, digitAt};
+ghost use Rattle.model.specs.Values.{digits, digitAt};
+ghost use Rattle.model.specs.Text.{comma, lineFeed, names, ends};
 ghost use Rattle.model.specs.Rows.{rowsFrom, rowLines, fileText};
 ghost use Rattle.model.specs.Lists.{overwrite};
 ghost use Rattle.model.specs.Verdicts.{same, readFile};
-ghost use Rattle.codec.specs.Scanning.{figureAt, endedAt, valueAt, lineAt, LineSays, RowSays, StepSays, namesSize, startsNamed};
+ghost use Rattle.codec.specs.Scanning.{lineAt, LineSays, RowSays, StepSays, namesSize, startsNamed};
 ghost use Rattle.codec.specs.Parsing.{room, Parses};
 ghost use Rattle.codec.specs.Writing.{tableSize, one, two, valueText, rowText, Puts, Spills, shortTexts};
 
@@ -27,9 +29,6 @@ const LAST: usize = 10;
 const MAX_ROWS: usize = 1024;
 
 const ROOM: usize = 11264;
-
-// The largest value of a line.
-const MAX_VALUE: u32 = 65535;
 
 // The byte behind a line's last value, and behind the others.
 const LINE_FEED: u8 = 10;
@@ -49,13 +48,7 @@ pub enum Parsed {
     Refused(Refusal),
 }
 
-// Reading: digits, values, lines and rows at a place of the file, and the reader that goes through it.
-
-// A value of a line: the number, and the place behind the byte that ends it.
-enum Field {
-    Value(u32, usize),
-    Bad,
-}
+// Reading: lines and rows at a place of the file, and the reader that goes through it. Their values are read by crates/values.
 
 // A line of values: the place behind it.
 enum Line {
@@ -73,69 +66,6 @@ enum Step {
 struct Reader<'a> {
     file: &'a [u8],
     at: usize,
-}
-
-fn widen(b: u8) -> u32
-    ensures { λ r. ⌜ r ≡ b ⌝ }
-{
-    b as u32
-}
-
-// The digit at a place; 10 where there is none.
-fn digit_at(file: &[u8], i: usize) -> u32
-    ensures { λ r. ⌜ r ≡ figureAt (now (file .entry)) i ⌝ }
-{
-    if i < file.len() {
-        let b = file[i];
-        if b < 48 {
-            return 10;
-        }
-        if 57 < b {
-            return 10;
-        }
-        return widen(b - 48);
-    }
-    10
-}
-
-// The value v, if the byte `end` stands behind it at i.
-fn ended_at(file: &[u8], i: usize, end: u8, v: u32) -> Field
-    ensures { λ r. ⌜ r ≡ endedAt (now (file .entry)) end i v ⌝ }
-{
-    if i < file.len() {
-        if file[i] == end {
-            return Field::Value(v, i + 1);
-        }
-    }
-    Field::Bad
-}
-
-// The value at a place with the byte that ends it.
-fn value_at(file: &[u8], at: usize, end: u8) -> Field
-    ensures { λ r. ⌜ r ≡ valueAt (now (file .entry)) end at ⌝ }
-{
-    let first = digit_at(file, at);
-    if 10 <= first {
-        return Field::Bad;
-    }
-    let mut i = at + 1;
-    if first == 0 {
-        if digit_at(file, i) < 10 {
-            return Field::Bad;
-        }
-        return ended_at(file, i, end, 0);
-    }
-    let mut d = digit_at(file, i);
-    let mut v = first;
-    while d < 10 {
-        v = v * 10 + d;
-        if MAX_VALUE < v {
-            return Field::Bad;
-        }
-        i += 1;
-        d = digit_at(file, i);
-    }
-    ended_at(file, i, end, v)
 }
 
 // The byte behind value c of a line.
@@ -156,7 +86,7 @@ fn line_at(file: &[u8], from: usize, row: &mut [u32]) -> Line
     let mut at = from;
     let mut c = 0;
     while c < ROW {
-        let Field::Value(v, next) = value_at(file, at, end_of(c)) else {
+        let Field::Value(v, next) = values::value_at(file, at, end_of(c)) else {
             return Line::Malformed;
         };
         row[c] = v;

@@ -13,22 +13,10 @@ use Rattle.model.specs.Rows.{rowCount}
 use Rattle.model.specs.Verdicts.{refusal, Numbers, Reading, Unread, rowThen, readLines, same, readAll, readFile}
 use Rattle.model.specs.declared.Refusal.{Refusal}
 use Rattle.basics.proofs.Choices.{lt-then, lt-else, true-else}
-use Rattle.shows.specs.Files.{OneLine}
-use Rattle.shows.proofs.Lines.{line-read, line-written, lines-first, lines-flatten, names-line, ends-line, ends-other, text-line}
+use Rattle.shows.specs.Files.{SpellsLine, SpellsLines, no-line, line-then, OneLine}
+use Rattle.shows.proofs.Lines.{line-read, line-spelled, spelled-many, spelled-line, lines-first, lines-flatten, names-line, ends-line, ends-other}
 use Rattle.shows.proofs.Files.{says-first, same-refl, same-is, names-first}
-use Rattle.demands.specs.Files.{SpellsLine, SpellsLines, no-line, line-then, BreaksAt, ReadRefusal, of-length, of-names, of-line}
-use Rattle.demands.proofs.Files.{line-spelled, spelled-line}
-
--- A line is read to some values just where it spells them.
-line-values : {l vs : List ℕ} → SpellsLine ends l vs → valuesOf ends l ≡ Values vs
-line-values {l} {vs} s = let w = spelled-line s in rw (w .text) at (line-read ends vs ends-other (w .many) (w .small))
-
-values-line : (l vs : List ℕ) → valuesOf ends l ≡ Values vs → SpellsLine ends l vs
-values-line l vs e = let w = line-written ends l vs e in rw (w .text) at (line-spelled ends vs (w .many) (w .small))
-
--- And such a line ends in its only line feed.
-line-one : {l vs : List ℕ} → SpellsLine ends l vs → OneLine l
-line-one {l} {vs} s = let w = spelled-line s in rw (w .text) at (text-line ends-line vs (w .many) (w .small))
+use Rattle.demands.specs.Files.{BreaksAt, ReadRefusal, of-length, of-names, of-line}
 
 -- A text begins with no line of values just where its first line is malformed.
 abbrev NoLine : List ℕ → Type 0
@@ -36,8 +24,8 @@ NoLine t = (l vs u : List ℕ) → SpellsLine ends l vs → t ≡ l ++ u → ⊥
 
 malformed-none : (t l : List ℕ) (ls : List (List ℕ)) → linesOf t ≡ l ∷ ls → valuesOf ends l ≡ Malformed → NoLine t
 malformed-none t l ls e m k vs u s p =
-    let q : l ∷ ls ≡ k ∷ linesOf u = sym e ∙ ap linesOf p ∙ lines-first (line-one s) u in
-    let v = line-values s in
+    let q : l ∷ ls ≡ k ∷ linesOf u = sym e ∙ ap linesOf p ∙ lines-first (spelled-line ends-line s) u in
+    let v = line-read ends-other s in
     let z : _≡_ {A = ℕ} 0 1 = cc in
     omega arith
 
@@ -46,7 +34,7 @@ unfolding flatten
 none-malformed t l ls e h = go (valuesOf ends l) refl
   where
     go : (k : LineValues) → valuesOf ends l ≡ k → k ≡ Malformed
-    go (Values vs) p = absurd (h l vs (flatten ls) (values-line l vs p) (sym (lines-flatten t) ∙ ap flatten e))
+    go (Values vs) p = absurd (h l vs (flatten ls) (line-spelled ends l vs p) (sym (lines-flatten t) ∙ ap flatten e))
     go Malformed p = refl
 
 -- Behind the line of names and some lines of values, text t of file f begins at line n.
@@ -76,7 +64,7 @@ goes-on f l vs t n r s =
       numbers = r .numbers ++ vs;
       values = lines-last (r .values) s;
       text = r .text ∙ ap (λ (u : List ℕ). names ++ u) (sym (append-assoc (r .before) l t));
-      place = omega (arith, r .place, spelled-line s .many, length-append (r .numbers) vs);
+      place = omega (arith, r .place, spelled-many s, length-append (r .numbers) vs);
     }
 
 -- If t begins with no line of values, the file breaks there.
@@ -114,8 +102,8 @@ break-of n (l ∷ ls) q f t p e r = go (λ u. break-of (suc n) ls q f u) (values
     go : ((u : List ℕ) → readLines (suc n) ls ≡ Unread q → linesOf u ≡ ls → From f u (suc n) → (q .number ≡ 3) × BreaksAt f (q .place))
         → (k : LineValues) → valuesOf ends l ≡ k → (q .number ≡ 3) × BreaksAt f (q .place)
     go below (Values vs) v =
-        let s = values-line l vs v in
-        let g : l ∷ linesOf (flatten ls) ≡ l ∷ ls = sym (lines-first (line-one s) (flatten ls)) ∙ ap linesOf (sym whole) ∙ e in
+        let s = line-spelled ends l vs v in
+        let g : l ∷ linesOf (flatten ls) ≡ l ∷ ls = sym (lines-first (spelled-line ends-line s) (flatten ls)) ∙ ap linesOf (sym whole) ∙ e in
         below (flatten ls) (later vs _ (sym (says-first n l vs ls v) ∙ p)) (cc) (goes-on f l vs (flatten ls) n (rw whole at r) s)
     go below Malformed v =
         let u : Unread (refusal 3 n) ≡ Unread q = sym (rw (readLines, v)) ∙ p in
@@ -137,10 +125,10 @@ broken-later : (n line : ℕ) {before numbers : List ℕ} (t : List ℕ) → Spe
 unfolding rowThen rowCount ends
 broken-later n line t no-line h k c = let e : line ≡ n = omega arith in rw e (broken-here n t h k)
 broken-later n line t (line-then {l = l} {t = u} {vs = vs} {xs = xs} s r) h k c =
-    let e : linesOf (l ++ u ++ t) ≡ l ∷ linesOf (u ++ t) = rw (append-assoc l u t) (lines-first (line-one s) (u ++ t)) in
-    let d : line ≡ rowCount xs + suc n = omega (arith, spelled-line s .many, length-append vs xs) in
+    let e : linesOf (l ++ u ++ t) ≡ l ∷ linesOf (u ++ t) = rw (append-assoc l u t) (lines-first (spelled-line ends-line s) (u ++ t)) in
+    let d : line ≡ rowCount xs + suc n = omega (arith, spelled-many s, length-append vs xs) in
     ap (readLines n) e
-    ∙ says-first n l vs (linesOf (u ++ t)) (line-values s)
+    ∙ says-first n l vs (linesOf (u ++ t)) (line-read ends-other s)
     ∙ ap (rowThen vs) (broken-later (suc n) line t r h k d)
 
 -- A file begins with the line of names, or it is refused for that.

@@ -22,7 +22,7 @@ pub mod Checking
 pub mod Refusals
 pub mod Words
 -- files
-pub mod Files
+pub mod Padding
 pub mod Breaks
 pub mod ReadCases
 pub mod Reading

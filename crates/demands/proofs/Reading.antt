@@ -16,10 +16,11 @@ use Rattle.model.specs.declared.ReadAnswer.the-variants.{Read, Refused as ReadR
 use Rattle.demands.specs.Buffers.{Leaves}
 use Rattle.demands.specs.Acceptance.{Lawful, Check, Length, Sequence, Ranges, Repeats, Order, Ends, Totals, refusalNumber, FirstBroken}
 use Rattle.demands.specs.Asking.{AsksRead}
-use Rattle.demands.specs.Files.{SpellsFile, linePlace, ReadRefusal, of-rows, of-room, IsRead}
+use Rattle.shows.specs.Files.{SpellsFile}
+use Rattle.shows.proofs.Files.{file-reads}
+use Rattle.demands.specs.Files.{linePlace, ReadRefusal, of-rows, of-room, IsRead}
 use Rattle.demands.proofs.Stages.{numbers, same-check}
 use Rattle.demands.proofs.Acceptance.{accepted-exactly, refused-exactly, refused-is}
-use Rattle.demands.proofs.Files.{file-reads}
 use Rattle.demands.proofs.Breaks.{file-early, file-refusal, file-long, file-unnamed, file-breaks}
 use Rattle.demands.proofs.ReadCases.{read-unread, read-broken, read-short, is-refused, is-answered, no-refusal, Answered, answered}
 use Rattle.demands.proofs.ReadCases.{ReadCase, not-read, not-lawful, too-short, was-read, read-case}

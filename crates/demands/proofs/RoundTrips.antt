@@ -1,7 +1,7 @@
--- A file that was read is written again byte for byte, and rows that were written are read again number for number.
+-- A file that was read is written again without padding, and rows that were written are read again number for number.
 use Prim.Native.Nat.{ℕ, _*_, _≤_}
 use native.Mathlib.Omega.{arith}
-use mathlib.Core.Path.{_≡_, sym, _∙_, ap}
+use mathlib.Core.Path.{_≡_, refl, sym, _∙_, ap}
 use mathlib.Core.List.{List, [], _∷_}
 use lib.ListN.{length, getD, take}
 use Rattle.model.specs.Limits.{rowSize}
@@ -16,9 +16,12 @@ use Rattle.model.specs.declared.ReadAnswer.the-variants.{Read}
 use Rattle.model.specs.declared.WriteAnswer.{WriteAnswer}
 use Rattle.model.specs.declared.WriteAnswer.the-variants.{Written}
 use Rattle.shows.proofs.Accepted.{accepted-show}
+use Rattle.shows.specs.Files.{SpellsFile}
+use Rattle.shows.proofs.Files.{file-reads, file-shortest}
 use Rattle.shows.proofs.RoundTrips.{read-back, write-back}
 use Rattle.demands.specs.Buffers.{Leaves}
-use Rattle.demands.specs.RoundTrips.{WritesBack, ReadsBack}
+use Rattle.demands.specs.RoundTrips.{WritesBack, ReadsBack, ReadsAgain}
+use Rattle.demands.proofs.Padding.{text-is, text-file-unpadded}
 use Rattle.demands.proofs.Buffers.{leaves}
 use Rattle.demands.proofs.Outcomes.{was-accepted, had-room}
 use Rattle.demands.proofs.ReadCases.{Answered, answered}
@@ -29,23 +32,36 @@ rows-long : (xs : List ℕ) → verdict xs ≡ Accepted → rowCount xs * rowSiz
 unfolding rowCount
 rows-long xs v = let w = accepted-show xs v .whole in omega arith
 
+-- What read left at the beginning of the output: the numbers that the file says.
+rows-left : (f out after : List ℕ) (rows blocks cues : ℕ) (k : Answered f out after rows blocks cues) → take (rows * rowSize) after ≡ k .numbers
+rows-left f out after rows blocks cues k =
+    let n : length (k .numbers) ≡ rows * rowSize = omega (arith, k .rows-are, rows-long (k .numbers) (k .lawful)) in
+    rw (← n) (k .left .first)
+
 -- What was written back, for the numbers that the file says.
 pub writes-back : (f out after : List ℕ) (r : ReadAnswer) (rows blocks cues : ℕ)
     → outcome (ofRead r) after ≡ readAsked f out → r ≡ Read rows blocks cues
     → (w : WriteAnswer) (out′ after′ : List ℕ) → outcome (ofWrite w) after′ ≡ writeAsked (take (rows * rowSize) after) out′ → length f ≤ length out′
-    → WritesBack f w out′ after′
+    → WritesBack f (take (rows * rowSize) after) w out′ after′
 unfolding answer
 writes-back f out after r rows blocks cues e a w out′ after′ e′ h = go (answered f out after r e rows blocks cues a)
   where
-    go : Answered f out after rows blocks cues → WritesBack f w out′ after′
+    go : Answered f out after rows blocks cues → WritesBack f (take (rows * rowSize) after) w out′ after′
     go k =
-        let n : length (k .numbers) ≡ rows * rowSize = omega (arith, k .rows-are, rows-long (k .numbers) (k .lawful)) in
-        let t : take (rows * rowSize) after ≡ k .numbers = rw (← n) (k .left .first) in
-        let b = (rw t at e′) ∙ write-back f (k .numbers) out′ (k .says) (k .lawful) h in
-        record {
-          answer = written-is w (length f) (ap (λ (o : Outcome). o .answer) b);
-          bytes = rw (ap (λ (o : Outcome). o .after) b) (leaves f out′ h);
-        }
+        let xs = k .numbers in
+        let t = rows-left f out after rows blocks cues k in
+        let s : SpellsFile f xs = file-reads f xs .0 (k .says) in
+        let b = (rw t at e′) ∙ write-back f xs out′ (k .says) (k .lawful) h in
+        rw t
+        (record {
+          read = s;
+          file = fileText (rowsOf xs);
+          same-rows = text-file-unpadded s;
+          same-bytes = λ u. text-is (record { spells = s; unpadded = u });
+          no-longer = file-shortest s;
+          answer = written-is w (length (fileText (rowsOf xs))) (ap (λ (o : Outcome). o .answer) b);
+          bytes = rw (ap (λ (o : Outcome). o .after) b) (leaves (fileText (rowsOf xs)) out′ (omega (arith, file-shortest s)));
+        })
 
 -- Where write answers, the rows are accepted, there is room for their file, and it stands in the output.
 pub record Wrote (xs out after : List ℕ) (bytes : ℕ) : Type 0 where
@@ -81,3 +97,17 @@ reads-back xs out after w bytes e a r out′ after′ e′ h =
       answer = read-is r _ _ _ (ap (λ (o : Outcome). o .answer) b);
       rows = rw (ap (λ (o : Outcome). o .after) b) (leaves xs out′ h);
     }
+
+-- What was read again, of a file that was read and whose rows were written.
+pub reads-again : (f out after : List ℕ) (rows blocks cues : ℕ) → outcome (ofRead (Read rows blocks cues)) after ≡ readAsked f out
+    → (bytes : ℕ) (out′ after′ : List ℕ) → outcome (ofWrite (Written bytes)) after′ ≡ writeAsked (take (rows * rowSize) after) out′
+    → (r : ReadAnswer) (out″ after″ : List ℕ) → outcome (ofRead r) after″ ≡ readAsked (take bytes after′) out″ → rows * rowSize ≤ length out″
+    → ReadsAgain (Read rows blocks cues) (take (rows * rowSize) after) r out″ after″
+reads-again f out after rows blocks cues e bytes out′ after′ e′ r out″ after″ e″ h = go (answered f out after _ e rows blocks cues refl)
+  where
+    go : Answered f out after rows blocks cues → ReadsAgain (Read rows blocks cues) (take (rows * rowSize) after) r out″ after″
+    go k =
+        let t = rows-left f out after rows blocks cues k in
+        let n : length (k .numbers) ≤ length out″ = omega (arith, k .rows-are, rows-long (k .numbers) (k .lawful)) in
+        let b = reads-back (k .numbers) out′ after′ (Written bytes) bytes (rw t at e′) refl r out″ after″ e″ n in
+        rw t (record { answer = b .answer ∙ rw (k .rows-are, k .blocks-are, k .cues-are); rows = b .rows })

@@ -4,13 +4,14 @@ use native.Mathlib.Omega.{arith}
 use mathlib.Core.Path.{_≡_, refl, _∙_, ap}
 use mathlib.Core.List.{List}
 use lib.ListN.{length, getD}
-use Rattle.model.specs.Text.{names, ends, decimal}
+use Rattle.model.specs.Values.{decimal}
+use Rattle.model.specs.Text.{names, ends}
 use Rattle.model.specs.Rows.{Row, cell, rowAt, rowsFrom, rowCount, rowsOf}
 use Rattle.model.specs.Blocks.{lastBlock}
 use Rattle.model.specs.Verdicts.{refusal}
 use Rattle.model.specs.Answers.{returned, given, flag, ofRead, ofWrite, ofCount, ofLocate, ofNumber, ofList, ofFewest}
 use Rattle.basics.proofs.Members.{range-length, range-at}
-use Rattle.shows.proofs.Digits.{decimal-last}
+use Rattle.basics.proofs.Digits.{decimal-last}
 use Rattle.demands.specs.Words.{Figures, Bytes, RowWords, ListWords, AnswerWords, Words}
 
 figures : Figures
@@ -18,6 +19,7 @@ figures =
     record {
       row = refl;
       value = refl;
+      digits = refl;
       joins = refl;
       own = refl;
       label = refl;

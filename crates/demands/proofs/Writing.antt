@@ -15,21 +15,20 @@ use Rattle.model.specs.declared.Verdict.the-variants.{Accepted, Refused}
 use Rattle.model.specs.declared.WriteAnswer.{WriteAnswer}
 use Rattle.model.specs.declared.WriteAnswer.the-variants.{Written, Refused as Unwritten}
 use Rattle.basics.proofs.Choices.{lt-then}
-use Rattle.shows.proofs.Files.{read-written}
-use Rattle.shows.proofs.RoundTrips.{rows-read, write-answer, write-back}
+use Rattle.shows.proofs.RoundTrips.{rows-spell, write-answer}
 use Rattle.demands.specs.Buffers.{Leaves}
 use Rattle.demands.specs.Asking.{AsksWrite}
 use Rattle.demands.specs.Acceptance.{Lawful}
-use Rattle.demands.specs.Files.{SpellsFile, IsWritten}
+use Rattle.demands.specs.Files.{UnpaddedFile, IsWritten}
 use Rattle.demands.proofs.Stages.{numbers}
 use Rattle.demands.proofs.Acceptance.{accepted-exactly, refused-is}
-use Rattle.demands.proofs.Files.{file-reads}
+use Rattle.demands.proofs.Padding.{text-is, text-file-unpadded, one-file}
 use Rattle.demands.proofs.Answers.{written-is, unwritten-is}
 use Rattle.demands.proofs.RoundTrips.{Wrote, wrote}
 
--- The file of accepted rows says them.
-says : (xs : List ℕ) → verdict xs ≡ Accepted → SpellsFile (fileText (rowsOf xs)) xs
-says xs v = file-reads (fileText (rowsOf xs)) xs .0 (rows-read xs v)
+-- The file that is written for accepted rows says them, and is unpadded.
+says : (xs : List ℕ) → verdict xs ≡ Accepted → UnpaddedFile (fileText (rowsOf xs)) xs
+says xs v = text-file-unpadded (rows-spell xs v)
 
 -- What is answered where the rows are refused, and where there is too little room.
 module _ (xs out : List ℕ) where
@@ -80,6 +79,7 @@ unfolding answer
 is-written xs out after w e =
     record {
       file = λ l. (fileText (rowsOf xs), says xs (accepted-exactly xs .1 l));
+      one-file = λ f g. one-file;
       answers = (λ (bytes, a). lawful bytes (wrote xs out after w e bytes a), λ (l, (f, s, h)). answers l f s h);
       given = λ bytes a. given bytes (wrote xs out after w e bytes a);
       no-room = (λ a. short a case, λ (l, h). refuses (accepted-exactly xs .1 l) h case);
@@ -89,23 +89,23 @@ is-written xs out after w e =
     case : WriteCase xs out w after
     case = write-case xs out after w e
 
-    lawful : (bytes : ℕ) → Wrote xs out after bytes → Lawful xs × ((f : List ℕ) × SpellsFile f xs × (length f ≤ length out))
+    lawful : (bytes : ℕ) → Wrote xs out after bytes → Lawful xs × ((f : List ℕ) × UnpaddedFile f xs × (length f ≤ length out))
     lawful bytes k = (accepted-exactly xs .0 (k .lawful), (fileText (rowsOf xs), says xs (k .lawful), k .fits))
 
-    answers : Lawful xs → (f : List ℕ) → SpellsFile f xs → length f ≤ length out → (bytes : ℕ) × (w ≡ Written bytes)
+    answers : Lawful xs → (f : List ℕ) → UnpaddedFile f xs → length f ≤ length out → (bytes : ℕ) × (w ≡ Written bytes)
     answers l f s h =
-        let a = write-back f xs out (file-reads f xs .1 s) (accepted-exactly xs .1 l) h in
-        (length f, written-is w (length f) (ap (λ (o : Outcome). o .answer) (e ∙ a)))
+        let a = write-answer xs out (accepted-exactly xs .1 l) (rw (text-is s) h) in
+        (length (fileText (rowsOf xs)), written-is w _ (ap (λ (o : Outcome). o .answer) (e ∙ a)))
 
-    given : (bytes : ℕ) → Wrote xs out after bytes → (f : List ℕ) × SpellsFile f xs × (bytes ≡ length f) × Leaves f out after
+    given : (bytes : ℕ) → Wrote xs out after bytes → (f : List ℕ) × UnpaddedFile f xs × (bytes ≡ length f) × Leaves f out after
     given bytes k = (fileText (rowsOf xs), says xs (k .lawful), k .bytes-are, k .left)
 
-    short : w ≡ Unwritten (refusal 11 0) → WriteCase xs out w after → Lawful xs × ((f : List ℕ) → SpellsFile f xs → length out < length f)
+    short : w ≡ Unwritten (refusal 11 0) → WriteCase xs out w after → Lawful xs × ((f : List ℕ) → UnpaddedFile f xs → length out < length f)
     short a (unlawful q v s l) = absurd (not-eleven xs q v cc)
-    short a (too-short v h s l) = (accepted-exactly xs .0 v, λ f t. rw (read-written f xs (file-reads f xs .1 t) .text) at h)
+    short a (too-short v h s l) = (accepted-exactly xs .0 v, λ f t. rw (text-is t) at h)
     short a (written v h s) = absurd (no-refusal w _ _ s a)
 
-    refuses : verdict xs ≡ Accepted → ((f : List ℕ) → SpellsFile f xs → length out < length f) → WriteCase xs out w after
+    refuses : verdict xs ≡ Accepted → ((f : List ℕ) → UnpaddedFile f xs → length out < length f) → WriteCase xs out w after
         → w ≡ Unwritten (refusal 11 0)
     refuses v h (unlawful q u s l) = absurd (let z : _≡_ {A = ℕ} 0 1 = cc in omega arith)
     refuses v h (too-short u k s l) = s

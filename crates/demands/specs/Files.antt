@@ -1,11 +1,13 @@
--- The text of a show file, and what read and write answer and leave. Document 01, "The show file" and "Questions".
-use Prim.Native.Nat.{ℕ, suc, _+_, _≤_, _<_}
+-- What read and write answer and leave, by the text of a file. Document 01, "The show file" and "Questions"; document 02, Paper 1. The text of a value is
+-- `SpellsValue` of crates/basics/specs/Values; that of a line and of a file are `SpellsLine` and `SpellsFile` of crates/shows/specs/Files.
+use Prim.Native.Nat.{ℕ, suc, _+_, _-_, _≤_, _<_}
 use mathlib.Core.Path.{_≡_}
 use mathlib.Core.Logic.{_↔_}
-use mathlib.Core.List.{List, [], _∷_, _++_, map}
+use mathlib.Core.List.{List, _++_}
 use lib.ListN.{length, getD}
-use Rattle.model.specs.Limits.{maxValue, maxBytes}
-use Rattle.model.specs.Text.{digitZero, names, ends, decimal}
+use Rattle.model.specs.Limits.{maxBytes}
+use Rattle.model.specs.Values.{digitZero}
+use Rattle.model.specs.Text.{names, ends}
 use Rattle.model.specs.Rows.{rowCount}
 use Rattle.model.specs.Blocks.{blocksOf, count}
 use Rattle.model.specs.Verdicts.{refusal}
@@ -14,37 +16,27 @@ use Rattle.model.specs.declared.WriteAnswer.{WriteAnswer}
 use Rattle.model.specs.declared.WriteAnswer.the-variants.{Written, Refused as Unwritten}
 use Rattle.model.specs.declared.ReadAnswer.{ReadAnswer}
 use Rattle.model.specs.declared.ReadAnswer.the-variants.{Read, Refused}
-use Rattle.basics.specs.Members.{Each}
+use Rattle.shows.specs.Files.{SpellsLine, SpellsLines, SpellsFile}
 use Rattle.demands.specs.Buffers.{Leaves}
 use Rattle.demands.specs.Acceptance.{Lawful, Check, Length, Sequence, Ranges, Repeats, Order, Ends, Totals, refusalNumber, FirstBroken}
 
--- "A value is 0 to 65,535 with no sign, space or leading zero": the text of value v, digits and nothing else. "Figures are in base ten".
-pub record SpellsValue (t : List ℕ) (v : ℕ) : Type 0 where
-  pub digits : List ℕ
-  pub text : t ≡ map (λ (d : ℕ). digitZero + d) digits
-  pub each : Each (λ (d : ℕ). d ≤ 9) digits
-  pub some : 1 ≤ length digits
-  pub lead : getD digits 0 0 ≡ 0 → length digits ≡ 1
-  pub number : decimal 0 digits ≡ v
-  pub limit : v ≤ maxValue
+-- "leading zeros" (02, Paper 1), said of the bytes of a file: at place i stands a 0 that begins a value, since no digit stands before it, and a digit
+-- follows it.
+abbrev pub IsDigit : ℕ → Type 0
+IsDigit b = (digitZero ≤ b) × (b ≤ digitZero + 9)
 
--- "eleven values with single commas between", "Every line, the last too, ends in one line feed": the text of a line of values, each of
--- them with the byte behind it.
-pub data SpellsLine : List ℕ → List ℕ → List ℕ → Type 0 where
-  no-value : SpellsLine [] [] []
-  value-then : {e : ℕ} {es t l vs : List ℕ} {v : ℕ} → SpellsValue t v → SpellsLine es l vs → SpellsLine (e ∷ es) (t ++ (e ∷ l)) (v ∷ vs)
+pub record LeadingZero (f : List ℕ) (i : ℕ) : Type 0 where
+  pub zero : getD f i 0 ≡ digitZero
+  pub begins : 1 ≤ i → IsDigit (getD f (i - 1) 0) → ⊥
+  pub goes-on : IsDigit (getD f (i + 1) 0)
 
--- "Each later line has eleven values": the text of such lines, and their numbers in order.
-pub data SpellsLines : List ℕ → List ℕ → Type 0 where
-  no-line : SpellsLines [] []
-  line-then : {l t vs xs : List ℕ} → SpellsLine ends l vs → SpellsLines t xs → SpellsLines (l ++ t) (vs ++ xs)
+-- "An unpadded file" (02, Paper 1): no value has a leading zero. And such a file that says the numbers xs.
+abbrev pub Unpadded : List ℕ → Type 0
+Unpadded f = (i : ℕ) → LeadingZero f i → ⊥
 
--- "A line of names, then lines of values"; "A file has at most 65,536 bytes". File f says the numbers xs.
-pub record SpellsFile (f xs : List ℕ) : Type 0 where
-  pub lines : List ℕ
-  pub text : f ≡ names ++ lines
-  pub values : SpellsLines lines xs
-  pub short : length f ≤ maxBytes
+pub record UnpaddedFile (f xs : List ℕ) : Type 0 where
+  pub spells : SpellsFile f xs
+  pub unpadded : Unpadded f
 
 -- "first line that isn't eleven well-formed values and a line feed": behind the line of names and some lines of values there is more text,
 -- which begins with no such line. Lines are counted from 1, the line of names.
@@ -97,11 +89,12 @@ pub record IsRead (f out : List ℕ) (r : ReadAnswer) (after : List ℕ) : Type 
   pub no-other : (q : Refusal) → r ≡ Refused q → ReadRefusal q
   pub unchanged : (q : Refusal) → r ≡ Refused q → after ≡ out
 
--- What write answers and leaves, for rows and a lent output. Rows that keep the rules have a file; it answers exactly if such a file fits, and leaves
--- it, "giving its length". (Refusals 4 to 10: `Acceptance.ChecksRows`.)
+-- What write answers and leaves, for rows and a lent output. "We still write without padding" (02, Paper 1): rows that keep the rules have one
+-- unpadded file; write answers exactly if that fits, and leaves it, "giving its length". (Refusals 4 to 10: `Acceptance.ChecksRows`.)
 pub record IsWritten (xs out : List ℕ) (w : WriteAnswer) (after : List ℕ) : Type 0 where
-  pub file : Lawful xs → (f : List ℕ) × SpellsFile f xs
-  pub answers : ((bytes : ℕ) × (w ≡ Written bytes)) ↔ (Lawful xs × ((f : List ℕ) × SpellsFile f xs × (length f ≤ length out)))
-  pub given : (bytes : ℕ) → w ≡ Written bytes → (f : List ℕ) × SpellsFile f xs × (bytes ≡ length f) × Leaves f out after
-  pub no-room : (w ≡ Unwritten (refusal 11 0)) ↔ (Lawful xs × ((f : List ℕ) → SpellsFile f xs → length out < length f))
+  pub file : Lawful xs → (f : List ℕ) × UnpaddedFile f xs
+  pub one-file : (f g : List ℕ) → UnpaddedFile f xs → UnpaddedFile g xs → f ≡ g
+  pub answers : ((bytes : ℕ) × (w ≡ Written bytes)) ↔ (Lawful xs × ((f : List ℕ) × UnpaddedFile f xs × (length f ≤ length out)))
+  pub given : (bytes : ℕ) → w ≡ Written bytes → (f : List ℕ) × UnpaddedFile f xs × (bytes ≡ length f) × Leaves f out after
+  pub no-room : (w ≡ Unwritten (refusal 11 0)) ↔ (Lawful xs × ((f : List ℕ) → UnpaddedFile f xs → length out < length f))
   pub unchanged : (q : Refusal) → w ≡ Unwritten q → after ≡ out

@@ -4,8 +4,9 @@ use mathlib.Core.Path.{_≡_}
 use mathlib.Core.Bool.{true, false}
 use mathlib.Core.List.{List, [], _∷_, _++_}
 use lib.ListN.{length, getD}
-use Rattle.model.specs.Limits.{rowSize, maxValue, maxJoins, maxOwn, maxLabel, maxBlocks, maxBytes, maxRows, maxTotal, maxDepth}
-use Rattle.model.specs.Text.{digitZero, comma, lineFeed, names, ends, decimal}
+use Rattle.model.specs.Limits.{rowSize, maxValue, maxDigits, maxJoins, maxOwn, maxLabel, maxBlocks, maxBytes, maxRows, maxTotal, maxDepth}
+use Rattle.model.specs.Values.{digitZero, decimal}
+use Rattle.model.specs.Text.{comma, lineFeed, names, ends}
 use Rattle.model.specs.Rows.{rowCount, rowsOf}
 use Rattle.model.specs.Blocks.{Block, lastBlock}
 use Rattle.model.specs.Verdicts.{refusal}
@@ -21,10 +22,11 @@ use Rattle.model.specs.declared.ListAnswer.the-variants.{Page, Refused as Unlis
 use Rattle.model.specs.declared.FewestAnswer.the-variants.{Steps, None, Refused as Unsearched}
 use Rattle.demands.specs.Acceptance.{nthRow, IsRow}
 
--- The figures of document 01.
+-- The figures of document 01, and the digits of a value, of document 02.
 pub record Figures : Type 0 where
   pub row : rowSize ≡ 11
   pub value : maxValue ≡ 65535
+  pub digits : maxDigits ≡ 5
   pub joins : maxJoins ≡ 8
   pub own : maxOwn ≡ 255
   pub label : maxLabel ≡ 255

@@ -2,7 +2,8 @@
 use mathlib.Core.Path.{refl}
 use mathlib.Core.List.{flatMap}
 use Rattle.model.specs.Choice.{ifLt, ifEq, ifTrue}
-use Rattle.model.specs.Text.{names, ends, isDigit, run, afterRun, decimal, isValue, valueThen, endedBy, valuesOf, intoFirst, linesOf, digitAt, digits, lineText}
+use Rattle.model.specs.Values.{isDigit, run, afterRun, decimal, isValue, digitAt, digits}
+use Rattle.model.specs.Text.{names, ends, valueThen, endedBy, valuesOf, intoFirst, linesOf, lineText}
 use Rattle.model.specs.Rows.{cell, rowAt, rowsFrom, rowCount, rowsOf, rowValues, rowLines, fileText}
 use Rattle.model.specs.Rules.{start, cuesIn, mayOpen, goesOn, mayFollow, columnsUsed, named, every, isCue, isZero, labelFits, ownFits, inRange, differs, distinct, isBelow, linkKey, useKey, inOrder, fault, after}
 use Rattle.model.specs.Blocks.{noBlock, blockAt, joinsOf, ownOf, addLink, addUse, addRow, addRows, blocksOf, sumOver, total, lastBlock, count}
@@ -51,6 +52,15 @@ starred =
       write = refl;
       largest = refl;
       too-large = refl;
-      leading-zero = refl;
+      all-zeros = refl;
+      all-zeros-number = refl;
+      leading-zeros = refl;
+      leading-zeros-number = refl;
+      six-digits = refl;
+      six-digits-too-large = refl;
       sign = refl;
+      no-digit = refl;
+      read-padded = refl;
+      write-unpadded = refl;
+      read-unpadded = refl;
     }

@@ -1,7 +1,8 @@
--- What a reader must believe, in the order in which document 01 is best followed: the file, the rows and their checks, blocks, the
--- unfolding, numbers, lists, chains, and the questions. Quotations in comments are from document 01.
+-- What a reader must believe, in the order in which document 01 is best followed: values, the file, the rows and their checks, blocks, the
+-- unfolding, numbers, lists, chains, and the questions. Quotations in comments are from document 01, unless 02 is named.
 pub mod Choice
 pub mod Limits
+pub mod Values
 pub mod Text
 pub mod Rows
 pub mod Rules

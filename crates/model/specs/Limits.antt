@@ -1,4 +1,4 @@
--- The limits of document 01, each by name.
+-- The limits of documents 01 and 02, each by name.
 use Prim.Native.Nat.{ℕ}
 
 -- "eleven 32-bit unsigned numbers": how many values a row has.
@@ -8,6 +8,10 @@ rowSize = 11
 -- "A value is 0 to 65,535".
 abbrev pub maxValue : ℕ
 maxValue = 65535
+
+-- "one to five digits" (02, Paper 1).
+abbrev pub maxDigits : ℕ
+maxDigits = 5
 
 -- "label is its joins (0 to 8)".
 abbrev pub maxJoins : ℕ

@@ -6,7 +6,8 @@ use mathlib.Core.List.{List, [], _∷_, _++_, map, flatMap}
 use lib.Dec.{ltb}
 use Rattle.model.specs.Choice.{ifLt, ifEq}
 use Rattle.model.specs.Limits.{maxLabel}
-use Rattle.model.specs.Text.{digitZero, comma, lineFeed}
+use Rattle.model.specs.Values.{digitZero}
+use Rattle.model.specs.Text.{comma, lineFeed}
 use Rattle.model.specs.Blocks.{Link, Block, blocksOf, count}
 use Rattle.model.specs.Verdicts.{readFile, numbersOf, fileVerdict}
 use Rattle.model.specs.Unfolding.{showLinks}

@@ -1,4 +1,4 @@
--- The starred cases of document 01, "The ring show", and some of its other examples, as one table. proofs/Starred.antt proves it by
+-- The starred cases of document 01, "The ring show", and some of its other examples and of document 02's, as one table. proofs/Starred.antt proves it by
 -- computation.
 use Prim.Native.Nat.{ℕ, _-_}
 use mathlib.Core.Path.{_≡_}
@@ -6,14 +6,14 @@ use mathlib.Core.Bool.{true, false}
 use mathlib.Core.List.{List, [], _∷_, _++_}
 use lib.ListN.{replicate, drop}
 use Rattle.model.specs.Limits.{maxDepth, workSize, noChain}
-use Rattle.model.specs.Text.{run, isValue}
+use Rattle.model.specs.Values.{run, decimal, isValue}
 use Rattle.model.specs.Blocks.{Link, blocksOf, total}
 use Rattle.model.specs.Verdicts.{refusal}
 use Rattle.model.specs.Unfolding.{showLinks}
 use Rattle.model.specs.Answers.{returned, given}
 use Rattle.model.specs.Questions.{answer, refuse, readAsked, writeAsked, countAsked, locateAsked, numberAsked, outAsked, inAsked, fewestAsked}
 use Rattle.model.specs.Printed.{triples, printed}
-use Rattle.model.specs.Ring.{ring, ringFile, ringPrinted, opening}
+use Rattle.model.specs.Ring.{ring, ringFile, ringPrinted, opening, openingFile, paddedFile}
 
 -- Lent lists hold 7s before the call, so that a place which must not change is seen.
 abbrev pub lentPath : List ℕ
@@ -55,7 +55,7 @@ pub record Starred : Type 0 where
   pub single : countAsked (opening 1) ≡ given (1 ∷ [])
   pub empty : countAsked (opening 0) ≡ returned (refusal 9 1)
   -- Beside the starred ones: the way back from a path; cue 6 and cue 0; who leads to 3, on a page of length 0 too; the links and
-  -- what the unfolding program prints; the file, read and written; values.
+  -- what the unfolding program prints; the file, read and written.
   pub path-5 : numberAsked ring (1 ∷ 2 ∷ []) 1 ≡ given (5 ∷ [])
   pub path-3 : numberAsked ring (1 ∷ []) 1 ≡ given (3 ∷ [])
   pub path-1 : numberAsked ring [] 1 ≡ given (1 ∷ [])
@@ -69,8 +69,18 @@ pub record Starred : Type 0 where
   pub print : printed ringFile ≡ ringPrinted
   pub read : readAsked ringFile (replicate 100 7) ≡ answer (9 ∷ 3 ∷ 5 ∷ []) (ring ++ (7 ∷ []))
   pub write : writeAsked ring (replicate 232 7) ≡ answer (231 ∷ []) (ringFile ++ (7 ∷ []))
-  -- 65535 is a value; 65536, 01 and -1 are none
+  -- 02, Paper 1: 65535, 00000 and 00001 are values; 65536, 000001, 065536, -1 and no digit at all are none
   pub largest : isValue (run (54 ∷ 53 ∷ 53 ∷ 51 ∷ 53 ∷ [])) ≡ true
   pub too-large : isValue (run (54 ∷ 53 ∷ 53 ∷ 51 ∷ 54 ∷ [])) ≡ false
-  pub leading-zero : isValue (run (48 ∷ 49 ∷ [])) ≡ false
+  pub all-zeros : isValue (run (48 ∷ 48 ∷ 48 ∷ 48 ∷ 48 ∷ [])) ≡ true
+  pub all-zeros-number : decimal 0 (run (48 ∷ 48 ∷ 48 ∷ 48 ∷ 48 ∷ [])) ≡ 0
+  pub leading-zeros : isValue (run (48 ∷ 48 ∷ 48 ∷ 48 ∷ 49 ∷ [])) ≡ true
+  pub leading-zeros-number : decimal 0 (run (48 ∷ 48 ∷ 48 ∷ 48 ∷ 49 ∷ [])) ≡ 1
+  pub six-digits : isValue (run (48 ∷ 48 ∷ 48 ∷ 48 ∷ 48 ∷ 49 ∷ [])) ≡ false
+  pub six-digits-too-large : isValue (run (48 ∷ 54 ∷ 53 ∷ 53 ∷ 51 ∷ 54 ∷ [])) ≡ false
   pub sign : isValue (run (45 ∷ 49 ∷ [])) ≡ false
+  pub no-digit : isValue (run (44 ∷ [])) ≡ false
+  -- 02, Paper 1: a padded file is read; its rows are written without padding; that file is read to the same rows
+  pub read-padded : readAsked paddedFile (replicate 12 7) ≡ answer (1 ∷ 1 ∷ 1 ∷ []) (opening 1 ++ (7 ∷ []))
+  pub write-unpadded : writeAsked (opening 1) (replicate 56 7) ≡ answer (55 ∷ []) (openingFile ++ (7 ∷ []))
+  pub read-unpadded : readAsked openingFile (replicate 12 7) ≡ answer (1 ∷ 1 ∷ 1 ∷ []) (opening 1 ++ (7 ∷ []))

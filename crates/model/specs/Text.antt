@@ -1,15 +1,11 @@
--- The show file as bytes: values, lines, the line of names; read and written. Document 01, "The show file".
-use Prim.Native.Nat.{ℕ, _+_, _*_, _-_, _/_, _%_}
-use mathlib.Core.Bool.{Bool, true, false}
+-- The show file as bytes: the line of names and lines of values; read and written. Document 01, "The show file"; the values are those of `Values`.
+use Prim.Native.Nat.{ℕ}
 use mathlib.Core.List.{List, [], _∷_, _++_}
 use lib.ListN.{length}
-use Rattle.model.specs.Choice.{ifLt, ifEq, ifTrue}
-use Rattle.model.specs.Limits.{maxValue}
+use Rattle.model.specs.Choice.{ifEq, ifTrue}
+use Rattle.model.specs.Values.{run, afterRun, decimal, isValue, digits}
 
--- The bytes that 01 names: the digit 0, the comma and the line feed.
-abbrev pub digitZero : ℕ
-digitZero = 48
-
+-- The bytes that 01 names beside the digits: the comma and the line feed.
 abbrev pub comma : ℕ
 comma = 44
 
@@ -28,29 +24,6 @@ ends =
     comma ∷ comma ∷ comma ∷ comma ∷ comma ∷ comma ∷ comma ∷ comma ∷ comma ∷ comma ∷ lineFeed ∷ []
 
 -- Reading.
-
--- A byte is a digit.
-unfoldable pub isDigit : ℕ → Bool
-isDigit b = ifLt b digitZero false (ifLt (digitZero + 9) b false true)
-
--- The run of digits that some bytes begin with, as numbers 0 to 9, and what follows it.
-unfoldable pub run : List ℕ → List ℕ
-run [] = []
-run (b ∷ bs) = elim (isDigit b) [ true ↦ (b - digitZero) ∷ run bs | false ↦ [] ]
-
-unfoldable pub afterRun : List ℕ → List ℕ
-afterRun [] = []
-afterRun (b ∷ bs) = elim (isDigit b) [ true ↦ afterRun bs | false ↦ b ∷ bs ]
-
--- "Figures are in base ten": the number that a run of digits stands for, where v is that of the digits before it.
-unfoldable pub decimal : ℕ → List ℕ → ℕ
-decimal v [] = v
-decimal v (d ∷ ds) = decimal (v * 10 + d) ds
-
--- "A value is 0 to 65,535 with no sign, space or leading zero": a run of digits is a value.
-unfoldable pub isValue : List ℕ → Bool
-isValue [] = false
-isValue (d ∷ ds) = ifLt maxValue (decimal d ds) false (ifEq d 0 (ifLt 0 (length ds) false true) true)
 
 -- What a line says: its values, or nothing where it is malformed.
 pub data LineValues : Type 0 where
@@ -84,18 +57,6 @@ linesOf [] = []
 linesOf (b ∷ bs) = ifEq b lineFeed ((b ∷ []) ∷ linesOf bs) (intoFirst b (linesOf bs))
 
 -- Writing.
-
--- "no sign, space or leading zero": the digits of a value, of which a value has at most five.
-unfoldable pub digitAt : ℕ → ℕ → ℕ
-digitAt place v = digitZero + v / place % 10
-
-unfoldable pub digits : ℕ → List ℕ
-digits v =
-    ifLt v 10 (digitAt 1 v ∷ [])
-    (ifLt v 100 (digitAt 10 v ∷ digitAt 1 v ∷ [])
-    (ifLt v 1000 (digitAt 100 v ∷ digitAt 10 v ∷ digitAt 1 v ∷ [])
-    (ifLt v 10000 (digitAt 1000 v ∷ digitAt 100 v ∷ digitAt 10 v ∷ digitAt 1 v ∷ [])
-    (digitAt 10000 v ∷ digitAt 1000 v ∷ digitAt 100 v ∷ digitAt 10 v ∷ digitAt 1 v ∷ []))))
 
 -- The line of some values: each value's digits and the byte behind it.
 unfoldable pub lineText : List ℕ → List ℕ → List ℕ

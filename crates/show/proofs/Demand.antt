@@ -28,7 +28,7 @@ use Rattle.demands.proofs.Refusals.{locate-refuses, out-refuses, in-refuses, fe
 use Rattle.demands.proofs.Checking.{write-checks, count-checks, locate-checks, number-checks, out-checks, in-checks, fewest-checks}
 use Rattle.demands.proofs.Reading.{is-read}
 use Rattle.demands.proofs.Writing.{is-written}
-use Rattle.demands.proofs.RoundTrips.{writes-back, reads-back}
+use Rattle.demands.proofs.RoundTrips.{writes-back, reads-back, reads-again}
 use Rattle.demands.proofs.Replacement.{unfolds}
 use Rattle.demands.proofs.Numbers.{is-count, is-number, is-located}
 use Rattle.demands.proofs.Lists.{list-out, list-in, pages-out, pages-in}
@@ -72,6 +72,7 @@ demand-2 =
           record {
             write-back = λ file out after rows blocks cues e. writes-back file out after (Read rows blocks cues) rows blocks cues e refl;
             read-back = λ xs out after bytes e. reads-back xs out after (Written bytes) bytes e refl;
+            read-again = reads-again;
           };
       right = λ xs l. right xs (accepted-exactly xs .1 l);
     }

@@ -29,7 +29,7 @@ use Rattle.model.specs.Questions.{Outcome, outcome, refuse, onAccepted, readAsk
 use Rattle.model.specs.declared.Refusal.{Refusal}
 use Rattle.model.specs.declared.ReadAnswer.the-variants.{Refused as ReadRefused}
 use Rattle.basics.proofs.Choices.{lt-then, lt-else, eq-then}
-use Rattle.shows.proofs.Files.{read-written}
+use Rattle.shows.proofs.Files.{read-whole}
 use Rattle.codec.specs.Parsing.{Parses}
 use Rattle.codec.specs.declared.Parsed.{Parsed}
 use Rattle.codec.specs.declared.Parsed.the-variants.{Rows, Refused as Unparsed}
@@ -73,7 +73,7 @@ module _ (f out ys : List ℕ) where
     where
       go : (k : Reading) → readFile f ≡ k → Parses k p ys → Parsed-rows n
       go (Numbers xs) q P =
-          record { xs = xs; reads = q; many = cc (sym e ∙ P .0); whole = read-written f xs q .rows; size = P .1; stored = P .2 }
+          record { xs = xs; reads = q; many = cc (sym e ∙ P .0); whole = read-whole f xs q; size = P .1; stored = P .2 }
       go (Unread s) q P = absurd (let z : _≡_ {A = ℕ} 0 1 = cc (sym e ∙ P) in omega arith)
 
   pub read-many : (p : Parsed) (n : ℕ) → Parses (readFile f) p ys → p ≡ Rows n → 1024 < n

@@ -1,4 +1,4 @@
--- Demands 2 and 3, of the answers that the entry points give, in document 01's words. What an entry point is asked and answers is known by
+-- Demands 2 and 3, of the answers that the entry points give, in the words of documents 01 and 02. What an entry point is asked and answers is known by
 -- its promise (crates/demands/specs/Asking); the words are those of crates/demands/specs, a page for each part.
 use Prim.Native.Nat.{ℕ, _*_, _≤_}
 use mathlib.Core.Path.{_≡_}
@@ -28,7 +28,7 @@ use Rattle.demands.specs.Words.{Words}
 use Rattle.demands.specs.Blocks.{AreBlocks}
 use Rattle.demands.specs.Refusals.{LocateRefuses, ListRefuses, FewestRefuses}
 use Rattle.demands.specs.Files.{IsRead, IsWritten}
-use Rattle.demands.specs.RoundTrips.{WritesBack, ReadsBack}
+use Rattle.demands.specs.RoundTrips.{WritesBack, ReadsBack, ReadsAgain}
 use Rattle.demands.specs.Replacement.{Unfolds}
 use Rattle.demands.specs.Numbers.{IsCount, IsLocated, IsNumber}
 use Rattle.demands.specs.Lists.{LinkedOut, LinkedIn, IsList, Pages, ArePages}
@@ -55,14 +55,19 @@ pub record RefusalsExact : Type 0 where
   pub list-in : (xs : List ℕ) (v n : ℕ) (page after : List ℕ) (r : ListAnswer) → AsksIn xs v n page r after → ListRefuses xs v page r after
   pub fewest : (xs : List ℕ) (s t : ℕ) (work after : List ℕ) (r : FewestAnswer) → AsksFewest xs s t work r after → FewestRefuses xs s t work r after
 
--- Round trips are exact, of what the buffers hold: read, then write what was left; write, then read what was left.
+-- Round trips are exact, of what the buffers hold: read, then write what was left; write, then read what was left; and read, write and read again
+-- (02, Paper 1).
 pub record RoundTripsExact : Type 0 where
   pub write-back : (file out after : List ℕ) (rows blocks cues : ℕ) → AsksRead file out (Read rows blocks cues) after
       → (r : WriteAnswer) (out′ after′ : List ℕ) → AsksWrite (take (rows * rowSize) after) out′ r after′ → length file ≤ length out′
-      → WritesBack file r out′ after′
+      → WritesBack file (take (rows * rowSize) after) r out′ after′
   pub read-back : (xs out after : List ℕ) (bytes : ℕ) → AsksWrite xs out (Written bytes) after
       → (r : ReadAnswer) (out′ after′ : List ℕ) → AsksRead (take bytes after) out′ r after′ → length xs ≤ length out′
       → ReadsBack xs r out′ after′
+  pub read-again : (file out after : List ℕ) (rows blocks cues : ℕ) → AsksRead file out (Read rows blocks cues) after
+      → (bytes : ℕ) (out′ after′ : List ℕ) → AsksWrite (take (rows * rowSize) after) out′ (Written bytes) after′
+      → (r : ReadAnswer) (out″ after″ : List ℕ) → AsksRead (take bytes after′) out″ r after″ → rows * rowSize ≤ length out″
+      → ReadsAgain (Read rows blocks cues) (take (rows * rowSize) after) r out″ after″
 
 -- Of rows that keep the rules: the blocks are those of the rows; numbers, paths and lists are right against the unfolding of the blocks, which
 -- single steps in any order lead to.

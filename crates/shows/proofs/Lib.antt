@@ -14,7 +14,6 @@ pub mod BlockAt
 pub mod Locality
 pub mod Trails
 -- files
-pub mod Digits
 pub mod Lines
 pub mod FlatRows
 pub mod Files

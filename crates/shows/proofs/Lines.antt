@@ -1,46 +1,27 @@
--- Lines: a line of values that was written is read again, a line that is read was written so, and a file is its lines.
+-- Lines: a line is read to some values just where it spells them, no text of them is shorter than the one that is written, and a file is its
+-- lines.
 use Prim.Native.Nat.{ℕ, suc, _+_, _*_, _≤_}
-use mathlib.Core.Path.{_≡_, refl, _∙_, ap}
+use mathlib.Core.Path.{_≡_, refl, sym, _∙_, ap}
 use mathlib.Core.List.{List, [], _∷_, _++_, flatten}
 use native.Mathlib.Omega.{arith}
 use native.Mathlib.Decide.{ℕ-discrete}
 use lib.ListN.{length, length-append, take}
 use Rattle.model.specs.Choice.{ifLt}
-use Rattle.model.specs.Text.{
-  digitZero,
-  lineFeed,
-  names,
-  ends,
-  isDigit,
-  afterRun,
-  LineValues,
-  Values,
-  Malformed,
-  valueThen,
-  endedBy,
-  valuesOf,
-  intoFirst,
-  linesOf,
-  digits,
-  lineText,
-}
+use Rattle.model.specs.Values.{digitZero, isDigit, run, afterRun, digits}
+use Rattle.model.specs.Text.{lineFeed, names, ends, LineValues, Values, Malformed, valueThen, endedBy, valuesOf, intoFirst, linesOf, lineText}
 use Rattle.basics.specs.Members.{Each}
-use Rattle.shows.specs.Files.{Small, Other, Plain, OneLine, ended, longer, Said}
+use Rattle.basics.specs.Values.{shown, SpellsValue, Small, Other}
+use Rattle.shows.specs.Files.{SpellsLine, no-value, value-then, Plain, OneLine, ended, longer}
 use Rattle.basics.proofs.Choices.{eq-then, eq-else, true-then, eq-first, true-first}
-use Rattle.shows.proofs.Digits.{shown, digits-read, digits-written, spelling, digits-three}
+use Rattle.basics.proofs.Digits.{spelled-read, read-spelled, digits-spell, digits-shortest, digits-three}
 
--- A line of as many values as it has ends says these values.
-pub line-read : (es vs : List ℕ) → Each Other es → length vs ≡ length es → Each Small vs
-    → valuesOf es (lineText es vs) ≡ Values vs
-unfolding valuesOf lineText valueThen endedBy
-line-read [] [] o e h = eq-then _ _ _ _ refl
-line-read [] (v ∷ vs) o e h = absurd (omega arith)
-line-read (c ∷ es) [] o e h = absurd (omega arith)
-line-read (c ∷ es) (v ∷ vs) o e h =
-    let r = digits-read v (c ∷ lineText es vs) (h .0) (o .0) in
-    true-then _ _ _ (r .value)
-    ∙ rw (r .number, r .after)
-    (ap (valueThen v) (eq-then _ _ _ _ refl ∙ line-read es vs (o .1) (omega arith) (h .1)))
+-- A line that spells some values says them.
+pub line-read : {es l vs : List ℕ} → Each Other es → SpellsLine es l vs → valuesOf es l ≡ Values vs
+unfolding valuesOf valueThen endedBy
+line-read o no-value = eq-then _ _ _ _ refl
+line-read o (value-then {e = e} {l = l} {v = v} s r) =
+    let k = spelled-read (e ∷ l) s (o .0) in
+    true-then _ _ _ (k .value) ∙ rw (k .number, k .after) (ap (valueThen v) (eq-then _ _ _ _ refl ∙ line-read (o .1) r))
 
 -- What a line says, step by step: it is not malformed, a value stands before the rest, and a byte ends the value.
 unsaid : (vs : List ℕ) → Malformed ≡ Values vs → ⊥
@@ -65,25 +46,43 @@ empty : (l : List ℕ) → length l ≡ 0 → [] ≡ l
 empty [] e = refl
 empty (x ∷ l) e = absurd (omega arith)
 
--- A line that says some values is the line that is written for them.
-pub line-written : (es l vs : List ℕ) → valuesOf es l ≡ Values vs → Said es vs l
-unfolding valuesOf lineText
-line-written [] l vs e =
+-- A line that says some values spells them.
+pub line-spelled : (es l vs : List ℕ) → valuesOf es l ≡ Values vs → SpellsLine es l vs
+unfolding valuesOf
+line-spelled [] l vs e =
     let (p, q) = eq-first _ _ _ _ _ (unsaid vs) e in
     let n : [] ≡ vs = cc in
-    rw (← n) (record { text = empty l p; many = refl; small = tt })
-line-written (c ∷ es) l vs e =
+    rw (← n, ← empty l p) no-value
+line-spelled (c ∷ es) l vs e =
     let (v, p) = true-first _ _ _ _ (unsaid vs) e in
     let (ws, q, f) = then-is _ _ vs p in
     let (rest, g, r) = ended-is c (afterRun l) (valuesOf es) ws q in
-    let s = line-written es rest ws r in
-    let (small, d) = digits-written l v in
-    rw f
-    (record {
-      text = rw (s .text) (rw g at d);
-      many = ap suc (s .many);
-      small = (small, s .small);
-    })
+    let (s, d) = read-spelled l v in
+    let t : shown (run l) ++ (c ∷ rest) ≡ l = rw g at d in
+    rw (t, ← f) at (value-then {e = c} s (line-spelled es rest ws r))
+
+-- What it spells: a value for each end, and each at most the greatest.
+pub spelled-many : {es l vs : List ℕ} → SpellsLine es l vs → length vs ≡ length es
+spelled-many no-value = refl
+spelled-many (value-then s r) = ap suc (spelled-many r)
+
+pub spelled-small : {es l vs : List ℕ} → SpellsLine es l vs → Each Small vs
+spelled-small no-value = tt
+spelled-small (value-then s r) = (s .limit, spelled-small r)
+
+-- The line that is written for some values spells them, and none that does is shorter.
+pub text-spelled : (es vs : List ℕ) → length vs ≡ length es → Each Small vs → SpellsLine es (lineText es vs) vs
+unfolding lineText
+text-spelled [] [] e h = no-value
+text-spelled [] (v ∷ vs) e h = absurd (omega arith)
+text-spelled (c ∷ es) [] e h = absurd (omega arith)
+text-spelled (c ∷ es) (v ∷ vs) e h = value-then (digits-spell v (h .0)) (text-spelled es vs (omega arith) (h .1))
+
+pub text-shortest : {es l vs : List ℕ} → SpellsLine es l vs → length (lineText es vs) ≤ length l
+unfolding lineText
+text-shortest no-value = omega arith
+text-shortest (value-then {e = e} {es = es} {t = t} {l = l} {vs = vs} {v = v} s r) =
+    rw (length-append (digits v) (e ∷ lineText es vs), length-append t (e ∷ l)) (omega (arith, digits-shortest s, text-shortest r))
 
 -- The first line of a file, where the file begins with one.
 pub lines-first : {l : List ℕ} → OneLine l → (bs : List ℕ) → linesOf (l ++ bs) ≡ l ∷ linesOf bs
@@ -132,18 +131,13 @@ shown-plain (d ∷ ds) = (plain, shown-plain ds)
     plain : Plain (digitZero + d)
     plain e = omega arith
 
-digits-plain : (v : ℕ) → Small v → Each Plain (digits v)
-digits-plain v h = rw (spelling v h .text) (shown-plain (spelling v h .ds))
+value-plain : {t : List ℕ} {v : ℕ} → SpellsValue t v → Each Plain t
+value-plain s = rw (s .text) (shown-plain (s .figures))
 
 -- A line of values is one line where the bytes behind the values are.
-pub text-line : {es : List ℕ} → OneLine es → (vs : List ℕ) → length vs ≡ length es → Each Small vs
-    → OneLine (lineText es vs)
-unfolding lineText
-text-line ended [] e h = absurd (omega arith)
-text-line ended (v ∷ vs) e h = line-behind (digits v) (digits-plain v (h .0)) ended
-text-line (longer p o) [] e h = absurd (omega arith)
-text-line (longer p o) (v ∷ vs) e h =
-    line-behind (digits v) (digits-plain v (h .0)) (longer p (text-line o vs (omega arith) (h .1)))
+pub spelled-line : {es l vs : List ℕ} → OneLine es → SpellsLine es l vs → OneLine l
+spelled-line ended (value-then {t = t} s no-value) = line-behind t (value-plain s) ended
+spelled-line (longer p o) (value-then {t = t} s r) = line-behind t (value-plain s) (longer p (spelled-line o r))
 
 -- A line of values up to 999 has at most four bytes for each.
 pub text-short : (es vs : List ℕ) → Each (λ v. v ≤ 999) vs → length (lineText es vs) ≤ 4 * length es

@@ -1,5 +1,5 @@
--- Reading and writing, as questions, undo one another: what writing an accepted show gives is read back to its rows, and what
--- reading an accepted file gives is written back to its bytes.
+-- Reading and writing, as questions: what writing an accepted show gives is read back to its rows, and what reading an accepted file gives is
+-- written as the file of these rows, in no more bytes than were read (02, Paper 1).
 use Prim.Native.Nat.{ℕ, _≤_}
 use mathlib.Core.Path.{_≡_, refl}
 use mathlib.Core.List.{List, [], _∷_}
@@ -17,7 +17,8 @@ use Rattle.model.specs.declared.Verdict.the-variants.{Accepted, Refused}
 use Rattle.basics.proofs.Choices.{lt-else}
 use Rattle.shows.specs.Accepted.{Show}
 use Rattle.shows.proofs.Accepted.{accepted-show}
-use Rattle.shows.proofs.Files.{written-read, read-written, fits}
+use Rattle.shows.specs.Files.{SpellsFile}
+use Rattle.shows.proofs.Files.{file-reads, rows-file, file-shortest, fits}
 
 -- Enough room is no refusal.
 with-room : (need : ℕ) (lent : List ℕ) (o : Outcome) → need ≤ length lent → withRoom need lent o ≡ o
@@ -30,9 +31,12 @@ pub read-answer : (f xs out : List ℕ) → readFile f ≡ Numbers xs → verdic
 unfolding readAsked fileVerdict readVerdict numbersOf readInto inLines onAccepted
 read-answer f xs out e v h = rw (e, v) (with-room _ _ _ h)
 
--- The file of accepted rows says their numbers.
+-- The file that is written for accepted rows says their numbers.
+pub rows-spell : (xs : List ℕ) → verdict xs ≡ Accepted → SpellsFile (fileText (rowsOf xs)) xs
+rows-spell xs v = let s : Show xs = accepted-show xs v in rows-file xs (s .whole) (s .values) (s .rows .1)
+
 pub rows-read : (xs : List ℕ) → verdict xs ≡ Accepted → readFile (fileText (rowsOf xs)) ≡ Numbers xs
-rows-read xs v = let s : Show xs = accepted-show xs v in written-read xs (s .whole) (s .values) (s .rows .1)
+rows-read xs v = file-reads (fileText (rowsOf xs)) xs .1 (rows-spell xs v)
 
 -- Reading back what was written for accepted rows gives the rows.
 pub read-back : (xs out : List ℕ) → verdict xs ≡ Accepted → length xs ≤ length out
@@ -46,10 +50,10 @@ pub write-answer : (xs out : List ℕ) → verdict xs ≡ Accepted → length (f
 unfolding writeAsked writeInto onAccepted
 write-answer xs out v h = rw v (with-room _ _ _ h)
 
--- Writing back what was read from an accepted file gives the file.
+-- Writing what was read from an accepted file gives the file of its rows. An output that has room for the file that was read is long enough.
 pub write-back : (f xs out : List ℕ) → readFile f ≡ Numbers xs → verdict xs ≡ Accepted → length f ≤ length out
-    → writeAsked xs out ≡ answer (length f ∷ []) (overwrite f out)
-write-back f xs out e v h = let t = read-written f xs e .text in rw t at (write-answer xs out v (rw t h))
+    → writeAsked xs out ≡ answer (length (fileText (rowsOf xs)) ∷ []) (overwrite (fileText (rowsOf xs)) out)
+write-back f xs out e v h = write-answer xs out v (omega (arith, file-shortest (file-reads f xs .0 e)))
 
 -- Accepted rows always fit a file.
 pub rows-fit : (xs : List ℕ) → verdict xs ≡ Accepted → length (fileText (rowsOf xs)) ≤ maxBytes

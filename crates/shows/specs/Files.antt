@@ -1,32 +1,35 @@
--- What the laws of files are stated with.
-use Prim.Native.Nat.{ℕ, _%_, _≤_}
+-- The text of a show file, said of its bytes, and what the laws of files are stated with. Document 01, "The show file".
+use Prim.Native.Nat.{ℕ, _≤_}
 use mathlib.Core.Path.{_≡_}
-use mathlib.Core.Bool.{true, false}
 use mathlib.Core.List.{List, [], _∷_, _++_}
 use mathlib.Core.Logic.{_≢_}
-use lib.ListN.{length, getD}
-use Rattle.model.specs.Limits.{rowSize, maxValue, maxBytes}
-use Rattle.model.specs.Text.{lineFeed, isDigit, run, afterRun, decimal, isValue, lineText}
-use Rattle.model.specs.Rows.{rowsOf, fileText}
-use Rattle.basics.specs.Members.{Each}
+use lib.ListN.{length}
+use Rattle.model.specs.Limits.{rowSize, maxBytes}
+use Rattle.model.specs.Text.{lineFeed, names, ends}
+use Rattle.basics.specs.Values.{SpellsValue}
 
--- Some bytes go on with no digit: they are at their end, or a byte that is no digit comes next.
-abbrev pub NoDigit : List ℕ → Type 0
-NoDigit [] = Unit {0}
-NoDigit (b ∷ bs) = isDigit b ≡ false
+-- "eleven values with single commas between", "Every line, the last too, ends in one line feed": the text of a line of values, each of
+-- them with the byte behind it.
+pub data SpellsLine : List ℕ → List ℕ → List ℕ → Type 0 where
+  no-value : SpellsLine [] [] []
+  value-then : {e : ℕ} {es t l vs : List ℕ} {v : ℕ} → SpellsValue t v → SpellsLine es l vs → SpellsLine (e ∷ es) (t ++ (e ∷ l)) (v ∷ vs)
 
--- "A value is 0 to 65,535".
-abbrev pub Small : ℕ → Type 0
-Small v = v ≤ maxValue
+-- "Each later line has eleven values": the text of such lines, and their numbers in order.
+pub data SpellsLines : List ℕ → List ℕ → Type 0 where
+  no-line : SpellsLines [] []
+  line-then : {l t vs xs : List ℕ} → SpellsLine ends l vs → SpellsLines t xs → SpellsLines (l ++ t) (vs ++ xs)
 
--- A byte is no digit; a byte is no line feed.
-abbrev pub Other : ℕ → Type 0
-Other b = isDigit b ≡ false
+-- "A line of names, then lines of values"; "A file has at most 65,536 bytes". File f says the numbers xs.
+pub record SpellsFile (f xs : List ℕ) : Type 0 where
+  pub lines : List ℕ
+  pub text : f ≡ names ++ lines
+  pub values : SpellsLines lines xs
+  pub short : length f ≤ maxBytes
 
+-- A byte is no line feed. Bytes that end in their only line feed.
 abbrev pub Plain : ℕ → Type 0
 Plain b = b ≢ lineFeed
 
--- Bytes that end in their only line feed.
 pub data OneLine : List ℕ → Type 0 where
   ended : OneLine (lineFeed ∷ [])
   longer : {b : ℕ} {l : List ℕ} → Plain b → OneLine l → OneLine (b ∷ l)
@@ -40,22 +43,3 @@ pub data Rowed : List ℕ → Type 0 where
 abbrev pub Elevens : List (List ℕ) → Type 0
 Elevens [] = Unit {0}
 Elevens (vs ∷ vss) = (length vs ≡ rowSize) × Elevens vss
-
--- Bytes begin with the digits of value v, and the rest follows.
-pub record Reads (bs : List ℕ) (v : ℕ) (rest : List ℕ) : Type 0 where
-  pub value : isValue (run bs) ≡ true
-  pub number : decimal 0 (run bs) ≡ v
-  pub after : afterRun bs ≡ rest
-
--- What a line that says some values is.
-pub record Said (es vs l : List ℕ) : Type 0 where
-  pub text : lineText es vs ≡ l
-  pub many : length vs ≡ length es
-  pub small : Each Small vs
-
--- A file is the one of rows that hold some numbers.
-pub record IsFile (f xs : List ℕ) : Type 0 where
-  pub text : fileText (rowsOf xs) ≡ f
-  pub rows : length xs % rowSize ≡ 0
-  pub small : (i : ℕ) → getD xs i 0 ≤ maxValue
-  pub short : length f ≤ maxBytes

@@ -1,1 +1,1 @@
-// Laws of shows: rows, files, numbering, partsFrom of blocks; no code.
+// Laws of shows: rows, files, numbering, copies of blocks; no code.

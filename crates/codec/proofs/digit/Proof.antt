@@ -1,6 +1,6 @@
 -- The last digit of a number.
 use borrow.Author.Needs.{needs}
-use Rattle.model.specs.Text.{digitAt}
+use Rattle.model.specs.Values.{digitAt}
 use Rattle.codec.proofs.digit.Statement.{statement}
 use Rattle.codec.proofs.digit.Tie as tie
 

@@ -1,6 +1,6 @@
 -- The byte behind a value, by the value's place.
 use borrow.Author.Needs.{needs}
-use Rattle.codec.proofs.Values.{comma-at, feed-at}
+use Rattle.codec.proofs.Ends.{comma-at, feed-at}
 use Rattle.codec.proofs.end_of.Statement.{statement}
 use Rattle.codec.proofs.end_of.Tie as tie
 

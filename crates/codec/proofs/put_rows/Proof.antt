@@ -2,7 +2,7 @@
 use mathlib.Core.Path.{refl}
 use borrow.Author.Needs.{needs}
 use Rattle.model.specs.Choice.{ifLt}
-use Rattle.model.specs.Text.{digits, digitAt}
+use Rattle.model.specs.Values.{digits, digitAt}
 use Rattle.codec.specs.Writing.{valueText, fourBytes, shortText, shortTexts}
 use Rattle.codec.proofs.put_rows.Statement.{statement}
 use Rattle.codec.proofs.put_rows.Tie as tie

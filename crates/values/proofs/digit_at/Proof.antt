@@ -1,9 +1,9 @@
 -- The digit at a place: each answer is a case of the definition.
 use borrow.Author.Needs.{needs}
 use Rattle.basics.proofs.Choices.{ifs}
-use Rattle.codec.specs.Scanning.{figureAt, figure}
-use Rattle.codec.proofs.digit_at.Statement.{statement}
-use Rattle.codec.proofs.digit_at.Tie as tie
+use Rattle.values.specs.Fields.{figureAt, figure}
+use Rattle.values.proofs.digit_at.Statement.{statement}
+use Rattle.values.proofs.digit_at.Tie as tie
 
 pub digit-at-spec : {M : Type 1} → statement M
 unfolding figureAt figure
