@@ -211,29 +211,35 @@ written (suc n) v g h = go (λ k. written n (v / 10) (omega arith) (omega arith)
               ∙ sym (shown-last (w .ds) (v % 10));
         }
 
--- One to five of them.
-pub digits-few : (v : ℕ) → (1 ≤ length (digits v)) × (length (digits v) ≤ maxDigits)
-digits-few v = go (decLt v 10) (decLt v 100) (decLt v 1000) (decLt v 10000)
+-- There are one to five of them, and the first is 0 only if it is alone.
+pub record Shaped (ds : List ℕ) : Type 0 where
+  pub some : 1 ≤ length ds
+  pub few : length ds ≤ maxDigits
+  pub lead : getD ds 0 0 ≡ digitZero → length ds ≡ 1
+
+pub digits-shaped : (v : ℕ) → v ≤ maxValue → Shaped (digits v)
+unfolding digitAt
+digits-shaped v small = go (decLt v 10) (decLt v 100) (decLt v 1000) (decLt v 10000)
   where
-    go : Dec (v < 10) → Dec (v < 100) → Dec (v < 1000) → Dec (v < 10000) → (1 ≤ length (digits v)) × (length (digits v) ≤ maxDigits)
-    go (yes a) b c d = rw (one v a) (omega arith)
-    go (no a) (yes b) c d = rw (two v (omega arith) b) (omega arith)
-    go (no a) (no b) (yes c) d = rw (three v (omega arith) c) (omega arith)
-    go (no a) (no b) (no c) (yes d) = rw (four v (omega arith) d) (omega arith)
-    go (no a) (no b) (no c) (no d) = rw (five v (omega arith)) (omega arith)
+    go : Dec (v < 10) → Dec (v < 100) → Dec (v < 1000) → Dec (v < 10000) → Shaped (digits v)
+    go (yes a) b c d = rw (one v a) (record { some = omega arith; few = omega arith; lead = λ z. refl })
+    go (no a) (yes b) c d = rw (two v (omega arith) b) (record { some = omega arith; few = omega arith; lead = λ z. omega arith })
+    go (no a) (no b) (yes c) d = rw (three v (omega arith) c) (record { some = omega arith; few = omega arith; lead = λ z. omega arith })
+    go (no a) (no b) (no c) (yes d) = rw (four v (omega arith) d) (record { some = omega arith; few = omega arith; lead = λ z. omega arith })
+    go (no a) (no b) (no c) (no d) = rw (five v (omega arith)) (record { some = omega arith; few = omega arith; lead = λ z. omega arith })
 
 -- So a value is written as a text of it,
 pub digits-spell : (v : ℕ) → v ≤ maxValue → SpellsValue (digits v) v
 digits-spell v h =
     let w = written (suc v) v (omega arith) h in
     let n : length (digits v) ≡ length (w .ds) = ap length (w .text) ∙ shown-length (w .ds) in
-    let (some, few) = digits-few v in
+    let d = digits-shaped v h in
     record {
       figures = w .ds;
       text = w .text;
       each = w .each;
-      some = omega arith;
-      few = omega arith;
+      some = omega (arith, d .some);
+      few = omega (arith, d .few);
       number = w .number;
       limit = h;
     }
@@ -276,18 +282,6 @@ read-spelled bs e =
       },
       p .whole,
     )
-
--- A value of two digits and more does not begin with 0, and one digit is alone.
-pub digits-lead : (v : ℕ) → v ≤ maxValue → getD (digits v) 0 0 ≡ digitZero → length (digits v) ≡ 1
-unfolding digitAt
-digits-lead v small = go (decLt v 10) (decLt v 100) (decLt v 1000) (decLt v 10000)
-  where
-    go : Dec (v < 10) → Dec (v < 100) → Dec (v < 1000) → Dec (v < 10000) → getD (digits v) 0 0 ≡ digitZero → length (digits v) ≡ 1
-    go (yes a) b c d = rw (one v a) (λ z. refl)
-    go (no a) (yes b) c d = rw (two v (omega arith) b) (λ z. absurd (omega arith))
-    go (no a) (no b) (yes c) d = rw (three v (omega arith) c) (λ z. absurd (omega arith))
-    go (no a) (no b) (no c) (yes d) = rw (four v (omega arith) d) (λ z. absurd (omega arith))
-    go (no a) (no b) (no c) (no d) = rw (five v (omega arith)) (λ z. absurd (omega arith))
 
 -- A value up to 999 has at most three digits.
 pub digits-three : (v : ℕ) → v ≤ 999 → length (digits v) ≤ 3

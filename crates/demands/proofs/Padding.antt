@@ -13,13 +13,18 @@ use Rattle.model.specs.Choice.{ifLt}
 use Rattle.model.specs.Values.{digitZero, isDigit, digits}
 use Rattle.model.specs.Text.{lineFeed, names, ends, lineText}
 use Rattle.model.specs.Rows.{rowsFrom, rowCount, rowsOf, rowLines, fileText}
+use Rattle.model.specs.Lists.{overwrite}
+use Rattle.model.specs.Verdicts.{verdict, Numbers, readFile}
+use Rattle.model.specs.Questions.{answer, writeAsked}
+use Rattle.model.specs.declared.Verdict.the-variants.{Accepted}
 use Rattle.basics.specs.Members.{Each}
 use Rattle.basics.specs.Values.{Digit, shown, SpellsValue, Padded, Small, Other}
 use Rattle.basics.proofs.Every.{each-at, each-append, each-parts}
-use Rattle.basics.proofs.Digits.{digit-isDigit, shown-length, digits-few, digits-spell, digits-lead, spelled-padded}
+use Rattle.basics.proofs.Digits.{digit-isDigit, shown-length, digits-shaped, digits-spell, spelled-padded}
 use Rattle.shows.specs.Files.{SpellsLine, no-value, value-then, SpellsLines, no-line, line-then, SpellsFile, Rowed, none, row}
 use Rattle.shows.proofs.Lines.{ends-other, spelled-many}
-use Rattle.shows.proofs.Files.{rowLines-first, spelled-rows, spelled-values, written-again}
+use Rattle.shows.proofs.Files.{rowLines-first, spelled-rows, spelled-values, file-reads, written-again}
+use Rattle.shows.proofs.RoundTrips.{write-back}
 use Rattle.demands.specs.Files.{IsDigit, LeadingZero, Unpadded, UnpaddedFile}
 
 -- A byte that is no digit is none by its value.
@@ -113,8 +118,8 @@ digits-unpadded v e h o i z = go i z (decLt i (1 + length (digits v)))
   where
     first : LeadingZero (digits v ++ (e ∷ [])) 0 → ⊥
     first z =
-        let some = digits-few v .0 in
-        let one : length (digits v) ≡ 1 = digits-lead v h (sym (List·getD-append (digits v) (e ∷ []) 0 0 (omega arith)) ∙ z .zero) in
+        let s = digits-shaped v h in
+        let one : length (digits v) ≡ 1 = s .lead (sym (List·getD-append (digits v) (e ∷ []) 0 0 (s .some)) ∙ z .zero) in
         let d : getD (digits v ++ (e ∷ [])) 1 0 ≡ e = (rw one at (at-end (digits v) e [])) in
         other-no-digit e o (rw d at (z .goes-on))
 
@@ -136,7 +141,7 @@ value-unpadded {t} {v} e l s u = go (spelled-padded s .zeros) (spelled-padded s 
     go zero p = sym p
     go (suc n) p =
         let q : length t ≡ suc (length (replicate n digitZero ++ digits v)) = ap length p in
-        let long : 1 < length t = omega (arith, length-append (replicate n digitZero) (digits v), digits-few v .0) in
+        let long : 1 < length t = omega (arith, length-append (replicate n digitZero) (digits v), digits-shaped v (s .limit) .some) in
         let zero : getD (t ++ (e ∷ l)) 0 0 ≡ digitZero = rw p in
         absurd (u 0 (record { zero = zero; begins = λ h d. omega arith; goes-on = text-digit e l 1 s long }))
 
@@ -209,3 +214,10 @@ text-file-unpadded {f} {xs} s =
 
 pub one-file : {f g xs : List ℕ} → UnpaddedFile f xs → UnpaddedFile g xs → f ≡ g
 one-file a b = sym (text-is a) ∙ text-is b
+
+-- So writing what was read from an unpadded file gives the file (of the definitions; of the answers, see `RoundTrips`).
+pub write-same : (f xs out : List ℕ) → readFile f ≡ Numbers xs → verdict xs ≡ Accepted → Unpadded f → length f ≤ length out
+    → writeAsked xs out ≡ answer (length f ∷ []) (overwrite f out)
+write-same f xs out e v u h =
+    let t = text-is (record { spells = file-reads f xs .0 e; unpadded = u }) in
+    rw t at (write-back f xs out e v h)
