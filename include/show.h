@@ -33,12 +33,12 @@ enum {
 static inline uint32_t show_refusal(uint64_t returned) { return (uint32_t)(returned >> 32); }
 static inline uint32_t show_place(uint64_t returned) { return (uint32_t)returned; }
 
-/* Reads a file to rows. A value has one to five digits, at most 65535; leading zeros are allowed, as older desks write them. given: rows,
+/* Reads a file to rows. A value has up to five digits and is at most 65535; it may begin with zeros, as older desks write it. given: rows,
  * blocks, cues. */
 uint64_t show_read(const uint8_t *file, size_t file_len, uint32_t *rows, size_t rows_len, uint32_t *given, size_t given_len);
 
-/* Writes rows as a file, values without leading zeros: a file that was read and had none comes back byte for byte, any other in fewer
- * bytes. SHOW_MAX_FILE bytes are always enough. given: its length in bytes. */
+/* Writes rows as a file, values without leading zeros: a file that was read and had none comes back byte for byte, any other without its
+ * zeros. SHOW_MAX_FILE bytes are always enough. given: its length in bytes. */
 uint64_t show_write(const uint32_t *rows, size_t rows_len, uint8_t *out, size_t out_len, uint32_t *given, size_t given_len);
 
 /* The count of cues. given: cues. */

@@ -10,7 +10,7 @@ use lib.ListN.{length, getD, length-append, replicate}
 use Rattle.model.specs.Limits.{maxValue, maxDigits}
 use Rattle.model.specs.Values.{digitZero, isDigit, run, afterRun, decimal, isValue, digitAt, digits}
 use Rattle.basics.specs.Members.{Each}
-use Rattle.basics.specs.Values.{Digit, shown, SpellsValue, Padded, NoDigit, Reads}
+use Rattle.basics.specs.Values.{Digit, shown, SpellsValue, NoDigit, Reads}
 use Rattle.basics.proofs.Every.{each-append}
 use Rattle.basics.proofs.Choices.{lt-then, lt-else, lt-second, passed-not-lt}
 
@@ -19,7 +19,7 @@ pub digit-isDigit : (d : ℕ) → Digit d → isDigit (digitZero + d) ≡ true
 unfolding isDigit
 digit-isDigit d h = lt-else _ _ _ _ (omega arith) ∙ lt-else _ _ _ _ (omega arith)
 
-pub digit-is : (b : ℕ) → isDigit b ≡ true → (digitZero ≤ b) × (b < digitZero + 10)
+digit-is : (b : ℕ) → isDigit b ≡ true → (digitZero ≤ b) × (b < digitZero + 10)
 unfolding isDigit
 digit-is b e =
     let (low, f) = lt-second _ _ _ _ _ false≢true e in
@@ -27,7 +27,7 @@ digit-is b e =
     omega arith
 
 -- Digits before anything that goes on with none are the run, and that is what follows it.
-pub run-shown : (ds rest : List ℕ) → Each Digit ds → NoDigit rest → run (shown ds ++ rest) ≡ ds
+run-shown : (ds rest : List ℕ) → Each Digit ds → NoDigit rest → run (shown ds ++ rest) ≡ ds
 unfolding run
 run-shown [] [] h g = refl
 run-shown [] (b ∷ bs) h g = rw (g, run)
@@ -35,18 +35,18 @@ run-shown (d ∷ ds) rest h g =
     let e : digitZero + d - digitZero ≡ d = omega arith in
     rw (digit-isDigit d (h .0), run, e) (ap (λ (r : List ℕ). d ∷ r) (run-shown ds rest (h .1) g))
 
-pub afterRun-shown : (ds rest : List ℕ) → Each Digit ds → NoDigit rest → afterRun (shown ds ++ rest) ≡ rest
+afterRun-shown : (ds rest : List ℕ) → Each Digit ds → NoDigit rest → afterRun (shown ds ++ rest) ≡ rest
 unfolding afterRun
 afterRun-shown [] [] h g = refl
 afterRun-shown [] (b ∷ bs) h g = rw (g, afterRun)
 afterRun-shown (d ∷ ds) rest h g = rw (digit-isDigit d (h .0), afterRun) (afterRun-shown ds rest (h .1) g)
 
 -- Any bytes are their run of digits and what follows it.
-pub record Parted (bs : List ℕ) : Type 0 where
-  pub each : Each Digit (run bs)
-  pub whole : shown (run bs) ++ afterRun bs ≡ bs
+record Parted (bs : List ℕ) : Type 0 where
+  each : Each Digit (run bs)
+  whole : shown (run bs) ++ afterRun bs ≡ bs
 
-pub parted : (bs : List ℕ) → Parted bs
+parted : (bs : List ℕ) → Parted bs
 unfolding run afterRun
 parted [] = record { each = tt; whole = refl }
 parted (b ∷ bs) = go (parted bs) (isDigit b) refl
@@ -64,7 +64,7 @@ parted (b ∷ bs) = go (parted bs) (isDigit b) refl
         record { each = rw (e, run) tt; whole = rw (e, run, afterRun) }
 
 -- A run of digits is a value where it has one to five digits and its number is no more than the greatest.
-pub value-is : (ds : List ℕ) → isValue ds ≡ true → (1 ≤ length ds) × (length ds ≤ maxDigits) × (decimal 0 ds ≤ maxValue)
+value-is : (ds : List ℕ) → isValue ds ≡ true → (1 ≤ length ds) × (length ds ≤ maxDigits) × (decimal 0 ds ≤ maxValue)
 unfolding isValue
 value-is ds e =
     let (some, f) = passed-not-lt (length ds) 1 _ e in
@@ -80,7 +80,7 @@ pub decimal-first : (d : ℕ) (ds : List ℕ) → decimal 0 (d ∷ ds) ≡ decim
 unfolding decimal
 decimal-first d ds = let e : 0 * 10 + d ≡ d = omega arith in rw e
 
-pub decimal-grows : (v : ℕ) (ds : List ℕ) → v ≤ decimal v ds
+decimal-grows : (v : ℕ) (ds : List ℕ) → v ≤ decimal v ds
 unfolding decimal
 decimal-grows v [] = omega arith
 decimal-grows v (d ∷ ds) = omega (arith, decimal-grows (v * 10 + d) ds)
@@ -161,15 +161,20 @@ alone : (d : ℕ) → Digit d → digits d ≡ shown (d ∷ [])
 unfolding digitAt
 alone d h = let e : d / 1 % 10 ≡ d = omega arith in one d h ∙ rw e
 
--- Digits are zeros, and then those that their number is written with.
-shown-padded : (ds : List ℕ) → Each Digit ds → 1 ≤ length ds → decimal 0 ds ≤ maxValue → Padded (shown ds) (decimal 0 ds)
+-- A text is zeros, or none, and then the digits that a value is written with.
+pub record WithZeros (t : List ℕ) (v : ℕ) : Type 0 where
+  pub zeros : ℕ
+  pub text : t ≡ replicate zeros digitZero ++ digits v
+
+-- So are the digits of a number.
+shown-zeros : (ds : List ℕ) → Each Digit ds → 1 ≤ length ds → decimal 0 ds ≤ maxValue → WithZeros (shown ds) (decimal 0 ds)
 unfolding decimal
-shown-padded [] h some small = absurd (omega arith)
-shown-padded (d ∷ []) h some small = rw (decimal-first d []) (record { zeros = 0; text = sym (alone d (h .0)) })
-shown-padded (zero ∷ c ∷ cs) h some small =
-    let p = shown-padded (c ∷ cs) (h .1) (omega arith) small in
+shown-zeros [] h some small = absurd (omega arith)
+shown-zeros (d ∷ []) h some small = rw (decimal-first d []) (record { zeros = 0; text = sym (alone d (h .0)) })
+shown-zeros (zero ∷ c ∷ cs) h some small =
+    let p = shown-zeros (c ∷ cs) (h .1) (omega arith) small in
     record { zeros = suc (p .zeros); text = ap (λ (t : List ℕ). digitZero ∷ t) (p .text) }
-shown-padded (suc d ∷ c ∷ cs) h some small =
+shown-zeros (suc d ∷ c ∷ cs) h some small =
     let e = decimal-first (suc d) (c ∷ cs) in
     let w = spelled (suc d) (c ∷ cs) (omega arith) (h .1) (rw e at small) in
     rw e (record { zeros = 0; text = sym (w ∙ ap (λ (t : List ℕ). t ++ shown (c ∷ cs)) (alone (suc d) (h .0))) })
@@ -212,10 +217,10 @@ written (suc n) v g h = go (λ k. written n (v / 10) (omega arith) (omega arith)
         }
 
 -- There are one to five of them, and the first is 0 only if it is alone.
-pub record Shaped (ds : List ℕ) : Type 0 where
-  pub some : 1 ≤ length ds
-  pub few : length ds ≤ maxDigits
-  pub lead : getD ds 0 0 ≡ digitZero → length ds ≡ 1
+pub record Shaped (t : List ℕ) : Type 0 where
+  pub some : 1 ≤ length t
+  pub few : length t ≤ maxDigits
+  pub lead : getD t 0 0 ≡ digitZero → length t ≡ 1
 
 pub digits-shaped : (v : ℕ) → v ≤ maxValue → Shaped (digits v)
 unfolding digitAt
@@ -244,15 +249,15 @@ digits-spell v h =
       limit = h;
     }
 
--- every text of it is padded, and none is shorter.
-pub spelled-padded : {t : List ℕ} {v : ℕ} → SpellsValue t v → Padded t v
-spelled-padded s =
+-- every text of it is its digits, with zeros before them or none, and so none is shorter.
+pub spelled-zeros : {t : List ℕ} {v : ℕ} → SpellsValue t v → WithZeros t v
+spelled-zeros s =
     let e = s .number in
-    rw (← e, s .text) (shown-padded (s .figures) (s .each) (s .some) (rw e (s .limit)))
+    rw (← e, s .text) (shown-zeros (s .figures) (s .each) (s .some) (rw e (s .limit)))
 
 pub digits-shortest : {t : List ℕ} {v : ℕ} → SpellsValue t v → length (digits v) ≤ length t
 digits-shortest {v = v} s =
-    let p = spelled-padded s in
+    let p = spelled-zeros s in
     rw (p .text, length-append (replicate (p .zeros) digitZero) (digits v)) (omega arith)
 
 -- Spelled, then read: the run of a value's text says the value, and what stood behind the text follows.

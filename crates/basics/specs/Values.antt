@@ -2,10 +2,10 @@
 use Prim.Native.Nat.{ℕ, _+_, _≤_, _<_}
 use mathlib.Core.Path.{_≡_}
 use mathlib.Core.Bool.{true, false}
-use mathlib.Core.List.{List, [], _∷_, _++_}
-use lib.ListN.{length, replicate}
+use mathlib.Core.List.{List, [], _∷_}
+use lib.ListN.{length}
 use Rattle.model.specs.Limits.{maxValue, maxDigits}
-use Rattle.model.specs.Values.{digitZero, isDigit, run, afterRun, decimal, isValue, digits}
+use Rattle.model.specs.Values.{digitZero, isDigit, run, afterRun, decimal, isValue}
 use Rattle.basics.specs.Members.{Each}
 
 -- A digit as a number, and the bytes that some digits are written as.
@@ -26,11 +26,6 @@ pub record SpellsValue (t : List ℕ) (v : ℕ) : Type 0 where
   pub few : length figures ≤ maxDigits
   pub number : decimal 0 figures ≡ v
   pub limit : v ≤ maxValue
-
--- "pad a value with zeros": the text is zeros, and then the digits that the value is written with.
-pub record Padded (t : List ℕ) (v : ℕ) : Type 0 where
-  pub zeros : ℕ
-  pub text : t ≡ replicate zeros digitZero ++ digits v
 
 -- "A value is 0 to 65,535" (01).
 abbrev pub Small : ℕ → Type 0

@@ -83,7 +83,7 @@ fn is_written(rows: &[u32], out: &mut [u8], want: &[u32], content: &[u8]) -> boo
     holds_text(out, content)
 }
 
-// Writing gives the bytes of the file, if it is not refused.
+// Writing gives these bytes, if it is not refused.
 fn is_file(file: &[u8], rows: &[u32], out: &mut [u8], want: &[u32]) -> bool {
     if text::get(want, 0) == 0 {
         return is_written(rows, out, want, file);
@@ -97,9 +97,24 @@ fn writes_to(file: &[u8], rows: &[u32], size: usize, out: &mut [u8], want: &[u32
     is_file(file, rows, &mut out[0..end], want)
 }
 
+// Writing gives the file without the zeros that pad its values.
+fn writes_plain(
+    file: &[u8],
+    plain: &mut [u8],
+    rows: &[u32],
+    size: usize,
+    out: &mut [u8],
+    want: &[u32],
+) -> bool {
+    let many = text::unpad(file, plain);
+    let end = least(many, plain.len());
+    writes_to(&plain[0..end], rows, size, out, want)
+}
+
 fn writes(file: &[u8], rows: &[u32], size: usize, want: &[u32]) -> bool {
     let mut out = [7u8; 65552];
-    writes_to(file, rows, size, &mut out, want)
+    let mut plain = [0u8; 65552];
+    writes_plain(file, &mut plain, rows, size, &mut out, want)
 }
 
 // The question leaves this content in the lent list, and gives what is wanted.

@@ -1,4 +1,4 @@
-// Checks the cases of document 01 by the library, and random shows with the answers that a second tool gave.
+// Checks the cases of documents 01 and 02 by the library, and random shows with the answers that a second tool gave.
 // A line for each case says ok or WRONG; the last line has the counts.
 mod asking;
 mod judging;

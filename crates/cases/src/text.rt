@@ -61,6 +61,50 @@ pub fn copy(text: &[u8], from: usize, mark: u8, file: &mut [u8]) -> usize {
     n
 }
 
+fn is_digit(b: u8) -> bool {
+    if b < 48 {
+        return false;
+    }
+    b < 58
+}
+
+// Whether a byte pads a value: a 0 that no digit stands before and that a digit follows.
+fn pads(before: u8, b: u8, behind: u8) -> bool {
+    if b != b'0' {
+        return false;
+    }
+    if is_digit(before) {
+        return false;
+    }
+    is_digit(behind)
+}
+
+// Stores a byte, if there is room: how many are stored then.
+fn keep(list: &mut [u8], n: usize, b: u8) -> usize {
+    if n < list.len() {
+        list[n] = b;
+        return n + 1;
+    }
+    n
+}
+
+// Copies a file without the zeros that pad its values, as far as there is room: how many bytes.
+pub fn unpad(file: &[u8], plain: &mut [u8]) -> usize {
+    let mut before = b',';
+    let mut n = 0;
+    let mut i = 0;
+    while i < file.len() {
+        let b = file[i];
+        i += 1;
+        if pads(before, b, byte(file, i)) {
+            continue;
+        }
+        n = keep(plain, n, b);
+        before = b;
+    }
+    n
+}
+
 // The first place from here on that has the mark or a line feed, or the text's end.
 pub fn seek(text: &[u8], from: usize, mark: u8) -> usize {
     let mut i = from;

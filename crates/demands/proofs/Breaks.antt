@@ -13,7 +13,7 @@ use Rattle.model.specs.Rows.{rowCount}
 use Rattle.model.specs.Verdicts.{refusal, Numbers, Reading, Unread, rowThen, readLines, same, readAll, readFile}
 use Rattle.model.specs.declared.Refusal.{Refusal}
 use Rattle.basics.proofs.Choices.{lt-then, lt-else, true-else}
-use Rattle.shows.specs.Files.{SpellsLine, SpellsLines, no-line, line-then, OneLine}
+use Rattle.shows.specs.Files.{SpellsLine, SpellsLines, no-line, line-then}
 use Rattle.shows.proofs.Lines.{line-read, line-spelled, spelled-many, spelled-line, lines-first, lines-flatten, names-line, ends-line, ends-other}
 use Rattle.shows.proofs.Files.{says-first, same-refl, same-is, names-first}
 use Rattle.demands.specs.Files.{BreaksAt, ReadRefusal, of-length, of-names, of-line}

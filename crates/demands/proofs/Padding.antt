@@ -5,29 +5,33 @@ use native.Mathlib.Decide.{decLt, ℕ-discrete}
 use mathlib.Core.Path.{_≡_, refl, sym, _∙_, ap, ap₂}
 use mathlib.Core.Bool.{false≢true}
 use mathlib.Core.Logic.{_≢_}
-use mathlib.Core.List.{List, [], _∷_, _++_, append-nil, append-assoc}
+use mathlib.Core.List.{List, [], _∷_, _++_, append-assoc}
 use lib.ListN.{length, getD, take, replicate, length-append, List·getD-append}
 use lib.Seq.{getD-append-add}
-use Rattle.model.specs.Limits.{maxValue}
-use Rattle.model.specs.Choice.{ifLt}
-use Rattle.model.specs.Values.{digitZero, isDigit, digits}
-use Rattle.model.specs.Text.{lineFeed, names, ends, lineText}
+use Rattle.model.specs.Choice.{ifLt, ifEq, ifTrue}
+use Rattle.model.specs.Values.{digitZero, isDigit, run, afterRun, decimal, isValue, digits}
+use Rattle.model.specs.Text.{lineFeed, names, ends, valueThen, endedBy, valuesOf, intoFirst, linesOf, lineText}
 use Rattle.model.specs.Rows.{rowsFrom, rowCount, rowsOf, rowLines, fileText}
 use Rattle.model.specs.Lists.{overwrite}
-use Rattle.model.specs.Verdicts.{verdict, Numbers, readFile}
+use Rattle.model.specs.Verdicts.{verdict, Numbers, rowThen, readLines, same, readAll, readFile}
 use Rattle.model.specs.Questions.{answer, writeAsked}
+use Rattle.model.specs.Ring.{opening, paddedFile}
 use Rattle.model.specs.declared.Verdict.the-variants.{Accepted}
 use Rattle.basics.specs.Members.{Each}
-use Rattle.basics.specs.Values.{Digit, shown, SpellsValue, Padded, Small, Other}
+use Rattle.basics.specs.Values.{Digit, shown, SpellsValue, Small, Other}
 use Rattle.basics.proofs.Every.{each-at, each-append, each-parts}
-use Rattle.basics.proofs.Digits.{digit-isDigit, shown-length, digits-shaped, digits-spell, spelled-padded}
+use Rattle.basics.proofs.Digits.{digit-isDigit, shown-length, digits-shaped, digits-spell, spelled-zeros}
 use Rattle.shows.specs.Files.{SpellsLine, no-value, value-then, SpellsLines, no-line, line-then, SpellsFile, Rowed, none, row}
 use Rattle.shows.proofs.Lines.{ends-other, spelled-many}
 use Rattle.shows.proofs.Files.{rowLines-first, spelled-rows, spelled-values, file-reads, written-again}
 use Rattle.shows.proofs.RoundTrips.{write-back}
-use Rattle.demands.specs.Files.{IsDigit, LeadingZero, Unpadded, UnpaddedFile}
+use Rattle.demands.specs.Words.{IsDigit}
+use Rattle.demands.specs.Acceptance.{Lawful}
+use Rattle.demands.specs.Files.{LeadingZero, Unpadded, UnpaddedFile}
+use Rattle.demands.proofs.Acceptance.{accepted-exactly}
+use Rattle.demands.proofs.Ring.{opening-accepted}
 
--- A byte that is no digit is none by its value.
+-- A byte that the reader takes for no digit is none by `IsDigit`.
 other-no-digit : (e : ℕ) → Other e → IsDigit e → ⊥
 other-no-digit e o (low, high) =
     let d : digitZero + (e - digitZero) ≡ e = omega arith in
@@ -135,7 +139,7 @@ digits-unpadded v e h o i z = go i z (decLt i (1 + length (digits v)))
         omega arith
 
 value-unpadded : {t : List ℕ} {v : ℕ} (e : ℕ) (l : List ℕ) → SpellsValue t v → Unpadded (t ++ (e ∷ l)) → digits v ≡ t
-value-unpadded {t} {v} e l s u = go (spelled-padded s .zeros) (spelled-padded s .text)
+value-unpadded {t} {v} e l s u = go (spelled-zeros s .zeros) (spelled-zeros s .text)
   where
     go : (n : ℕ) → t ≡ replicate n digitZero ++ digits v → digits v ≡ t
     go zero p = sym p
@@ -194,7 +198,7 @@ names-unpadded i z = each-at (λ b. b ≢ digitZero) (take 32 names ++ (lineFeed
     no-zero : Each (λ b. b ≢ digitZero) (take 32 names ++ (lineFeed ∷ []))
     no-zero = each-append (λ b. b ≢ digitZero) (take 32 names) (lineFeed ∷ []) (omega arith) ((λ e. omega arith), tt)
 
--- The file that is written for some rows is unpadded, and an unpadded file that says the same is that file.
+-- An unpadded file is the one that is written for what it says; the file that is written for what some file says is unpadded; so there is just one.
 pub text-is : {f xs : List ℕ} → UnpaddedFile f xs → fileText (rowsOf xs) ≡ f
 unfolding fileText
 text-is {f} {xs} u =
@@ -221,3 +225,15 @@ pub write-same : (f xs out : List ℕ) → readFile f ≡ Numbers xs → verdict
 write-same f xs out e v u h =
     let t = text-is (record { spells = file-reads f xs .0 e; unpadded = u }) in
     rw t at (write-back f xs out e v h)
+
+-- There are padded files that are read: that of a single opening row is one.
+padded-read : readFile paddedFile ≡ Numbers (opening 1)
+unfolding ifLt ifEq ifTrue names ends isDigit run afterRun decimal isValue valueThen endedBy valuesOf intoFirst linesOf rowThen readLines same readAll readFile
+padded-read = refl
+
+pub padded-file : SpellsFile paddedFile (opening 1) × Lawful (opening 1) × (Unpadded paddedFile → ⊥)
+padded-file = (
+  file-reads paddedFile (opening 1) .0 padded-read,
+  accepted-exactly (opening 1) .0 opening-accepted,
+  λ u. u 33 (record { zero = refl; begins = λ h d. omega arith; goes-on = omega arith }),
+)

@@ -1,4 +1,4 @@
--- What read answers and leaves is what document 01 demands.
+-- What read answers and leaves is what the documents demand.
 use Prim.Native.Nat.{ℕ, suc, _+_, _≤_, _<_}
 use native.Mathlib.Omega.{arith}
 use mathlib.Core.Path.{_≡_, refl, sym, _∙_, ap}

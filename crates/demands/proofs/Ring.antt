@@ -16,7 +16,7 @@ use Rattle.model.specs.declared.Verdict.the-variants.{Accepted}
 use Rattle.model.specs.Unfolding.{cueAt, renamed, usesLinks, links, showLinks}
 use Rattle.model.specs.Paths.{ownNumber, usesNumber, copyNumber, numberIn, nowhere, stepThen, usesPlace, placeIn}
 use Rattle.model.specs.Lists.{range}
-use Rattle.model.specs.Ring.{ring}
+use Rattle.model.specs.Ring.{ring, opening}
 use Rattle.demands.specs.Replacement.{Node, Edge, Standing, Graph, ownNodes, nodesOf, nth, edge, standing, Step, stay, then, begin, Ended, nodeNumber, nodeAt, byNumbers}
 use Rattle.demands.specs.Numbers.{node, Before, own-order, own-first, use-order, same-use}
 
@@ -54,10 +54,14 @@ bs =
     ∷ record { joins = 2; own = 1; links = []; uses = use-of 0 (1 ∷ 3 ∷ []) ∷ use-of 0 (2 ∷ 1 ∷ []) ∷ [] }
     ∷ record { joins = 2; own = 1; links = link-of 1 3 1 ∷ link-of 2 1 1 ∷ []; uses = [] } ∷ []
 
--- Its rows are accepted.
+-- Its rows are accepted, and so is a single opening row with one own cue.
 pub ring-accepted : verdict ring ≡ Accepted
 unfolding ifLt ifEq ifTrue cell rowAt rowsFrom rowCount rowsOf start cuesIn mayOpen goesOn mayFollow columnsUsed named every isCue isZero labelFits ownFits inRange differs distinct isBelow linkKey useKey inOrder fault after noBlock blockAt joinsOf ownOf addLink addUse addRow addRows blocksOf sumOver total refusal refused andThen checkLength checkRows openingRows checkBlocks mayStand totalFits verdict
 ring-accepted = refl
+
+pub opening-accepted : verdict (opening 1) ≡ Accepted
+unfolding ifLt ifEq ifTrue cell rowAt rowsFrom rowCount rowsOf start cuesIn mayOpen goesOn mayFollow columnsUsed named every isCue isZero labelFits ownFits inRange differs distinct isBelow linkKey useKey inOrder fault after noBlock blockAt joinsOf ownOf addLink addUse addRow addRows blocksOf sumOver total refusal refused andThen checkLength checkRows openingRows checkBlocks mayStand totalFits verdict
+opening-accepted = refl
 
 ring-blocks : blocksOf ring ≡ bs
 unfolding ifLt ifEq cell rowAt rowsFrom rowCount rowsOf noBlock blockAt joinsOf addLink addUse addRow addRows blocksOf

@@ -1,18 +1,20 @@
--- The words shared with the model mean what document 01 means by them.
+-- The words shared with the model and its laws mean what the documents mean by them.
 use Prim.Native.Nat.{ℕ, zero, suc, _+_, _*_, _-_, _<_}
 use native.Mathlib.Omega.{arith}
-use mathlib.Core.Path.{_≡_, refl, _∙_, ap}
-use mathlib.Core.List.{List}
+use mathlib.Core.Path.{_≡_, refl, sym, _∙_, ap, ap₂}
+use mathlib.Core.List.{List, [], _∷_, map}
 use lib.ListN.{length, getD}
-use Rattle.model.specs.Values.{decimal}
+use Rattle.model.specs.Values.{digitZero, decimal}
 use Rattle.model.specs.Text.{names, ends}
 use Rattle.model.specs.Rows.{Row, cell, rowAt, rowsFrom, rowCount, rowsOf}
 use Rattle.model.specs.Blocks.{lastBlock}
 use Rattle.model.specs.Verdicts.{refusal}
 use Rattle.model.specs.Answers.{returned, given, flag, ofRead, ofWrite, ofCount, ofLocate, ofNumber, ofList, ofFewest}
 use Rattle.basics.proofs.Members.{range-length, range-at}
-use Rattle.basics.proofs.Digits.{decimal-last}
-use Rattle.demands.specs.Words.{Figures, Bytes, RowWords, ListWords, AnswerWords, Words}
+use Rattle.basics.specs.Members.{Each}
+use Rattle.basics.specs.Values.{Digit, shown, SpellsValue}
+use Rattle.basics.proofs.Digits.{decimal-last, shown-length}
+use Rattle.demands.specs.Words.{Figures, Bytes, IsDigit, ValueText, ValueWords, RowWords, ListWords, AnswerWords, Words}
 
 figures : Figures
 figures =
@@ -42,6 +44,57 @@ bytes =
       no-digit = refl;
       next-digit = decimal-last 0;
     }
+
+-- The digits of a text, as numbers, are those that it shows.
+abbrev figuresOf : List ℕ → List ℕ
+figuresOf t = map (λ (b : ℕ). b - 48) t
+
+shown-figures : (ds : List ℕ) → figuresOf (shown ds) ≡ ds
+shown-figures [] = refl
+shown-figures (d ∷ ds) = let e : digitZero + d - 48 ≡ d = omega arith in ap₂ _∷_ e (shown-figures ds)
+
+figures-shown : (t : List ℕ) → Each IsDigit t → shown (figuresOf t) ≡ t
+figures-shown [] h = refl
+figures-shown (b ∷ t) h = let (k, _) = h in let e : digitZero + (b - 48) ≡ b = omega arith in ap₂ _∷_ e (figures-shown t (h .1))
+
+shown-digits : (ds : List ℕ) → Each Digit ds → Each IsDigit (shown ds)
+shown-digits [] h = tt
+shown-digits (d ∷ ds) h = let k = h .0 in ((omega arith), shown-digits ds (h .1))
+
+figures-digits : (t : List ℕ) → Each IsDigit t → Each Digit (figuresOf t)
+figures-digits [] h = tt
+figures-digits (b ∷ t) h = let (k, _) = h in ((omega arith), figures-digits t (h .1))
+
+figures-length : (t : List ℕ) → length (figuresOf t) ≡ length t
+figures-length [] = refl
+figures-length (b ∷ t) = ap suc (figures-length t)
+
+values : ValueWords
+values t v = (to, from)
+  where
+    to : SpellsValue t v → ValueText t v
+    to s =
+        let e = s .text in
+        let n : length t ≡ length (s .figures) = ap length e ∙ shown-length (s .figures) in
+        record {
+          all-digits = rw e (shown-digits (s .figures) (s .each));
+          one-to-five = (omega (arith, s .some), omega (arith, s .few));
+          number = rw (e, shown-figures (s .figures)) (s .number);
+          at-most = s .limit;
+        }
+
+    from : ValueText t v → SpellsValue t v
+    from w =
+        let n = figures-length t in
+        record {
+          figures = figuresOf t;
+          text = sym (figures-shown t (w .all-digits));
+          each = figures-digits t (w .all-digits);
+          some = omega (arith, w .one-to-five .0);
+          few = omega (arith, w .one-to-five .1);
+          number = w .number;
+          limit = w .at-most;
+        }
 
 -- The rows from row r on: how many, and which.
 rows-long : (xs : List ℕ) (r n : ℕ) → length (rowsFrom xs r n) ≡ n
@@ -97,4 +150,4 @@ answers =
     }
 
 pub words : Words
-words = record { figures = figures; bytes = bytes; rows = rows; lists = lists; answers = answers }
+words = record { figures = figures; bytes = bytes; values = values; rows = rows; lists = lists; answers = answers }

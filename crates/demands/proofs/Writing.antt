@@ -1,4 +1,4 @@
--- What write answers and leaves is what document 01 demands.
+-- What write answers and leaves is what the documents demand.
 use Prim.Native.Nat.{ℕ, _≤_, _<_}
 use native.Mathlib.Omega.{arith}
 use native.Mathlib.Decide.{decLt}

@@ -18,13 +18,11 @@ use Rattle.model.specs.declared.ReadAnswer.{ReadAnswer}
 use Rattle.model.specs.declared.ReadAnswer.the-variants.{Read, Refused}
 use Rattle.shows.specs.Files.{SpellsLine, SpellsLines, SpellsFile}
 use Rattle.demands.specs.Buffers.{Leaves}
+use Rattle.demands.specs.Words.{IsDigit}
 use Rattle.demands.specs.Acceptance.{Lawful, Check, Length, Sequence, Ranges, Repeats, Order, Ends, Totals, refusalNumber, FirstBroken}
 
 -- "leading zeros" (02, Paper 1), said of the bytes of a file: at place i stands a 0 that begins a value, since no digit stands before it, and a digit
 -- follows it.
-abbrev pub IsDigit : ℕ → Type 0
-IsDigit b = (digitZero ≤ b) × (b ≤ digitZero + 9)
-
 pub record LeadingZero (f : List ℕ) (i : ℕ) : Type 0 where
   pub zero : getD f i 0 ≡ digitZero
   pub begins : 1 ≤ i → IsDigit (getD f (i - 1) 0) → ⊥

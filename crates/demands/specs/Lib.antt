@@ -1,4 +1,4 @@
--- What document 01 demands of the answers, each page to be read against its words.
+-- What documents 01 and 02 demand of the answers, each page to be read against its words.
 pub mod Asking
 pub mod Buffers
 pub mod Acceptance

@@ -1,8 +1,9 @@
--- The words that these pages share with the model, by what they mean: figures, bytes, rows, ranges, and the numbers that an answer has.
-use Prim.Native.Nat.{ℕ, _+_, _*_, _-_, _/_, _<_}
+-- The words that these pages share with the model and its laws, by what they mean: figures, bytes, values, rows, ranges, and the numbers that an answer has.
+use Prim.Native.Nat.{ℕ, _+_, _*_, _-_, _/_, _≤_, _<_}
 use mathlib.Core.Path.{_≡_}
 use mathlib.Core.Bool.{true, false}
-use mathlib.Core.List.{List, [], _∷_, _++_}
+use mathlib.Core.List.{List, [], _∷_, _++_, map}
+use mathlib.Core.Logic.{_↔_}
 use lib.ListN.{length, getD}
 use Rattle.model.specs.Limits.{rowSize, maxValue, maxDigits, maxJoins, maxOwn, maxLabel, maxBlocks, maxBytes, maxRows, maxTotal, maxDepth}
 use Rattle.model.specs.Values.{digitZero, decimal}
@@ -20,6 +21,8 @@ use Rattle.model.specs.declared.LocateAnswer.the-variants.{Found, Refused as Un
 use Rattle.model.specs.declared.NumberAnswer.the-variants.{Number, Refused as Unnumbered}
 use Rattle.model.specs.declared.ListAnswer.the-variants.{Page, Refused as Unlisted}
 use Rattle.model.specs.declared.FewestAnswer.the-variants.{Steps, None, Refused as Unsearched}
+use Rattle.basics.specs.Members.{Each}
+use Rattle.basics.specs.Values.{SpellsValue}
 use Rattle.demands.specs.Acceptance.{nthRow, IsRow}
 
 -- The figures of document 01, and the digits of a value, of document 02.
@@ -48,6 +51,19 @@ pub record Bytes : Type 0 where
   pub line-ends : ends ≡ 44 ∷ 44 ∷ 44 ∷ 44 ∷ 44 ∷ 44 ∷ 44 ∷ 44 ∷ 44 ∷ 44 ∷ 10 ∷ []
   pub no-digit : decimal 0 [] ≡ 0
   pub next-digit : (ds : List ℕ) (d : ℕ) → decimal 0 (ds ++ (d ∷ [])) ≡ decimal 0 ds * 10 + d
+
+-- "one to five digits, leading zeros allowed, still at most 65,535" (02, Paper 1), of the bytes of a text; and this is what spells a value.
+abbrev pub IsDigit : ℕ → Type 0
+IsDigit b = (48 ≤ b) × (b ≤ 57)
+
+pub record ValueText (t : List ℕ) (v : ℕ) : Type 0 where
+  pub all-digits : Each IsDigit t
+  pub one-to-five : (1 ≤ length t) × (length t ≤ 5)
+  pub number : decimal 0 (map (λ (b : ℕ). b - 48) t) ≡ v
+  pub at-most : v ≤ 65535
+
+abbrev pub ValueWords : Type 0
+ValueWords = (t : List ℕ) (v : ℕ) → SpellsValue t v ↔ ValueText t v
 
 -- "A line of values is a row: eleven 32-bit unsigned numbers in lent memory", in the order of the line of names; and the rows of lent numbers are
 -- row 1, row 2 and so on.
@@ -95,6 +111,7 @@ pub record AnswerWords : Type 0 where
 pub record Words : Type 0 where
   pub figures : Figures
   pub bytes : Bytes
+  pub values : ValueWords
   pub rows : (xs : List ℕ) → RowWords xs
   pub lists : ListWords
   pub answers : AnswerWords

@@ -1,1 +1,1 @@
-// What document 01 demands of the answers, in its own words, and that the definitions of the questions meet it; no code.
+// What documents 01 and 02 demand of the answers, in their own words, and that the definitions of the questions meet it; no code.

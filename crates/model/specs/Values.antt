@@ -1,5 +1,5 @@
 -- A value in a text: a run of digits read to its number, and a number written as digits. Every kind of file has its values so; nothing here
--- knows of show files. Document 02, Paper 1, which stands in the place of document 01's "with no sign, space or leading zero".
+-- knows of show files. Document 02, Paper 1, in the place of document 01's "leading zero"; its "no sign, space" stands, since a run is digits.
 use Prim.Native.Nat.{ℕ, _+_, _*_, _-_, _/_, _%_}
 use mathlib.Core.Bool.{Bool, true, false}
 use mathlib.Core.List.{List, [], _∷_}

@@ -28,6 +28,7 @@ use Rattle.demands.proofs.Refusals.{locate-refuses, out-refuses, in-refuses, fe
 use Rattle.demands.proofs.Checking.{write-checks, count-checks, locate-checks, number-checks, out-checks, in-checks, fewest-checks}
 use Rattle.demands.proofs.Reading.{is-read}
 use Rattle.demands.proofs.Writing.{is-written}
+use Rattle.demands.proofs.Padding.{padded-file}
 use Rattle.demands.proofs.RoundTrips.{writes-back, reads-back, reads-again}
 use Rattle.demands.proofs.Replacement.{unfolds}
 use Rattle.demands.proofs.Numbers.{is-count, is-number, is-located}
@@ -68,6 +69,7 @@ demand-2 =
           };
       refusals = record { locate = locate-refuses; list-out = out-refuses; list-in = in-refuses; fewest = fewest-refuses };
       a-show = accepted-exactly ring .0 ring-accepted;
+      a-padded-file = padded-file;
       round-trips =
           record {
             write-back = λ file out after rows blocks cues e. writes-back file out after (Read rows blocks cues) rows blocks cues e refl;

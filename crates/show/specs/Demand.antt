@@ -1,5 +1,6 @@
 -- Demands 2 and 3, of the answers that the entry points give, in the words of documents 01 and 02. What an entry point is asked and answers is known by
--- its promise (crates/demands/specs/Asking); the words are those of crates/demands/specs, a page for each part.
+-- its promise (crates/demands/specs/Asking); the words are those of crates/demands/specs, a page for each part, and, for the text of a file, of
+-- crates/shows/specs/Files and crates/basics/specs/Values.
 use Prim.Native.Nat.{ℕ, _*_, _≤_}
 use mathlib.Core.Path.{_≡_}
 use mathlib.Core.Bool.{Bool}
@@ -10,7 +11,7 @@ use Rattle.model.specs.Blocks.{Link, blocksOf, count}
 use Rattle.model.specs.Unfolding.{showLinks}
 use Rattle.model.specs.Chains.{Chain, followed}
 use Rattle.model.specs.Answers.{ofWrite, ofCount, ofLocate, ofNumber, ofList, ofFewest}
-use Rattle.model.specs.Ring.{ring}
+use Rattle.model.specs.Ring.{ring, opening, paddedFile}
 use Rattle.model.specs.declared.ReadAnswer.{ReadAnswer}
 use Rattle.model.specs.declared.ReadAnswer.the-variants.{Read}
 use Rattle.model.specs.declared.WriteAnswer.{WriteAnswer}
@@ -27,7 +28,8 @@ use Rattle.demands.specs.Acceptance.{Lawful, ChecksRows}
 use Rattle.demands.specs.Words.{Words}
 use Rattle.demands.specs.Blocks.{AreBlocks}
 use Rattle.demands.specs.Refusals.{LocateRefuses, ListRefuses, FewestRefuses}
-use Rattle.demands.specs.Files.{IsRead, IsWritten}
+use Rattle.shows.specs.Files.{SpellsFile}
+use Rattle.demands.specs.Files.{IsRead, IsWritten, Unpadded}
 use Rattle.demands.specs.RoundTrips.{WritesBack, ReadsBack, ReadsAgain}
 use Rattle.demands.specs.Replacement.{Unfolds}
 use Rattle.demands.specs.Numbers.{IsCount, IsLocated, IsNumber}
@@ -87,12 +89,13 @@ pub record RightAgainstUnfolding (xs : List ℕ) : Type 0 where
   pub pages-in : (v n many : ℕ) (cues : List ℕ) (more : Bool) → 1 ≤ v → v ≤ count (blocksOf xs) → Pages (AsksIn xs v) n many cues more
       → ArePages (LinkedIn xs v) n many cues more
 
--- All of it; the words mean what they say, and there is a show.
+-- All of it; the words mean what they say, there is a show, and there is a padded file of one.
 pub record Demand2 : Type 0 where
   pub words : Words
   pub acceptance : AcceptanceExact
   pub refusals : RefusalsExact
   pub a-show : Lawful ring
+  pub a-padded-file : SpellsFile paddedFile (opening 1) × Lawful (opening 1) × (Unpadded paddedFile → ⊥)
   pub round-trips : RoundTripsExact
   pub right : (xs : List ℕ) → Lawful xs → RightAgainstUnfolding xs
 

@@ -13,7 +13,7 @@ use Rattle.model.specs.Verdicts.{refusal, Reading, Numbers, Unread, rowThen, re
 use Rattle.model.specs.declared.Refusal.{Refusal}
 use Rattle.basics.specs.Members.{Each}
 use Rattle.basics.specs.Values.{Small}
-use Rattle.shows.specs.Files.{SpellsLine, SpellsLines, no-line, line-then, SpellsFile, Rowed, none, row}
+use Rattle.shows.specs.Files.{SpellsLines, no-line, line-then, SpellsFile, Rowed, none, row}
 use Rattle.basics.proofs.Every.{at-each, each-append, each-parts}
 use Rattle.basics.proofs.Choices.{lt-else, eq-then, true-then, lt-second, eq-first, true-first}
 use Rattle.shows.proofs.Lines.{line-read, line-spelled, spelled-many, spelled-small, spelled-line, text-spelled, text-shortest, text-short}
@@ -33,7 +33,7 @@ unfolding readLines
 says-first n l vs ls e = rw (readLines, e)
 
 -- Lines that spell some numbers say them.
-pub lines-read : {t xs : List ℕ} → SpellsLines t xs → (n : ℕ) → readLines n (linesOf t) ≡ Numbers xs
+lines-read : {t xs : List ℕ} → SpellsLines t xs → (n : ℕ) → readLines n (linesOf t) ≡ Numbers xs
 unfolding readLines linesOf rowThen
 lines-read no-line n = refl
 lines-read (line-then {l = l} {t = t} {vs = vs} s r) n =
@@ -52,7 +52,7 @@ then-is vs (Numbers ys) xs e = (ys, refl, cc)
 then-is vs (Unread r) xs e = absurd (unread r xs e)
 
 -- Lines that say some numbers spell them.
-pub lines-spelled : (n : ℕ) (ls : List (List ℕ)) (xs : List ℕ) → readLines n ls ≡ Numbers xs → SpellsLines (flatten ls) xs
+lines-spelled : (n : ℕ) (ls : List (List ℕ)) (xs : List ℕ) → readLines n ls ≡ Numbers xs → SpellsLines (flatten ls) xs
 unfolding readLines flatten
 lines-spelled n [] xs e = let f : [] ≡ xs = cc in rw (← f) no-line
 lines-spelled n (l ∷ ls) xs e = go (λ ys p. lines-spelled (suc n) ls ys p) (valuesOf ends l) refl
@@ -75,7 +75,7 @@ spelled-values no-line = tt
 spelled-values (line-then {vs = vs} {xs = xs} s r) = each-append Small vs xs (spelled-small s) (spelled-values r)
 
 -- The lines that are written for rows spell them, and none that do are shorter.
-pub rows-spelled : {xs : List ℕ} → Rowed xs → Each Small xs → SpellsLines (rowLines (rowsOf xs)) xs
+rows-spelled : {xs : List ℕ} → Rowed xs → Each Small xs → SpellsLines (rowLines (rowsOf xs)) xs
 unfolding rowLines rowsOf rowsFrom rowCount ends
 rows-spelled none h = no-line
 rows-spelled (row vs xs e r) h =
@@ -170,7 +170,7 @@ pub read-whole : (f xs : List ℕ) → readFile f ≡ Numbers xs → length xs %
 read-whole f xs e = omega (arith, rowed-length (spelled-rows (file-spelled f xs e .values)))
 
 -- The file that is written for rows spells them, if it is short enough; none that does is shorter.
-pub text-file : (xs : List ℕ) → Rowed xs → Each Small xs → length (fileText (rowsOf xs)) ≤ maxBytes → SpellsFile (fileText (rowsOf xs)) xs
+text-file : (xs : List ℕ) → Rowed xs → Each Small xs → length (fileText (rowsOf xs)) ≤ maxBytes → SpellsFile (fileText (rowsOf xs)) xs
 unfolding fileText
 text-file xs r h k = record { lines = rowLines (rowsOf xs); text = refl; values = rows-spelled r h; short = k }
 
@@ -179,12 +179,12 @@ unfolding fileText
 file-shortest {f} {xs} s =
     rw (s .text, length-append names (rowLines (rowsOf xs)), length-append names (s .lines)) (omega (arith, rows-shortest (s .values)))
 
--- So the unpadded file of what a file says is no longer than that file, and says the same.
+-- So the file that is written for what a file says is short enough, and says the same.
 pub written-again : {f xs : List ℕ} → SpellsFile f xs → SpellsFile (fileText (rowsOf xs)) xs
 written-again {f} {xs} s =
     text-file xs (spelled-rows (s .values)) (spelled-values (s .values)) (omega (arith, file-shortest s, s .short))
 
--- Rows of small values fit.
+-- Rows of values up to 999 have a file.
 pub rows-file : (xs : List ℕ) → length xs % rowSize ≡ 0 → ((i : ℕ) → getD xs i 0 ≤ 999) → rowCount xs ≤ maxRows
     → SpellsFile (fileText (rowsOf xs)) xs
 rows-file xs e h k = text-file xs (rowed xs e) (at-each Small xs (λ i. small i (h i))) (fits xs e h k)

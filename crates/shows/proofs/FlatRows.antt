@@ -1,12 +1,12 @@
 -- Rows: numbers whose count is a multiple of eleven are the values of their rows, one row after the other.
 use Prim.Native.Nat.{ℕ, zero, suc, _+_, _*_, _/_, _%_}
 use mathlib.Core.Path.{_≡_, refl, _∙_, ap}
-use mathlib.Core.List.{List, [], _∷_, _++_, map, flatten}
+use mathlib.Core.List.{List, [], _∷_, _++_}
 use native.Mathlib.Omega.{arith}
 use lib.ListN.{length, getD, take, drop, length-append, length-drop, take-append-drop}
 use lib.Seq.{length-take-le, getD-append-add}
 use Rattle.model.specs.Limits.{rowSize}
-use Rattle.shows.specs.Files.{Rowed, none, row, Elevens}
+use Rattle.shows.specs.Files.{Rowed, none, row}
 use Rattle.model.specs.Rows.{Row, cell, rowAt, rowsFrom, rowCount, rowsOf, rowValues}
 
 -- A multiple of eleven is rows.
@@ -70,16 +70,3 @@ unfolding rowsOf rowsFrom rowCount
 rows-first vs xs e =
     let k : length (vs ++ xs) / rowSize ≡ suc (length xs / rowSize) = rw (length-append vs xs) (omega arith) in
     rw k (ap (λ (r : List Row). rowAt (vs ++ xs) 0 ∷ r) (rowsFrom-later vs xs 0 (length xs / rowSize) e))
-
--- The values of all rows are all the numbers.
-pub rows-values : {xs : List ℕ} → Rowed xs → flatten (map rowValues (rowsOf xs)) ≡ xs
-unfolding rowsOf rowsFrom rowCount flatten
-rows-values none = refl
-rows-values (row vs xs e r) = rw (rows-first vs xs e, first-values vs xs e, rows-values r)
-
--- The rows of lists of eleven numbers, laid one behind the other, have these lists as their values.
-pub values-rows : (vss : List (List ℕ)) → Elevens vss → map rowValues (rowsOf (flatten vss)) ≡ vss
-unfolding rowsOf rowsFrom rowCount flatten
-values-rows [] h = refl
-values-rows (vs ∷ vss) h =
-    rw (rows-first vs (flatten vss) (h .0), first-values vs (flatten vss) (h .0), values-rows vss (h .1))

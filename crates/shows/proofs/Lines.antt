@@ -1,7 +1,7 @@
 -- Lines: a line is read to some values just where it spells them, no text of them is shorter than the one that is written, and a file is its
 -- lines.
 use Prim.Native.Nat.{ℕ, suc, _+_, _*_, _≤_}
-use mathlib.Core.Path.{_≡_, refl, sym, _∙_, ap}
+use mathlib.Core.Path.{_≡_, refl, _∙_, ap}
 use mathlib.Core.List.{List, [], _∷_, _++_, flatten}
 use native.Mathlib.Omega.{arith}
 use native.Mathlib.Decide.{ℕ-discrete}
@@ -106,7 +106,7 @@ lines-flatten (b ∷ bs) = go (lines-flatten bs) (ℕ-discrete b lineFeed)
     go h (no e) = ap flatten (eq-else b lineFeed _ _ e) ∙ into-flatten b (linesOf bs) ∙ ap (λ (r : List ℕ). b ∷ r) h
 
 -- Bytes with no line feed before a line make a line with it.
-pub line-behind : (bs : List ℕ) {l : List ℕ} → Each Plain bs → OneLine l → OneLine (bs ++ l)
+line-behind : (bs : List ℕ) {l : List ℕ} → Each Plain bs → OneLine l → OneLine (bs ++ l)
 line-behind [] p o = o
 line-behind (b ∷ bs) p o = longer (p .0) (line-behind bs (p .1) o)
 

@@ -35,7 +35,7 @@ read-answer f xs out e v h = rw (e, v) (with-room _ _ _ h)
 pub rows-spell : (xs : List ℕ) → verdict xs ≡ Accepted → SpellsFile (fileText (rowsOf xs)) xs
 rows-spell xs v = let s : Show xs = accepted-show xs v in rows-file xs (s .whole) (s .values) (s .rows .1)
 
-pub rows-read : (xs : List ℕ) → verdict xs ≡ Accepted → readFile (fileText (rowsOf xs)) ≡ Numbers xs
+rows-read : (xs : List ℕ) → verdict xs ≡ Accepted → readFile (fileText (rowsOf xs)) ≡ Numbers xs
 rows-read xs v = file-reads (fileText (rowsOf xs)) xs .1 (rows-spell xs v)
 
 -- Reading back what was written for accepted rows gives the rows.

@@ -38,8 +38,3 @@ pub data OneLine : List ℕ → Type 0 where
 pub data Rowed : List ℕ → Type 0 where
   none : Rowed []
   row : (vs xs : List ℕ) → length vs ≡ rowSize → Rowed xs → Rowed (vs ++ xs)
-
--- Every list of some lists has eleven numbers.
-abbrev pub Elevens : List (List ℕ) → Type 0
-Elevens [] = Unit {0}
-Elevens (vs ∷ vss) = (length vs ≡ rowSize) × Elevens vss

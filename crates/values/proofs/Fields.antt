@@ -1,6 +1,6 @@
--- A value at a place of the file, digit by digit.
+-- A value at a place of a text, digit by digit.
 use Prim.Native.Nat.{ℕ, zero, suc, _+_, _*_, _-_, _≤_, _<_}
-use mathlib.Core.Path.{_≡_, refl, sym, _∙_, ap}
+use mathlib.Core.Path.{_≡_, sym, _∙_}
 use mathlib.Core.Bool.{Bool, true, false}
 use mathlib.Core.List.{List, [], _∷_}
 use native.Mathlib.Omega.{arith}
@@ -48,7 +48,7 @@ module _ (f : List ℕ) (i d : ℕ) (e : d ≡ figureAt f i) where
       ten : 10 ≡ d → ⊥
       ten z = omega arith
 
-  pub run-on : d < 10 → run (drop i f) ≡ d ∷ run (drop (i + 1) f)
+  run-on : d < 10 → run (drop i f) ≡ d ∷ run (drop (i + 1) f)
   unfolding run
   run-on h =
       let (k, g) = found h in
@@ -57,7 +57,7 @@ module _ (f : List ℕ) (i d : ℕ) (e : d ≡ figureAt f i) where
       let m : getD f i 0 - digitZero ≡ d = omega arith in
       rw (add-one, drop-cons f i 0 k, run, t, m)
 
-  pub run-off : 10 ≤ d → run (drop i f) ≡ []
+  run-off : 10 ≤ d → run (drop i f) ≡ []
   unfolding run figureAt
   run-off h = go (decLt i (length f))
     where

@@ -9,7 +9,7 @@ use Rattle.values.specs.declared.Field.the-variants.{Value, Bad}
 
 -- A digit as a number, and 10 for any other byte and past the end.
 unfoldable pub figure : ℕ → ℕ
-figure b = ifLt b digitZero 10 (ifLt 57 b 10 (b - digitZero))
+figure b = ifLt b digitZero 10 (ifLt (digitZero + 9) b 10 (b - digitZero))
 
 unfoldable pub figureAt : List ℕ → ℕ → ℕ
 figureAt f i = ifLt i (length f) (figure (getD f i 0)) 10

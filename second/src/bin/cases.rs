@@ -5,7 +5,7 @@ use std::fmt::Write;
 use std::ops::RangeInclusive;
 
 use second::gen::prng::Prng;
-use second::gen::{damage, random};
+use second::gen::{damage, padding, random};
 use second::limits::{Refusal, COLUMNS, GIVEN, PATH, WORK};
 use second::naive::ask::Show;
 use second::naive::file::print;
@@ -92,9 +92,13 @@ impl Data {
         self.content = content;
     }
 
-    /// A show with all questions. The last case has the name.
-    fn show(&mut self, name: &str, rows: &[u32]) {
-        let file = print(rows.as_chunks().0);
+    /// A show with all questions. The last case has the name. One file in four is padded.
+    fn show(&mut self, name: &str, rows: &[u32], zeros: &mut Prng) {
+        let unpadded = print(rows.as_chunks().0);
+        let file = match zeros.one_in(4) {
+            true => padding::by_chance(zeros, &unpadded),
+            false => unpadded.clone(),
+        };
         let shown = std::str::from_utf8(&file).expect("a file is digits and commas");
         write!(self.text, "=\n{shown}").expect("a string");
         let show = Show::of_rows(rows);
@@ -104,7 +108,7 @@ impl Data {
         for question in questions(show.as_ref().ok()) {
             self.case("", &question, answer(&question));
         }
-        for room in [file.len() - 1, file.len() + 1] {
+        for room in [unpadded.len() - 1, unpadded.len() + 1] {
             let question = Question::Write { room };
             self.case("", &question, answer(&question));
         }
@@ -139,12 +143,12 @@ fn damaged(prng: &mut Prng) -> Vec<u32> {
 
 fn main() {
     let mut data = Data::default();
-    let prng = &mut Prng::new(SEED, 0);
+    let (prng, zeros) = (&mut Prng::new(SEED, 0), &mut Prng::new(SEED, 1));
     for case in 1..=WHOLE {
-        data.show(&format!("random show {case}"), &small(prng));
+        data.show(&format!("random show {case}"), &small(prng), zeros);
     }
     for case in 1..=DAMAGED {
-        data.show(&format!("changed rows {case}"), &damaged(prng));
+        data.show(&format!("changed rows {case}"), &damaged(prng), zeros);
     }
     print!("{}", data.text);
 }

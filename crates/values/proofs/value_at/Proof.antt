@@ -12,12 +12,12 @@ use Rattle.values.proofs.value_at.Statement.{statement}
 use Rattle.values.proofs.value_at.Tie as tie
 
 abbrev Inv-loop : tie.InvT-loop
-Inv-loop file at end v₀ n₀ d₀ v n d =
-    (at + n ≤ length file) × (n ≤ maxDigits) × (v < tens n) × (d ≡ figureAt file (at + n))
-    × (valueAt file end at ≡ valueRest file end at n v (run (drop (at + n) file)))
+Inv-loop text at end v₀ n₀ d₀ v n d =
+    (at + n ≤ length text) × (n ≤ maxDigits) × (v < tens n) × (d ≡ figureAt text (at + n))
+    × (valueAt text end at ≡ valueRest text end at n v (run (drop (at + n) text)))
 
 abbrev μ-loop : tie.MeasureT-loop
-μ-loop file at end v₀ n₀ d₀ v n d = length file - (at + n)
+μ-loop text at end v₀ n₀ d₀ v n d = length text - (at + n)
 
 returns : tie.Need-returns Inv-loop μ-loop
 returns c = search (value-none, needs)
