@@ -1,8 +1,9 @@
 //! The second tool of the show library: a naive unfolder to compare with, a plain
-//! implementation to race against, and the library itself behind a safe wrapper.
+//! implementation to race against, and what compares the library with them.
 
 pub mod compare;
 pub mod gen;
+pub mod library;
 pub mod limits;
 pub mod naive;
 pub mod picture;
@@ -10,8 +11,3 @@ pub mod plain;
 pub mod question;
 pub mod race;
 pub mod subject;
-
-#[cfg(linked)]
-pub mod library;
-#[cfg(any(linked, feature = "plain"))]
-pub mod show;

@@ -1,5 +1,5 @@
 //! What is tested and timed: the library or the plain implementation, by one set of
-//! functions. A question that is switched off is missing.
+//! functions.
 
 use crate::question::{Input, Question};
 
@@ -17,32 +17,15 @@ pub struct Subject {
     pub read: Read,
     pub write: Write,
     pub count: Count,
-    pub locate: Option<Locate>,
-    pub number: Option<Number>,
-    pub list_out: Option<Pair>,
-    pub list_in: Option<Pair>,
-    pub fewest: Option<Pair>,
+    pub locate: Locate,
+    pub number: Number,
+    pub list_out: Pair,
+    pub list_in: Pair,
+    pub fewest: Pair,
 }
 
 impl Subject {
-    /// The three functions that are always there.
-    pub fn of(read: Read, write: Write, count: Count) -> Subject {
-        let (list_out, list_in, fewest) = (None, None, None);
-        Subject { read, write, count, locate: None, number: None, list_out, list_in, fewest }
-    }
-
-    /// Whether the question is switched on.
-    pub fn answers(&self, question: &Question) -> bool {
-        match question {
-            Question::Read { .. } | Question::Write { .. } | Question::Count => true,
-            Question::Locate { .. } => self.locate.is_some(),
-            Question::Number { .. } => self.number.is_some(),
-            Question::List { outward, .. } => self.list(*outward).is_some(),
-            Question::Fewest { .. } => self.fewest.is_some(),
-        }
-    }
-
-    fn list(&self, outward: bool) -> Option<Pair> {
+    fn list(&self, outward: bool) -> Pair {
         if outward {
             self.list_out
         } else {
@@ -50,7 +33,7 @@ impl Subject {
         }
     }
 
-    /// Asks; nothing if the question is switched off or not one for this input.
+    /// Asks; nothing if the question is not one for this input.
     pub fn ask(&self, input: &Input, question: &Question, lent: &mut Lent) -> Option<u64> {
         let Lent { numbers, bytes, given } = lent;
         Some(match (input, question) {
@@ -59,12 +42,12 @@ impl Subject {
                 Question::Read { .. } => return None,
                 Question::Write { .. } => (self.write)(rows, bytes, given),
                 Question::Count => (self.count)(rows, given),
-                Question::Locate { n, .. } => (self.locate?)(rows, *n, numbers, given),
-                Question::Number { path, own } => (self.number?)(rows, path, *own, given),
+                Question::Locate { n, .. } => (self.locate)(rows, *n, numbers, given),
+                Question::Number { path, own } => (self.number)(rows, path, *own, given),
                 Question::List { outward, v, n, .. } => {
-                    (self.list(*outward)?)(rows, *v, *n, numbers, given)
+                    (self.list(*outward))(rows, *v, *n, numbers, given)
                 }
-                Question::Fewest { s, t, .. } => (self.fewest?)(rows, *s, *t, numbers, given),
+                Question::Fewest { s, t, .. } => (self.fewest)(rows, *s, *t, numbers, given),
             },
             _ => return None,
         })
@@ -80,26 +63,6 @@ pub struct Lent<'a> {
 
 /// The plain implementation.
 pub fn plain() -> Subject {
-    use crate::plain;
-    let lists = cfg!(feature = "lists");
-    Subject {
-        locate: cfg!(feature = "locate").then_some(plain::locate),
-        number: cfg!(feature = "number").then_some(plain::number),
-        list_out: lists.then_some(plain::list_out),
-        list_in: lists.then_some(plain::list_in),
-        fewest: cfg!(feature = "fewest").then_some(plain::fewest),
-        ..Subject::of(plain::read, plain::write, plain::count)
-    }
-}
-
-/// The library, if it is linked.
-#[cfg(not(linked))]
-pub fn library() -> Option<Subject> {
-    None
-}
-
-/// The library, if it is linked.
-#[cfg(linked)]
-pub fn library() -> Option<Subject> {
-    Some(crate::library::subject())
+    use crate::plain::{count, fewest, list_in, list_out, locate, number, read, write};
+    Subject { read, write, count, locate, number, list_out, list_in, fewest }
 }

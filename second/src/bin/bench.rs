@@ -1,14 +1,15 @@
-//! Times every question that is switched on: the library and the plain implementation in
+//! Times every question: the library and the plain implementation in
 //! one run. Each line: question, input, library ns, plain ns, ratio.
 
 use std::hint::black_box;
 
 use second::gen::known;
+use second::library;
 use second::limits::{ROWS, WORK};
 use second::question::{Input, Question};
 use second::race::breadth;
 use second::race::inputs::{entries, Entry};
-use second::race::timing::{race, Runner};
+use second::race::timing::race;
 use second::subject::{self, Lent, Subject};
 
 /// Memory for every question's answer.
@@ -43,41 +44,29 @@ struct Worst {
     line: String,
 }
 
-fn print_line(question: &str, input: &str, library: Option<f64>, plain: f64) -> Option<f64> {
-    let Some(library) = library else {
-        println!("{question:<10} {input:<38} {:>12} {plain:>12.0} {:>7}", "-", "-");
-        return None;
-    };
+fn print_line(question: &str, input: &str, library: f64, plain: f64) -> f64 {
     let ratio = library / plain;
     println!("{question:<10} {input:<38} {library:>12.0} {plain:>12.0} {ratio:>7.2}");
-    Some(ratio)
+    ratio
 }
 
-/// Times one entry with both implementations, or with the plain one alone.
-fn time(entry: &Entry, library: Option<&Subject>, worst: &mut Worst) {
+/// Times one entry with both implementations.
+fn time(entry: &Entry, library: &Subject, worst: &mut Worst) {
     let plain = subject::plain();
-    if !plain.answers(&entry.asked[0]) {
-        return;
-    }
     let mut memory = [Memory::new(), Memory::new()];
     let [one, other] = &mut memory;
     let turn = |time: usize| &entry.asked[time % entry.asked.len()];
     let mut run_plain = |time: usize| one.ask(&plain, &entry.lent, turn(time));
-    let mut runners: Vec<Runner> = vec![&mut run_plain];
-    let mut run_library =
-        library.map(|library| move |time: usize| other.ask(library, &entry.lent, turn(time)));
-    if let Some(run) = &mut run_library {
-        runners.push(run);
-    }
-    let times = race(&mut runners);
-    let ratio = print_line(entry.question, &entry.input, times.get(1).copied(), times[0]);
-    if let Some(ratio) = ratio.filter(|ratio| *ratio > worst.ratio) {
+    let mut run_library = |time: usize| other.ask(library, &entry.lent, turn(time));
+    let times = race(&mut [&mut run_plain, &mut run_library]);
+    let ratio = print_line(entry.question, &entry.input, times[1], times[0]);
+    if ratio > worst.ratio {
         *worst = Worst { ratio, line: format!("{} {}", entry.question, entry.input) };
     }
 }
 
 /// The nanoseconds of unfolding a long ring and searching breadth first, and of the library.
-fn unfolded_and_folded(blocks: u32, library: Option<&Subject>) -> (f64, Option<f64>) {
+fn unfolded_and_folded(blocks: u32, library: &Subject) -> (f64, f64) {
     let rows = known::long_ring(blocks);
     let input = Input::Rows(rows.clone());
     let question = Question::Fewest { s: 1, t: 2, room: WORK };
@@ -87,13 +76,12 @@ fn unfolded_and_folded(blocks: u32, library: Option<&Subject>) -> (f64, Option<f
         assert_eq!(steps, Some(1 << blocks));
     };
     let unfolded = race(&mut [&mut search])[0];
-    let folded =
-        library.map(|library| race(&mut [&mut |_| memory.ask(library, &input, &question)])[0]);
+    let folded = race(&mut [&mut |_| memory.ask(library, &input, &question)])[0];
     (unfolded, folded)
 }
 
 /// Unfolding and searching breadth first, in place of the plain implementation.
-fn time_unfolding(library: Option<&Subject>) {
+fn time_unfolding(library: &Subject) {
     for blocks in [10, 17, 23] {
         let (unfolded, folded) = unfolded_and_folded(blocks, library);
         let name = format!("unfolded long ring, {} cues", (1 << blocks) + 1);
@@ -101,7 +89,7 @@ fn time_unfolding(library: Option<&Subject>) {
     }
     let wins = (1..10).find(|blocks| {
         let (unfolded, folded) = unfolded_and_folded(*blocks, library);
-        folded.is_some_and(|folded| folded < unfolded)
+        folded < unfolded
     });
     if let Some(blocks) = wins {
         println!("the library beats unfolding from a long ring of {} cues on", (1 << blocks) + 1);
@@ -109,17 +97,12 @@ fn time_unfolding(library: Option<&Subject>) {
 }
 
 fn main() {
-    let library = subject::library();
+    let library = library::subject();
     let mut worst = Worst::default();
     println!("{:<10} {:<38} {:>12} {:>12} {:>7}", "question", "input", "library", "plain", "ratio");
     for entry in entries() {
-        time(&entry, library.as_ref(), &mut worst);
+        time(&entry, &library, &mut worst);
     }
-    if subject::plain().fewest.is_some() {
-        time_unfolding(library.as_ref());
-    }
-    match library {
-        Some(_) => println!("worst ratio {:.2}: {}", worst.ratio, worst.line),
-        None => println!("worst ratio none: the library is not linked"),
-    }
+    time_unfolding(&library);
+    println!("worst ratio {:.2}: {}", worst.ratio, worst.line);
 }

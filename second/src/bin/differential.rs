@@ -6,6 +6,7 @@ use std::process::ExitCode;
 
 use second::compare::checker::{Census, Checker, Failure};
 use second::compare::{big, padded, random, report};
+use second::library;
 use second::subject::{self, Subject};
 
 struct Words {
@@ -17,8 +18,7 @@ struct Words {
 
 impl Words {
     fn parse() -> Result<Words, String> {
-        let library = if cfg!(feature = "plain") { "plain" } else { "library" };
-        let mut words = Words { seed: 1, count: 20_000, case: None, against: library.into() };
+        let mut words = Words { seed: 1, count: 20_000, case: None, against: "library".into() };
         let mut rest = std::env::args().skip(1);
         while let Some(word) = rest.next() {
             let value = rest.next().ok_or(format!("{word} lacks its value"))?;
@@ -37,7 +37,7 @@ impl Words {
     fn subject(&self) -> Result<Subject, String> {
         match self.against.as_str() {
             "plain" => Ok(subject::plain()),
-            "library" => subject::library().ok_or("the library is not linked".into()),
+            "library" => Ok(library::subject()),
             other => Err(format!("unknown implementation {other}")),
         }
     }

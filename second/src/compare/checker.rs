@@ -67,9 +67,6 @@ impl<'a, 'b> Subjected<'a, 'b> {
 
     /// Asks with this length of `given`.
     pub fn ask_given(&mut self, question: Question, given: usize) {
-        if !self.checker.subject.answers(&question) {
-            return;
-        }
         let result = match &self.known {
             Ok(show) => show.answer(&question, given),
             Err(refusal) => Err(*refusal),

@@ -50,7 +50,7 @@ impl Outcome {
         outcome
     }
 
-    /// What a call does leave; nothing if the question is switched off.
+    /// What a call does leave; nothing if the question is not one for this input.
     pub fn actual(subject: &Subject, input: &Input, call: &Call) -> Option<Outcome> {
         let mut outcome = Outcome::before(call);
         let mut lent = Lent {

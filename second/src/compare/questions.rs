@@ -77,9 +77,6 @@ impl Subjected<'_, '_> {
 
     /// The path of every cue, and paths that lead nowhere.
     fn ask_paths(&mut self, prng: &mut Prng) {
-        if self.checker.subject.number.is_none() {
-            return;
-        }
         let Ok(show) = &self.known else { return };
         let mut asked: Vec<(Vec<u32>, u32)> = Vec::new();
         for _ in 0..SAMPLE.max(2 * SMALL) {
@@ -96,9 +93,6 @@ impl Subjected<'_, '_> {
 
     /// Both lists of every cue, after every number, on pages of several lengths.
     fn ask_lists(&mut self, prng: &mut Prng, count: u32) {
-        if self.checker.subject.list_out.is_none() {
-            return;
-        }
         let small = count <= SMALL;
         let numbers = self.numbers(prng, count);
         for v in numbers.iter().copied() {
@@ -120,9 +114,6 @@ impl Subjected<'_, '_> {
 
     /// Every pair of a small show, or some pairs.
     fn ask_fewest(&mut self, prng: &mut Prng, count: u32) {
-        if self.checker.subject.fewest.is_none() {
-            return;
-        }
         let mut pairs: Vec<(u32, u32)> = vec![(0, 1), (1, 0), (count + 1, 1), (1, count + 1)];
         if count <= SMALL {
             pairs.extend((1..=count).flat_map(|s| (1..=count).map(move |t| (s, t))));

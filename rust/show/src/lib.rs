@@ -1,0 +1,269 @@
+//! Show files of theatre lighting consoles: read, checked, written and asked, every answer proved.
+//!
+//! A show is stored folded, as at most 1,024 rows of eleven numbers, and can stand for 2,147,483,647
+//! cues. Its rows lie in memory that the caller lends; nothing is allocated. Every question checks
+//! the rows first, so any numbers may be asked about: what is no show is [`Refused`], and a refusal
+//! changes nothing that was lent. `docs/FORMAT.md` of the library explains the format and each
+//! refusal.
+//!
+//! ```
+//! use show::{Rows, ROWS_LEN, WORK_LEN};
+//!
+//! let file = b"block,kind,label,a,b,c,d,e,f,g,h\n\
+//!     0,0,0,3,0,0,0,0,0,0,0\n\
+//!     0,1,1,1,2,0,0,0,0,0,0\n\
+//!     0,1,1,2,3,0,0,0,0,0,0\n";
+//! let mut room = [0; ROWS_LEN];
+//! let rows = Rows::read(file, &mut room)?.rows;
+//! assert_eq!(rows.count()?, 3);
+//! assert_eq!(rows.linked_out(1)?.collect::<Vec<_>>(), [2]);
+//! assert_eq!(rows.fewest(1, 3, &mut [0; WORK_LEN])?, Some(2));
+//! assert_eq!(rows.fewest(3, 1, &mut [0; WORK_LEN])?, None);
+//! # Ok::<(), show::Refused>(())
+//! ```
+//!
+//! Every call may be made from any number of threads at once: the library has no state.
+#![no_std]
+#![warn(missing_docs)]
+
+mod linked;
+mod refused;
+
+pub use linked::Linked;
+pub use refused::{Place, Refused};
+pub use show_sys::{
+    MAX_CUES, MAX_FILE, MAX_JOINS, MAX_ROWS, NO_CHAIN, PATH_LEN, ROWS_LEN, ROW_LEN, WORK_LEN,
+};
+
+/// The version of this crate, which is that of the library's header too.
+pub const VERSION: &str = env!("CARGO_PKG_VERSION");
+
+/// The rows of a show, eleven numbers each, in memory that the caller lends.
+///
+/// Nothing is assumed of the numbers: each question checks them, in some eight nanoseconds a row.
+#[derive(Clone, Copy, Debug, PartialEq, Eq)]
+pub struct Rows<'a> {
+    numbers: &'a [u32],
+}
+
+/// What was read from a file.
+#[derive(Clone, Copy, Debug, PartialEq, Eq)]
+pub struct Read<'a> {
+    /// The rows, at the beginning of the lent room.
+    pub rows: Rows<'a>,
+    /// How many blocks the show has.
+    pub blocks: u32,
+    /// How many cues the show stands for.
+    pub cues: u32,
+}
+
+/// Where a cue is.
+#[derive(Clone, Copy, Debug, PartialEq, Eq)]
+pub struct Located<'p> {
+    /// The uses that lead to its copy, each by its position in its block, from 1. Its length is
+    /// the depth.
+    pub path: &'p [u32],
+    /// The block of which this is a copy.
+    pub block: u32,
+    /// Which of that block's own cues it is, from 1.
+    pub own: u32,
+}
+
+/// A page of a list of cues.
+#[derive(Clone, Copy, Debug, PartialEq, Eq)]
+pub struct Page<'p> {
+    /// The cues of this page, rising.
+    pub cues: &'p [u32],
+    /// Whether there are more behind them. A page with no room says so of the whole list.
+    pub more: bool,
+}
+
+impl<'a> Rows<'a> {
+    /// Numbers as rows, whatever they are.
+    ///
+    /// ```
+    /// use show::{Place, Refused, Rows};
+    ///
+    /// assert_eq!(Rows::new(&[]).count(), Err(Refused::BadRowCount));
+    /// // A block of no cues: the last block needs one.
+    /// assert_eq!(Rows::new(&[0; 11]).count(), Err(Refused::BadBlock(Place::Row(1))));
+    /// ```
+    pub const fn new(numbers: &'a [u32]) -> Rows<'a> {
+        Rows { numbers }
+    }
+
+    /// Reads a file to the beginning of `room`; [`ROWS_LEN`] numbers are enough for every file.
+    /// Refusals are placed at lines of the file.
+    ///
+    /// ```
+    /// use show::{Place, Refused, Rows, ROWS_LEN};
+    ///
+    /// let names = "block,kind,label,a,b,c,d,e,f,g,h\n";
+    /// let mut room = [0; ROWS_LEN];
+    /// let file = format!("{names}0,0,0,00002,0,0,0,0,0,0,0\n0,1,256,1,2,0,0,0,0,0,0\n");
+    /// let refused = Rows::read(file.as_bytes(), &mut room).unwrap_err();
+    /// assert_eq!(refused, Refused::OutOfRange(Place::Line(3)));
+    /// assert_eq!(refused.to_string(), "line 3: a value is out of its range, or an idle column is not 0");
+    /// assert!(room.iter().all(|number| *number == 0));
+    /// ```
+    pub fn read(file: &[u8], room: &'a mut [u32]) -> Result<Read<'a>, Refused> {
+        let (len, to) = (room.len(), room.as_mut_ptr());
+        // SAFETY: each pointer goes with the length of its own slice, and a slice that is written
+        // overlaps no other. So it is in every call below.
+        let call = |given, given_len| unsafe {
+            show_sys::show_read(file.as_ptr(), file.len(), to, len, given, given_len)
+        };
+        let [many, blocks, cues] = ask(call, Place::Line)?;
+        Ok(Read { rows: Rows::new(&room[..many as usize * ROW_LEN]), blocks, cues })
+    }
+
+    /// The numbers.
+    pub const fn numbers(&self) -> &'a [u32] {
+        self.numbers
+    }
+
+    /// Writes a file to the beginning of `out` and gives it; [`MAX_FILE`] bytes are enough for
+    /// all rows. Values are written without leading zeros: what was read from a file without any
+    /// comes back byte for byte.
+    ///
+    /// ```
+    /// use show::{Rows, MAX_FILE};
+    ///
+    /// let mut out = [0; MAX_FILE];
+    /// let file = Rows::new(&[0, 0, 0, 2, 0, 0, 0, 0, 0, 0, 0]).write(&mut out)?;
+    /// assert_eq!(file, b"block,kind,label,a,b,c,d,e,f,g,h\n0,0,0,2,0,0,0,0,0,0,0\n");
+    /// # Ok::<(), show::Refused>(())
+    /// ```
+    pub fn write<'o>(&self, out: &'o mut [u8]) -> Result<&'o mut [u8], Refused> {
+        let (rows, rows_len) = self.lent();
+        let (len, to) = (out.len(), out.as_mut_ptr());
+        let call = |given, given_len| unsafe {
+            show_sys::show_write(rows, rows_len, to, len, given, given_len)
+        };
+        let [bytes, ..] = ask(call, Place::Row)?;
+        Ok(&mut out[..bytes as usize])
+    }
+
+    /// How many cues the show has.
+    pub fn count(&self) -> Result<u32, Refused> {
+        let (rows, rows_len) = self.lent();
+        let call =
+            |given, given_len| unsafe { show_sys::show_count(rows, rows_len, given, given_len) };
+        let [cues, ..] = ask(call, Place::Row)?;
+        Ok(cues)
+    }
+
+    /// Where cue `n` is. Its path goes to the beginning of `path`, which has at least
+    /// [`PATH_LEN`] places.
+    ///
+    /// ```
+    /// use show::{Rows, PATH_LEN};
+    ///
+    /// // Block 0: one join and one own cue. Block 1 has one own cue and uses block 0 twice.
+    /// let numbers = [
+    ///     [0, 0, 1, 1, 0, 0, 0, 0, 0, 0, 0],
+    ///     [1, 0, 0, 1, 0, 0, 0, 0, 0, 0, 0],
+    ///     [1, 2, 0, 1, 0, 0, 0, 0, 0, 0, 0],
+    ///     [1, 2, 0, 1, 0, 0, 0, 0, 0, 0, 0],
+    /// ];
+    /// let rows = Rows::new(numbers.as_flattened());
+    /// let mut path = [0; PATH_LEN];
+    /// let cue = rows.locate(3, &mut path)?;
+    /// assert_eq!((cue.path, cue.block, cue.own), (&[2][..], 0, 1));
+    /// assert_eq!(rows.number(cue.path, cue.own)?, 3);
+    /// # Ok::<(), show::Refused>(())
+    /// ```
+    pub fn locate<'p>(&self, n: u32, path: &'p mut [u32]) -> Result<Located<'p>, Refused> {
+        let (rows, rows_len) = self.lent();
+        let (len, to) = (path.len(), path.as_mut_ptr());
+        let call = |given, given_len| unsafe {
+            show_sys::show_locate(rows, rows_len, n, to, len, given, given_len)
+        };
+        let [depth, block, own] = ask(call, Place::Row)?;
+        Ok(Located { path: &path[..depth as usize], block, own })
+    }
+
+    /// The number of own cue `own` in the copy to which `path` leads.
+    pub fn number(&self, path: &[u32], own: u32) -> Result<u32, Refused> {
+        let (rows, rows_len) = self.lent();
+        let (from, len) = (path.as_ptr(), path.len());
+        let call = |given, given_len| unsafe {
+            show_sys::show_number(rows, rows_len, from, len, own, given, given_len)
+        };
+        let [n, ..] = ask(call, Place::Row)?;
+        Ok(n)
+    }
+
+    /// The cues that follow on from cue `v` by one link, rising, each once.
+    ///
+    /// The iterator asks for a page at a time, so a list of millions needs no memory. A refusal is
+    /// said here; the pages behind the first are asked of the same rows and cannot be refused.
+    pub fn linked_out(&self, v: u32) -> Result<Linked<'a>, Refused> {
+        Linked::new(*self, v, show_sys::show_list_out)
+    }
+
+    /// The cues from which cue `v` follows on by one link, in the same way.
+    pub fn linked_in(&self, v: u32) -> Result<Linked<'a>, Refused> {
+        Linked::new(*self, v, show_sys::show_list_in)
+    }
+
+    /// One page of [`linked_out`](Rows::linked_out): the cues above `n`, as many as `page` has room for.
+    pub fn list_out<'p>(&self, v: u32, n: u32, page: &'p mut [u32]) -> Result<Page<'p>, Refused> {
+        self.list(show_sys::show_list_out, v, n, page)
+    }
+
+    /// One page of [`linked_in`](Rows::linked_in), in the same way.
+    pub fn list_in<'p>(&self, v: u32, n: u32, page: &'p mut [u32]) -> Result<Page<'p>, Refused> {
+        self.list(show_sys::show_list_in, v, n, page)
+    }
+
+    /// The fewest follow-ons from cue `s` to cue `t`, or nothing where no chain of links leads
+    /// from the one to the other. `work` has at least [`WORK_LEN`] places, whatever stands in them.
+    ///
+    /// Afterwards they hold the fewest from each join to each join inside each block: those from
+    /// join i to join j of block k at `64 * k + 8 * (i - 1) + (j - 1)`, [`NO_CHAIN`] for none.
+    pub fn fewest(&self, s: u32, t: u32, work: &mut [u32]) -> Result<Option<u32>, Refused> {
+        let (rows, rows_len) = self.lent();
+        let (len, to) = (work.len(), work.as_mut_ptr());
+        let call = |given, given_len| unsafe {
+            show_sys::show_fewest(rows, rows_len, s, t, to, len, given, given_len)
+        };
+        let [found, steps, _] = ask(call, Place::Row)?;
+        Ok((found == 1).then_some(steps))
+    }
+
+    fn list<'p>(
+        &self,
+        function: ListFunction,
+        v: u32,
+        n: u32,
+        page: &'p mut [u32],
+    ) -> Result<Page<'p>, Refused> {
+        let (rows, rows_len) = self.lent();
+        let (len, to) = (page.len(), page.as_mut_ptr());
+        let call =
+            |given, given_len| unsafe { function(rows, rows_len, v, n, to, len, given, given_len) };
+        let [written, more, _] = ask(call, Place::Row)?;
+        Ok(Page { cues: &page[..written as usize], more: more == 1 })
+    }
+
+    /// The rows as the C functions take them.
+    const fn lent(&self) -> (*const u32, usize) {
+        (self.numbers.as_ptr(), self.numbers.len())
+    }
+}
+
+type ListFunction =
+    unsafe extern "C" fn(*const u32, usize, u32, u32, *mut u32, usize, *mut u32, usize) -> u64;
+
+/// Runs a call that fills `given`; a refusal of rows is placed by `at`.
+fn ask(
+    call: impl FnOnce(*mut u32, usize) -> u64,
+    at: fn(u32) -> Place,
+) -> Result<[u32; show_sys::GIVEN_LEN], Refused> {
+    let mut given = [0; show_sys::GIVEN_LEN];
+    match call(given.as_mut_ptr(), given.len()) {
+        0 => Ok(given),
+        returned => Err(Refused::of(returned, at)),
+    }
+}
