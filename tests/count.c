@@ -3,14 +3,14 @@
 #include <stdio.h>
 
 static uint8_t file[SHOW_MAX_FILE + 1];
-static uint32_t rows[SHOW_ROW * SHOW_MAX_ROWS];
+static uint32_t rows[SHOW_ROWS_LEN];
 
 int main(void) {
-    uint32_t given[SHOW_GIVEN];
+    uint32_t given[SHOW_GIVEN_LEN];
     size_t length = fread(file, 1, sizeof file, stdin);
-    uint64_t returned = show_read(file, length, rows, sizeof rows / sizeof rows[0], given, SHOW_GIVEN);
+    uint64_t returned = show_read(file, length, rows, sizeof rows / sizeof rows[0], given, SHOW_GIVEN_LEN);
     if (returned == 0)
-        returned = show_count(rows, (size_t)given[0] * SHOW_ROW, given, SHOW_GIVEN);
+        returned = show_count(rows, (size_t)given[0] * SHOW_ROW_LEN, given, SHOW_GIVEN_LEN);
     if (returned != 0) {
         printf("refusal,place\n%u,%u\n", show_refusal(returned), show_place(returned));
         return 1;

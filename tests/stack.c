@@ -1,5 +1,5 @@
 /* Asks every question of the shows that are named as arguments, each on a stack of its own, and tells how much of it was used. Ends with
- * a line 'N passed, M failed': a question passes if it is answered within 256 KB. */
+ * a line 'N passed, M failed': a question passes if it is answered within SHOW_STACK_LEN bytes. */
 #define _DEFAULT_SOURCE
 #include "show.h"
 
@@ -8,10 +8,10 @@
 #include <sys/mman.h>
 #include <ucontext.h>
 
-enum { STACK = 256 * 1024, ROOM = STACK + 64 * 1024, PATTERN = 0xA5, QUESTIONS = 8 };
+enum { ROOM = SHOW_STACK_LEN + 64 * 1024, PATTERN = 0xA5, QUESTIONS = 8 };
 
 static uint8_t file[SHOW_MAX_FILE + 1], text[SHOW_MAX_FILE];
-static uint32_t rows[SHOW_ROW * SHOW_MAX_ROWS], work[SHOW_WORK], page[4096], path[SHOW_PATH], given[SHOW_GIVEN];
+static uint32_t rows[SHOW_ROWS_LEN], work[SHOW_WORK_LEN], page[4096], path[SHOW_PATH_LEN], given[SHOW_GIVEN_LEN];
 static size_t bytes, numbers, depth;
 static uint32_t cues, own;
 static int question;
@@ -22,14 +22,14 @@ static const char *const names[QUESTIONS] = {"read", "write", "count", "locate",
 
 static void ask(void) {
     switch (question) {
-    case 0: returned = show_read(file, bytes, rows, SHOW_ROW * SHOW_MAX_ROWS, given, SHOW_GIVEN); break;
-    case 1: returned = show_write(rows, numbers, text, SHOW_MAX_FILE, given, SHOW_GIVEN); break;
-    case 2: returned = show_count(rows, numbers, given, SHOW_GIVEN); break;
-    case 3: returned = show_locate(rows, numbers, cues, path, SHOW_PATH, given, SHOW_GIVEN); break;
-    case 4: returned = show_number(rows, numbers, path, depth, own, given, SHOW_GIVEN); break;
-    case 5: returned = show_list_out(rows, numbers, 1, 0, page, 4096, given, SHOW_GIVEN); break;
-    case 6: returned = show_list_in(rows, numbers, 1, 0, page, 4096, given, SHOW_GIVEN); break;
-    case 7: returned = show_fewest(rows, numbers, 1, cues, work, SHOW_WORK, given, SHOW_GIVEN); break;
+    case 0: returned = show_read(file, bytes, rows, SHOW_ROWS_LEN, given, SHOW_GIVEN_LEN); break;
+    case 1: returned = show_write(rows, numbers, text, SHOW_MAX_FILE, given, SHOW_GIVEN_LEN); break;
+    case 2: returned = show_count(rows, numbers, given, SHOW_GIVEN_LEN); break;
+    case 3: returned = show_locate(rows, numbers, cues, path, SHOW_PATH_LEN, given, SHOW_GIVEN_LEN); break;
+    case 4: returned = show_number(rows, numbers, path, depth, own, given, SHOW_GIVEN_LEN); break;
+    case 5: returned = show_list_out(rows, numbers, 1, 0, page, 4096, given, SHOW_GIVEN_LEN); break;
+    case 6: returned = show_list_in(rows, numbers, 1, 0, page, 4096, given, SHOW_GIVEN_LEN); break;
+    case 7: returned = show_fewest(rows, numbers, 1, cues, work, SHOW_WORK_LEN, given, SHOW_GIVEN_LEN); break;
     }
 }
 
@@ -58,13 +58,13 @@ int main(int many, char **shows) {
         for (question = 0; question < QUESTIONS; question++) {
             size_t now = used(stack);
             if (now > most[question]) most[question] = now;
-            if (returned == 0 && now < STACK) {
+            if (returned == 0 && now <= SHOW_STACK_LEN) {
                 passed++;
             } else {
                 failed++;
                 printf("%s of %s: returned %llu, %zu bytes of stack\n", names[question], shows[show], (unsigned long long)returned, now);
             }
-            if (question == 0) numbers = given[0] * (size_t)SHOW_ROW, cues = given[2];
+            if (question == 0) numbers = given[0] * (size_t)SHOW_ROW_LEN, cues = given[2];
             if (question == 3) depth = given[0], own = given[2];
         }
     }

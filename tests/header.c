@@ -1,0 +1,108 @@
+/* What include/show.h says beside the answers: constants, texts, lists of length 0 at NULL, pages of length 0, what a refusal leaves.
+ * Ends with a line 'N passed, M failed'. */
+#include "show.h"
+
+#include <stdio.h>
+#include <string.h>
+
+static unsigned passed, failed;
+
+static void tell(int good, const char *what) {
+    if (good) {
+        passed++;
+    } else {
+        failed++;
+        printf("FAILED: %s\n", what);
+    }
+}
+
+/* Two own cues, one link from the first to the second. */
+static const uint32_t rows[2 * SHOW_ROW_LEN] = {0, 0, 0, 2, 0, 0, 0, 0, 0, 0, 0, 0, 1, 7, 1, 2, 0, 0, 0, 0, 0, 0};
+static const char text[] = "block,kind,label,a,b,c,d,e,f,g,h\n0,0,0,2,0,0,0,0,0,0,0\n0,1,7,1,2,0,0,0,0,0,0\n";
+enum { MANY = sizeof rows / sizeof rows[0], LENGTH = sizeof text - 1 };
+static uint32_t given[SHOW_GIVEN_LEN], numbers[SHOW_WORK_LEN];
+static uint8_t out[SHOW_MAX_FILE];
+
+static uint64_t code(uint32_t refusal, uint32_t place) { return (uint64_t)refusal << 32 | place; }
+
+/* The texts of all refusals are there, in one line each, and no two are the same. */
+static void texts(void) {
+    for (uint32_t one = 0; one <= SHOW_NO_SUCH_PATH + 1; one++) {
+        const char *said = show_refusal_text(one);
+        tell(strlen(said) > 7 && strchr(said, '\n') == NULL, "a refusal has a text of one line");
+        for (uint32_t other = 0; other < one; other++) tell(strcmp(said, show_refusal_text(other)) != 0, "texts differ");
+    }
+    tell(strcmp(show_refusal_text(SHOW_NO_SUCH_PATH + 1), show_refusal_text(UINT32_MAX)) == 0, "any number has a text");
+    tell(show_refusal(code(13, 4)) == 13 && show_place(code(13, 4)) == 4, "a refusal is taken apart");
+}
+
+static void versions(void) {
+    char parts[32];
+    snprintf(parts, sizeof parts, "%d.%d.%d", SHOW_VERSION_MAJOR, SHOW_VERSION_MINOR, SHOW_VERSION_PATCH);
+    tell(strcmp(parts, SHOW_VERSION) == 0, "the version is made of its parts");
+}
+
+/* Every list in turn has length 0 and is NULL. */
+static void nulls(void) {
+    tell(show_read(NULL, 0, numbers, SHOW_ROWS_LEN, given, SHOW_GIVEN_LEN) == code(SHOW_BAD_NAMES, 1), "read no file");
+    tell(show_read((const uint8_t *)text, LENGTH, NULL, 0, given, SHOW_GIVEN_LEN) == code(SHOW_TOO_SHORT, 0), "read to no rows");
+    tell(show_read((const uint8_t *)text, LENGTH, numbers, SHOW_ROWS_LEN, NULL, 0) == code(SHOW_TOO_SHORT, 0), "read, no given");
+    tell(show_read(NULL, 0, NULL, 0, NULL, 0) == code(SHOW_BAD_NAMES, 1), "read nothing");
+    tell(show_write(NULL, 0, out, SHOW_MAX_FILE, given, SHOW_GIVEN_LEN) == code(SHOW_BAD_ROW_COUNT, 0), "write no rows");
+    tell(show_write(rows, MANY, NULL, 0, given, SHOW_GIVEN_LEN) == code(SHOW_TOO_SHORT, 0), "write to nothing");
+    tell(show_write(rows, MANY, out, SHOW_MAX_FILE, NULL, 0) == code(SHOW_TOO_SHORT, 0), "write, no given");
+    tell(show_count(NULL, 0, given, SHOW_GIVEN_LEN) == code(SHOW_BAD_ROW_COUNT, 0), "count no rows");
+    tell(show_count(rows, MANY, NULL, 0) == code(SHOW_TOO_SHORT, 0), "count, no given");
+    tell(show_locate(NULL, 0, 1, numbers, SHOW_PATH_LEN, given, SHOW_GIVEN_LEN) == code(SHOW_BAD_ROW_COUNT, 0), "locate, no rows");
+    tell(show_locate(rows, MANY, 1, NULL, 0, given, SHOW_GIVEN_LEN) == code(SHOW_TOO_SHORT, 0), "locate, no path");
+    tell(show_locate(rows, MANY, 1, numbers, SHOW_PATH_LEN, NULL, 0) == code(SHOW_TOO_SHORT, 0), "locate, no given");
+    tell(show_number(NULL, 0, NULL, 0, 2, given, SHOW_GIVEN_LEN) == code(SHOW_BAD_ROW_COUNT, 0), "number, no rows");
+    tell(show_number(rows, MANY, NULL, 0, 2, given, SHOW_GIVEN_LEN) == 0 && given[0] == 2, "number of the empty path");
+    tell(show_number(rows, MANY, NULL, 0, 2, NULL, 0) == code(SHOW_TOO_SHORT, 0), "number, no given");
+    tell(show_fewest(NULL, 0, 1, 2, numbers, SHOW_WORK_LEN, given, SHOW_GIVEN_LEN) == code(SHOW_BAD_ROW_COUNT, 0), "fewest, no rows");
+    tell(show_fewest(rows, MANY, 1, 2, NULL, 0, given, SHOW_GIVEN_LEN) == code(SHOW_TOO_SHORT, 0), "fewest, no work area");
+    tell(show_fewest(rows, MANY, 1, 2, numbers, SHOW_WORK_LEN, NULL, 0) == code(SHOW_TOO_SHORT, 0), "fewest, no given");
+}
+
+typedef uint64_t list(const uint32_t *, size_t, uint32_t, uint32_t, uint32_t *, size_t, uint32_t *, size_t);
+
+/* A page of length 0 is answered: it says whether there is a cue above n. From cue v one link leads to or comes from `linked`. */
+static void pages(list *ask, uint32_t v, uint32_t linked) {
+    tell(ask(NULL, 0, v, 0, NULL, 0, given, SHOW_GIVEN_LEN) == code(SHOW_BAD_ROW_COUNT, 0), "a list of no rows");
+    tell(ask(rows, MANY, v, 0, NULL, 0, NULL, 0) == code(SHOW_TOO_SHORT, 0), "a list, no given");
+    tell(ask(rows, MANY, v, 0, NULL, 0, given, SHOW_GIVEN_LEN) == 0 && given[0] == 0 && given[1] == 1, "no page says more");
+    tell(ask(rows, MANY, v, linked, NULL, 0, given, SHOW_GIVEN_LEN) == 0 && given[0] == 0 && given[1] == 0, "no page says no more");
+    tell(ask(rows, MANY, linked, 0, NULL, 0, given, SHOW_GIVEN_LEN) == 0 && given[0] == 0 && given[1] == 0, "no cue, no more");
+    numbers[0] = 0, numbers[1] = 99;
+    tell(ask(rows, MANY, v, 0, numbers, 2, given, SHOW_GIVEN_LEN) == 0 && given[0] == 1 && given[1] == 0, "one cue and no more");
+    tell(numbers[0] == linked && numbers[1] == 99, "the page holds the cue, and no more than that changed");
+    tell(ask(rows, MANY, 3, 0, numbers, 2, given, SHOW_GIVEN_LEN) == code(SHOW_NO_SUCH_CUE, 0), "no such cue");
+    tell(numbers[0] == linked && given[0] == 1, "a refusal changes nothing");
+}
+
+/* What the constants say is enough is enough, and one less is too short. */
+static void sizes(void) {
+    tell(show_read((const uint8_t *)text, LENGTH, numbers, MANY, given, SHOW_GIVEN_LEN) == 0 && given[0] == 2, "read exactly");
+    tell(memcmp(numbers, rows, sizeof rows) == 0, "the rows that were read");
+    tell(show_read((const uint8_t *)text, LENGTH, numbers, MANY - 1, given, SHOW_GIVEN_LEN) == code(SHOW_TOO_SHORT, 0), "rows less 1");
+    tell(show_write(rows, MANY, out, LENGTH, given, SHOW_GIVEN_LEN) == 0 && given[0] == LENGTH, "written exactly");
+    tell(memcmp(out, text, LENGTH) == 0, "the file that was written");
+    tell(show_write(rows, MANY, out, LENGTH - 1, given, SHOW_GIVEN_LEN) == code(SHOW_TOO_SHORT, 0), "out less 1");
+    tell(show_locate(rows, MANY, 1, numbers, SHOW_PATH_LEN, given, SHOW_GIVEN_LEN) == 0, "a path list is enough");
+    tell(show_locate(rows, MANY, 1, numbers, SHOW_PATH_LEN - 1, given, SHOW_GIVEN_LEN) == code(SHOW_TOO_SHORT, 0), "path less 1");
+    tell(show_fewest(rows, MANY, 1, 2, numbers, SHOW_WORK_LEN, given, SHOW_GIVEN_LEN) == 0 && given[1] == 1, "a work area is enough");
+    tell(numbers[0] == SHOW_NO_CHAIN && numbers[SHOW_SUMMARY_LEN] == 0, "summaries of one block");
+    tell(show_fewest(rows, MANY, 1, 2, numbers, SHOW_WORK_LEN - 1, given, SHOW_GIVEN_LEN) == code(SHOW_TOO_SHORT, 0), "work less 1");
+    tell(show_count(rows, MANY, given, SHOW_GIVEN_LEN - 1) == code(SHOW_TOO_SHORT, 0), "given less 1");
+}
+
+int main(void) {
+    texts();
+    versions();
+    nulls();
+    pages(show_list_out, 1, 2);
+    pages(show_list_in, 2, 1);
+    sizes();
+    printf("%u passed, %u failed\n", passed, failed);
+    return failed != 0;
+}
