@@ -27,6 +27,8 @@ pub const MAX_JOINS: usize = 8;
 pub const PATH_LEN: usize = 127;
 /// Least length of a work area.
 pub const WORK_LEN: usize = 16_384;
+/// Numbers of a work area for each block.
+pub const SUMMARY_LEN: usize = 64;
 /// Least length of `given`.
 pub const GIVEN_LEN: usize = 3;
 /// In a work area: no chain leads from the one join to the other.

@@ -32,7 +32,8 @@ mod refused;
 pub use linked::Linked;
 pub use refused::{Place, Refused};
 pub use show_sys::{
-    MAX_CUES, MAX_FILE, MAX_JOINS, MAX_ROWS, NO_CHAIN, PATH_LEN, ROWS_LEN, ROW_LEN, WORK_LEN,
+    MAX_CUES, MAX_FILE, MAX_JOINS, MAX_ROWS, NO_CHAIN, PATH_LEN, ROWS_LEN, ROW_LEN, SUMMARY_LEN,
+    WORK_LEN,
 };
 
 /// The version of this crate, which is that of the library's header too.
@@ -221,7 +222,8 @@ impl<'a> Rows<'a> {
     /// from the one to the other. `work` has at least [`WORK_LEN`] places, whatever stands in them.
     ///
     /// Afterwards they hold the fewest from each join to each join inside each block: those from
-    /// join i to join j of block k at `64 * k + 8 * (i - 1) + (j - 1)`, [`NO_CHAIN`] for none.
+    /// join i to join j of block k at [`SUMMARY_LEN`]` * k + 8 * (i - 1) + (j - 1)`, [`NO_CHAIN`] for
+    /// none.
     pub fn fewest(&self, s: u32, t: u32, work: &mut [u32]) -> Result<Option<u32>, Refused> {
         let (rows, rows_len) = self.lent();
         let (len, to) = (work.len(), work.as_mut_ptr());
