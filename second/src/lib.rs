@@ -6,7 +6,6 @@ pub mod gen;
 pub mod library;
 pub mod limits;
 pub mod naive;
-pub mod picture;
 pub mod plain;
 pub mod question;
 pub mod race;

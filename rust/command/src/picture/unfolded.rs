@@ -1,7 +1,7 @@
 //! The unfolded show: a frame for each copy, inside that of the copy whose use it fills.
 
 use super::dot::Picture;
-use crate::naive::check::{Block, Link};
+use crate::blocks::{Block, Link};
 
 /// What the shapes mean.
 const KEY: &str = "frame: copy with its path; circle: cue; arrow: link with its label";
@@ -36,7 +36,7 @@ impl Copies<'_> {
             self.picture.line(&format!("{};", self.numbered));
         }
         for (taken, step) in block.uses.iter().zip(1u32..) {
-            let inner = taken.label as usize;
+            let inner = taken.block;
             if self.blocks[inner].total > 0 {
                 self.put_in(inner, &[path, &[step.to_string()]].concat());
             }

@@ -1,26 +1,23 @@
 //! The pictures of the ring, where cues stand, and what is not drawn.
 
-use super::{blocks, unfolded};
-use crate::gen::known;
-use crate::limits::NAMES;
-use crate::naive::ask::Show;
-use crate::naive::file::print;
-use crate::naive::print::printed;
+use second::gen::known;
+use second::naive::ask::Show;
+use second::naive::file::print;
+use show::{Read, Rows, ROWS_LEN};
+
+use super::{blocks, unfolded, Undrawn};
 
 const RING_BLOCKS: &str = include_str!("ring-blocks.dot");
 const RING_UNFOLDED: &str = include_str!("ring-unfolded.dot");
 
-fn file(numbers: &[u32]) -> Vec<u8> {
-    print(numbers.as_chunks().0)
+/// What is said of a show that the library has read.
+fn of<T>(numbers: &[u32], said: impl FnOnce(&Read) -> T) -> T {
+    let mut room = [0; ROWS_LEN];
+    said(&Rows::read(&print(numbers.as_chunks().0), &mut room).expect("an accepted show"))
 }
 
 fn drawn(numbers: &[u32]) -> String {
-    let file = file(numbers);
-    unfolded("show", &file, printed(&file).as_bytes()).expect("a picture")
-}
-
-fn with_links(links: &str) -> Result<String, String> {
-    unfolded("ring", &file(&known::ring()), links.as_bytes())
+    of(numbers, |show| unfolded("show", show)).expect("a picture")
 }
 
 /// The frame that each cue stands in, innermost, by the cue's number.
@@ -64,13 +61,12 @@ fn names(picture: &str) -> Vec<String> {
 
 #[test]
 fn the_blocks_of_the_ring_are_drawn() {
-    assert_eq!(blocks("ring", &file(&known::ring())).as_deref(), Ok(RING_BLOCKS));
+    assert_eq!(of(&known::ring(), |ring| blocks("ring", ring)), RING_BLOCKS);
 }
 
 #[test]
 fn the_ring_is_drawn_unfolded() {
-    let links = "from,to,label\n1,5,1\n2,1,2\n3,4,1\n4,2,1\n5,3,1\n";
-    assert_eq!(with_links(links).as_deref(), Ok(RING_UNFOLDED));
+    assert_eq!(of(&known::ring(), |ring| unfolded("ring", ring)).as_deref(), Ok(RING_UNFOLDED));
     let frames = frames(RING_UNFOLDED);
     let expected = [(1, "show"), (2, "show"), (3, "1"), (4, "1_1"), (5, "1_2")];
     assert_eq!(frames, expected.map(|(cue, frame)| (cue, frame.to_string())));
@@ -79,8 +75,8 @@ fn the_ring_is_drawn_unfolded() {
 #[test]
 fn the_stored_pictures_are_those_of_the_ring() {
     let stored = [
-        (RING_BLOCKS, include_str!("../../../docs/ring-blocks.svg"), 3 + 8 + 3 + 9),
-        (RING_UNFOLDED, include_str!("../../../docs/ring-unfolded.svg"), 4 + 5 + 5),
+        (RING_BLOCKS, include_str!("../../../../docs/ring-blocks.svg"), 3 + 8 + 3 + 9),
+        (RING_UNFOLDED, include_str!("../../../../docs/ring-unfolded.svg"), 4 + 5 + 5),
     ];
     for (picture, svg, count) in stored {
         let names = names(picture);
@@ -93,11 +89,21 @@ fn the_stored_pictures_are_those_of_the_ring() {
     }
 }
 
+/// The links of a picture, as they are drawn.
+fn arrows(picture: &str) -> Vec<String> {
+    picture.lines().map(str::trim).filter(|line| line.contains(" -> ")).map(String::from).collect()
+}
+
 #[test]
-fn links_are_drawn_as_printed() {
-    let picture = with_links("from,to,label\n5,1,200\n").expect("a picture");
-    assert!(picture.contains("5 -> 1 [label=\"200\"];"));
-    assert_eq!(picture.matches(" -> ").count(), 1);
+fn every_link_is_drawn_with_its_label() {
+    for rows in [known::ring(), known::labelled(300), known::all_joins(), known::star(7, true)] {
+        let show = Show::of_rows(&rows).expect("an accepted show");
+        let links = show.unfolding().links.iter();
+        let expected: Vec<String> = links
+            .map(|link| format!("{} -> {} [label=\"{}\"];", link.from, link.to, link.label))
+            .collect();
+        assert_eq!(arrows(&drawn(&rows)), expected);
+    }
 }
 
 #[test]
@@ -124,38 +130,18 @@ fn a_copy_without_cues_has_no_frame() {
 
 #[test]
 fn a_title_is_written_out() {
-    let picture = blocks("1 < 2 & 3", &file(&known::ring())).expect("a picture");
+    let picture = of(&known::ring(), |ring| blocks("1 < 2 & 3", ring));
     assert!(picture.contains(">1 &lt; 2 &amp; 3: the blocks<"));
 }
 
 #[test]
-fn refused_and_large_shows_are_not_drawn() {
-    let refused = |file: &[u8]| (blocks("", file), unfolded("", file, &b""[..]));
-    let said = |text: &str| Err(text.to_string());
-    let expected = said("refusal 4, place 0");
-    assert_eq!(refused(NAMES), (expected.clone(), expected));
-    let expected = said("refusal 9, place 2");
-    assert_eq!(refused(&file(&[0; 11])), (expected.clone(), expected));
-    let (folded, unfolded) = refused(&file(&known::tower(10)));
-    assert!(folded.is_ok());
-    assert_eq!(unfolded, said("1023 cues, over 1000, are too many to draw"));
-}
-
-#[test]
-fn other_texts_are_no_links() {
-    let cases = [
-        ("cues\n1001\n", "links, line 1: \"cues\""),
-        ("refusal,place\n9,2\n", "links, line 1: \"refusal,place\""),
-        ("from,to,label\n1,2\n", "links, line 2: \"1,2\""),
-        ("from,to,label\n1,2,1\n1,2,1,1\n", "links, line 3: \"1,2,1,1\""),
-        ("from,to,label\n1,6,1\n", "links, line 2: \"1,6,1\""),
-        ("from,to,label\n0,1,1\n", "links, line 2: \"0,1,1\""),
-        ("from,to,label\n1,2,x\n", "links, line 2: \"1,2,x\""),
-        ("", "no links: their first line is missing"),
-    ];
-    for (text, expected) in cases {
-        assert_eq!(with_links(text), Err(expected.to_string()));
-    }
-    let many = format!("from,to,label\n{}", "1,2,1\n".repeat(10_001));
-    assert_eq!(with_links(&many), Err("over 10000 links are too many to draw".to_string()));
+fn large_shows_are_not_drawn_unfolded() {
+    let too_large = |said: &str| Err(Undrawn::TooLarge(said.to_string()));
+    assert!(
+        of(&known::tower(10), |show| blocks("", show)).contains("block 9, the show: total 1023")
+    );
+    let said = "1023 cues are too many to draw; 1000 are the most";
+    assert_eq!(of(&known::tower(10), |show| unfolded("", show)), too_large(said));
+    let said = "over 10000 links are too many to draw";
+    assert_eq!(of(&known::millions(), |show| unfolded("", show)), too_large(said));
 }

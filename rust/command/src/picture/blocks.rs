@@ -2,7 +2,7 @@
 //! meet the cues they name.
 
 use super::dot::{raised, Picture};
-use crate::naive::check::{Block, Link, Use};
+use crate::blocks::{Block, Link, Use};
 
 /// What the shapes mean.
 const KEY: [&str; 2] = [
@@ -53,9 +53,9 @@ fn arrow(picture: &mut Picture, link: &Link, k: usize) {
 /// A use stands behind the first cue it names and before the others.
 fn meeting(picture: &mut Picture, taken: &Use, k: usize, step: usize) {
     let node = format!("b{k}u{step}");
-    let label = format!("use {step}\\nblock {}", taken.label);
+    let label = format!("use {step}\\nblock {}", taken.block);
     picture.line(&format!("{node} [label=\"{label}\", shape=box];"));
-    for (met, join) in taken.cues().iter().zip(1..) {
+    for (met, join) in taken.cues.iter().zip(1..) {
         let met = cue(k, *met);
         let [left, right] = if join == 1 { [&met, &node] } else { [&node, &met] };
         let label = raised(&format!("join {join}"));

@@ -1,0 +1,160 @@
+//! Every cause of a refusal, with the sentence for it.
+
+use std::fmt::{Display, Formatter};
+
+use super::Column;
+
+/// A number with commas between its thousands.
+#[derive(Clone, Copy, Debug, PartialEq, Eq)]
+pub struct Grouped(pub u64);
+
+impl Display for Grouped {
+    fn fmt(&self, f: &mut Formatter) -> std::fmt::Result {
+        match self.0 / 1000 {
+            0 => write!(f, "{}", self.0),
+            thousands => write!(f, "{},{:03}", Grouped(thousands), self.0 % 1000),
+        }
+    }
+}
+
+/// So many of something.
+#[derive(Clone, Copy, Debug, PartialEq, Eq)]
+pub struct Many(pub u32, pub &'static str);
+
+impl Display for Many {
+    fn fmt(&self, f: &mut Formatter) -> std::fmt::Result {
+        write!(f, "{} {}{}", self.0, self.1, if self.0 == 1 { "" } else { "s" })
+    }
+}
+
+/// Each cause: the number of the refusal, a name, what its sentence says, and the sentence.
+macro_rules! causes {
+    ($($number:literal $name:ident($($field:ident: $type:ty),*) $text:literal)*) => {
+        /// Why a file or a question is refused. A value that is wrong is said first.
+        #[derive(Clone, Debug, PartialEq, Eq)]
+        #[allow(missing_docs)]
+        pub enum Cause {
+            $(#[doc = $text] $name { $($field: $type),* },)*
+        }
+
+        impl Cause {
+            /// The names of all causes.
+            pub const NAMES: &[&str] = &[$(stringify!($name)),*];
+
+            /// The name of the cause.
+            pub fn name(&self) -> &'static str {
+                match self {
+                    $(Cause::$name { .. } => stringify!($name),)*
+                }
+            }
+
+            /// The number of the refusal; 0 where this is not a cause of one refusal alone.
+            pub fn number(&self) -> u32 {
+                match self {
+                    $(Cause::$name { .. } => $number,)*
+                }
+            }
+        }
+
+        impl Display for Cause {
+            fn fmt(&self, f: &mut Formatter) -> std::fmt::Result {
+                match self {
+                    $(Cause::$name { $($field),* } => write!(f, $text),)*
+                }
+            }
+        }
+    };
+}
+
+causes! {
+    0 Unexplained(words: &'static str) "{words}"
+
+    1 TooLong(bytes: Grouped) "the file has {bytes} bytes; a show file has at most 65,536"
+    1 TooLongToRead() "there are more than 65,536 bytes, the most that a show file has"
+
+    2 Empty() "the file is empty; its first line must be block,kind,label,a,b,c,d,e,f,g,h"
+    2 ByteOrderMark() "a byte order mark stands before the names; a show file has none"
+    2 TwoBytes() "each character has two bytes (UTF-16); in a show file it has one"
+    2 NamesBlank() "the line is empty; it must be block,kind,label,a,b,c,d,e,f,g,h"
+    2 NamesReturn() "a carriage return stands behind the names; a line feed alone ends a line"
+    2 NamesUnended() "the line feed behind the names is missing"
+    2 NamesCut() "the file ends inside the names, which are block,kind,label,a,b,c,d,e,f,g,h"
+    2 NamesMissing() "values stand in the place of the names, which are block,kind,label,a,b,c,d,e,f,g,h"
+    2 NamesSemicolons() "a semicolon stands between names; it must be a comma"
+    2 NamesTabs() "a tab stands between names; it must be a comma"
+    2 NamesCapitals() "the names have capital letters; all of them are small"
+    2 NamesSpaces() "the names have spaces; there is none between them or around them"
+    2 NamesQuotes() "the names have quote marks; they are written without any"
+    2 NamesCount(names: Many) "the line has {names}; the eleven are block,kind,label,a,b,c,d,e,f,g,h"
+    2 NameWrong(name: String) "'{name}' stands here; the names are block,kind,label,a,b,c,d,e,f,g,h"
+
+    3 Blank() "the line is empty; each line behind the names is a row"
+    3 NamesAgain() "the names stand here again; only the first line has them"
+    3 Space() "a space stands in this value; a value is digits alone"
+    3 Tab() "a tab stands in this value; a value is digits alone, with a comma behind it"
+    3 Sign(sign: char) "the sign {sign} stands in this value; a value is 0 to 65,535, without a sign"
+    3 Letter(letter: char) "the letter {letter} stands in this value; a value is digits alone"
+    3 Point() "a point stands in this value; a value is a whole number"
+    3 Quote() "a quote mark stands in this value; a value is digits alone"
+    3 Semicolon() "a semicolon stands here; a comma stands between two values"
+    3 Return() "a carriage return stands at the end of the line; a line feed alone ends it"
+    3 ReturnInside() "a carriage return stands in this value; a value is digits alone"
+    3 Character(character: char) "the character {character} stands in this value; a value is digits alone"
+    3 Byte(byte: u8) "the byte {byte:02X} (hexadecimal) stands in this value; a value is digits alone"
+    3 NoValue() "there is no value here; a value is one to five digits"
+    3 Digits(digits: usize) "{digits} digits; a value has at most five, zeros in front counted"
+    3 Over(value: u32) "{value}; a value is 0 to 65,535"
+    3 TooFew(values: Many) "the line has {values}; a row has eleven"
+    3 TooMany(values: Many) "the line has {values}; a row has eleven"
+    3 CommaBehind() "a comma stands behind the last value; a row ends without one"
+    3 Cut(values: Many) "the file ends behind {values} of this row; a row has eleven and a line feed"
+    3 Unended() "the line feed is missing; one ends every line, also the last"
+
+    4 NoRows() "there are no rows behind the names; a show has 1 to 1,024"
+    4 TooManyRows(rows: Grouped) "there are {rows} rows; a show has 1 to 1,024"
+
+    5 Kind(kind: u32) "{kind}; a kind is 0 to 2: an opening, a link or a use"
+    5 FirstKind(kind: u32) "{kind}; the first row opens block 0, so this must be 0"
+    5 FirstBlock(block: u32) "{block}; the first block that is opened is block 0, so this must be 0"
+    5 Jumps(block: u32, next: usize) "{block}; blocks are opened without a gap, so this must be {next}"
+    5 OpenedAgain(block: u32, next: usize) "{block}; that block is opened already, so this must be {next}"
+    5 TooManyBlocks() "this opens a 129th block; a show has at most 128"
+    5 NotOpened(block: u32, open: usize) "{block}; that block is not opened yet, so this must be {open}"
+    5 Left(block: u32, open: usize) "{block}; that block ended where block {open} was opened, so this must be {open}"
+    5 LinkBehindUse() "a link stands behind a use; in a block all links come before the uses"
+
+    6 Joins(joins: u32) "{joins}; a block has 0 to 8 joins"
+    6 Own(own: u32) "{own}; a block has 0 to 255 own cues"
+    6 Label(label: u32) "{label}; a link's label is 1 to 255"
+    6 UseInFirst() "2; block 0 has no earlier block to use"
+    6 UseOf(label: u32, block: u32, last: u32) "{label}; block {block} can use earlier blocks alone, 0 to {last}"
+    6 NoCues(cue: u32, block: u32) "{cue}; block {block} has neither own cues nor joins, so no cue can be named"
+    6 Cue(cue: u32, block: u32, cues: u32, own: Many, joins: Many)
+        "{cue}; the cues of block {block} are 1 to {cues}: {own} and {joins}"
+    6 IdleInOpening(value: u32) "{value}; b to h are idle in an opening, so this must be 0"
+    6 IdleInLink(value: u32) "{value}; c to h are idle in a link, so this must be 0"
+    6 IdleInUse(value: u32, used: u32, joins: Many, first: Column)
+        "{value}; block {used} has {joins}, so columns from {first} on are idle here and this must be 0"
+
+    7 LinkTwice(cue: u32) "cue {cue} stands in a too; a link is between two cues"
+    7 UseTwice(cue: u32, first: Column) "cue {cue} stands in {first} too; no cue takes two joins of a copy"
+
+    8 SameLink() "the same link stands in the line before; links rise by a, b and label"
+    8 LinkFalls(value: u32, before: u32) "{value}; links rise by a, b and label, and the line before has {before} here"
+    8 UseFalls(value: u32, before: u32) "{value}; uses never fall by a to h and label, and the line before has {before} here"
+
+    9 ShowJoins(joins: u32) "{joins}; the last block is the show and has no joins, so this must be 0"
+    9 ShowOwn() "0; the last block is the show and has 1 to 255 own cues"
+    9 NoJoins() "0; a block before the last has 1 to 8 joins"
+
+    10 Total(block: usize, total: Grouped) "block {block} stands for {total} cues; at most 2,147,483,647 are allowed"
+
+    12 NoCue(cue: u32, count: u32) "cue {cue}; the show has cues 1 to {count}"
+
+    13 LongPath(steps: usize) "the path has {steps} steps; the longest has 127"
+    13 NoUses(place: usize, step: u32, block: usize) "step {place} of the path is {step}; block {block} has no uses"
+    13 NoUse(place: usize, step: u32, block: usize, uses: usize)
+        "step {place} of the path is {step}; block {block} has uses 1 to {uses}"
+    13 NoOwn(own: u32, block: usize) "own cue {own}; block {block} has no own cues"
+    13 NotOwn(own: u32, block: usize, most: u32) "own cue {own}; block {block} has own cues 1 to {most}"
+}

@@ -1,0 +1,90 @@
+//! Refusal 2: the line of names.
+
+use super::{Cause, Column, Fault, Many, NAMES};
+
+/// The names, without the line feed.
+pub const TEXT: &[u8] = b"block,kind,label,a,b,c,d,e,f,g,h";
+
+/// Bytes of a wrong name that are shown, at most.
+const MOST_SHOWN: usize = 16;
+
+/// A line without what ends it: a line feed, carriage returns before it, or both.
+pub fn text_of(line: &[u8]) -> &[u8] {
+    let mut text = line.strip_suffix(b"\n").unwrap_or(line);
+    while let Some(shorter) = text.strip_suffix(b"\r") {
+        text = shorter;
+    }
+    text
+}
+
+/// What is wrong with the first line, which is empty if the file is.
+pub fn checked(line: &[u8]) -> Result<(), Fault> {
+    if line.strip_suffix(b"\n") == Some(TEXT) {
+        return Ok(());
+    }
+    Err(match begun(line).or_else(|| ended(line)).or_else(|| respelt(text_of(line))) {
+        Some(cause) => (None, cause),
+        None => differing(text_of(line)),
+    })
+}
+
+/// What is wrong at the beginning of the line.
+fn begun(line: &[u8]) -> Option<Cause> {
+    match line {
+        [] => Some(Cause::Empty {}),
+        [0xEF, 0xBB, 0xBF, ..] => Some(Cause::ByteOrderMark {}),
+        [0xFF, 0xFE, ..] | [0xFE, 0xFF, ..] => Some(Cause::TwoBytes {}),
+        _ if text_of(line).is_empty() => Some(Cause::NamesBlank {}),
+        _ => None,
+    }
+}
+
+/// What is wrong at the end of a line that is right so far.
+fn ended(line: &[u8]) -> Option<Cause> {
+    match line.strip_prefix(TEXT) {
+        Some([]) => Some(Cause::NamesUnended {}),
+        Some([b'\r', ..]) => Some(Cause::NamesReturn {}),
+        _ if TEXT.starts_with(line) => Some(Cause::NamesCut {}),
+        _ => None,
+    }
+}
+
+/// What is wrong all over the line, where it is the names but for that, or is values.
+fn respelt(text: &[u8]) -> Option<Cause> {
+    let commas_for = |other: u8| {
+        let swapped = |byte: &u8| if *byte == other { b',' } else { *byte };
+        text.iter().map(swapped).eq(TEXT.iter().copied())
+    };
+    let without =
+        |left_out: &[u8]| text.iter().filter(|byte| !left_out.contains(byte)).eq(TEXT.iter());
+    let value = |byte: &u8| byte.is_ascii_digit() || b",; \t".contains(byte);
+    let causes = [
+        (commas_for(b';'), Cause::NamesSemicolons {}),
+        (commas_for(b'\t'), Cause::NamesTabs {}),
+        (text.eq_ignore_ascii_case(TEXT), Cause::NamesCapitals {}),
+        (without(b" \t"), Cause::NamesSpaces {}),
+        (without(b"\"'"), Cause::NamesQuotes {}),
+        (text.iter().all(value), Cause::NamesMissing {}),
+    ];
+    causes.into_iter().find_map(|(holds, cause)| holds.then_some(cause))
+}
+
+/// The first name that is another, or how many there are.
+fn differing(text: &[u8]) -> Fault {
+    let found: Vec<&[u8]> = text.split(|byte| *byte == b',').collect();
+    if found.len() != NAMES.len() {
+        return (None, Cause::NamesCount { names: Many(found.len() as u32, "name") });
+    }
+    let place = found.iter().zip(NAMES).position(|(name, right)| *name != right.as_bytes());
+    let place = place.unwrap_or(0);
+    (Some(Column(place)), Cause::NameWrong { name: shown(found[place]) })
+}
+
+/// A name as it can be printed, cut if it is long.
+fn shown(name: &[u8]) -> String {
+    let (head, more) = match name.get(..MOST_SHOWN) {
+        Some(head) if name.len() > MOST_SHOWN => (head, "..."),
+        _ => (name, ""),
+    };
+    format!("{}{more}", head.escape_ascii())
+}
