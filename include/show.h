@@ -56,7 +56,11 @@ enum {
     SHOW_MAX_ROWS = 1024,                          /* rows of a show, at most */
     SHOW_ROWS_LEN = SHOW_ROW_LEN * SHOW_MAX_ROWS,  /* numbers of the rows of a show, at most */
     SHOW_MAX_FILE = 65536,                         /* bytes of a file, at most */
+    SHOW_MAX_VALUE = 65535,                        /* a value in a file, at most */
+    SHOW_MAX_BLOCKS = 128,                         /* blocks of a show, at most */
+    SHOW_MAX_OWN = 255,                            /* own cues of a block, at most */
     SHOW_MAX_JOINS = 8,                            /* joins of a block, at most */
+    SHOW_MAX_LABEL = 255,                          /* label of a link, at most; the least is 1 */
     SHOW_MAX_CUES = 2147483647,                    /* cues of a show, at most */
     SHOW_PATH_LEN = 127,                           /* least length of a list lent for a path; steps of a path, at most */
     SHOW_WORK_LEN = 16384,                         /* least length of a work area */

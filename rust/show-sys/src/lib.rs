@@ -21,8 +21,16 @@ pub const ROWS_LEN: usize = ROW_LEN * MAX_ROWS;
 pub const MAX_FILE: usize = 65_536;
 /// Cues of a show, at most.
 pub const MAX_CUES: u32 = 2_147_483_647;
+/// A value in a file, at most.
+pub const MAX_VALUE: u32 = 65_535;
+/// Blocks of a show, at most.
+pub const MAX_BLOCKS: usize = 128;
+/// Own cues of a block, at most.
+pub const MAX_OWN: u32 = 255;
 /// Joins of a block, at most.
 pub const MAX_JOINS: usize = 8;
+/// Label of a link, at most; the least is 1.
+pub const MAX_LABEL: u32 = 255;
 /// Least length of a list lent for a path.
 pub const PATH_LEN: usize = 127;
 /// Least length of a work area.

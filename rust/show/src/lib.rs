@@ -32,8 +32,8 @@ mod refused;
 pub use linked::Linked;
 pub use refused::{Place, Refused};
 pub use show_sys::{
-    MAX_CUES, MAX_FILE, MAX_JOINS, MAX_ROWS, NO_CHAIN, PATH_LEN, ROWS_LEN, ROW_LEN, SUMMARY_LEN,
-    WORK_LEN,
+    MAX_BLOCKS, MAX_CUES, MAX_FILE, MAX_JOINS, MAX_LABEL, MAX_OWN, MAX_ROWS, MAX_VALUE, NO_CHAIN,
+    PATH_LEN, ROWS_LEN, ROW_LEN, SUMMARY_LEN, WORK_LEN,
 };
 
 /// The version of this crate, which is that of the library's header too.
