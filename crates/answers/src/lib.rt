@@ -11,6 +11,10 @@ use model::ReadAnswer;
 use model::Refusal;
 use model::Verdict;
 use model::WriteAnswer;
+use model::limits::MAX_DEPTH;
+use model::limits::NO_CHAIN;
+use model::limits::ROW_SIZE;
+use model::limits::WORK_SIZE;
 ghost use mathlib.Core.Path.{_≡_};
 ghost use Prim.Native.Nat.{_≤_, _<_};
 ghost use lib.ListN.{length};
@@ -25,16 +29,6 @@ ghost use Rattle.model.specs.Rules.{isCue};
 ghost use Rattle.model.specs.Questions.{outcome, readInto, writeInto, locateIn, numbered, showNumber, fewestIn};
 ghost use Rattle.blocks.specs.Loaded.{Loaded};
 ghost use Rattle.answers.specs.Asked.{readNumbers, listOf, ShowCue, between};
-
-// The values of a row, the least length of a lent path list, and that of a work area.
-const ROW: usize = 11;
-
-const DEPTH: usize = 127;
-
-const WORK: usize = 16384;
-
-// What the search says where no chain leads.
-const NO_CHAIN: u32 = 4294967295;
 
 // A place of the show in 32 bits.
 fn narrow(x: usize) -> u32
@@ -62,7 +56,7 @@ pub fn locate_in(rows: &[u32], table: &[u32; INDEX], n: u32, path: &mut [u32]) -
     requires { ⌜ Loaded (now rows) (now table) ⌝ }
     ensures { λ r. ⌜ outcome (ofLocate r) (now (path .exit)) ≡ locateIn (blocksOf (now (rows .entry))) n (now (path .entry)) ⌝ }
 {
-    if path.len() < DEPTH {
+    if path.len() < MAX_DEPTH {
         return LocateAnswer::Refused(Refusal {
             number: 11,
             place: 0,
@@ -132,7 +126,7 @@ fn hand_out(numbers: &[u32], table: &[u32; INDEX], rows: &mut [u32]) -> ReadAnsw
         });
     }
     copy(numbers, rows);
-    let many = narrow(numbers.len() / ROW);
+    let many = narrow(numbers.len() / ROW_SIZE);
     let blocks = narrow(blocks::last(numbers, table) + 1);
     ReadAnswer::Read(many, blocks, blocks::count(numbers, table))
 }
@@ -153,7 +147,7 @@ pub fn write_rows(rows: &[u32], out: &mut [u8]) -> WriteAnswer
     requires { ⌜ verdict (now rows) ≡ Accepted ⌝ }
     ensures { λ r. ⌜ outcome (ofWrite r) (now (out .exit)) ≡ writeInto (fileText (rowsOf (now (rows .entry)))) (now (out .entry)) ⌝ }
 {
-    let many = rows.len() / ROW;
+    let many = rows.len() / ROW_SIZE;
     let size = codec::measure(rows, many);
     if out.len() < size {
         return WriteAnswer::Refused(Refusal {
@@ -184,7 +178,7 @@ pub fn list_of(
             place: 0,
         });
     }
-    let mut way = [0u32; DEPTH];
+    let mut way = [0u32; MAX_DEPTH];
     let place = paths::find(rows, table, v, &mut way);
     let listed = lists::list(rows, table, inward, place, &way, n, page);
     ListAnswer::Page(listed.written, listed.more)
@@ -195,9 +189,9 @@ fn least(rows: &[u32], table: &[u32; INDEX], s: u32, t: u32, work: &mut [u32]) -
     requires { ⌜ Loaded (now rows) (now table) × ShowCue (now rows) s × ShowCue (now rows) t × (workSize ≤ length (now work)) ⌝ }
     ensures { λ r. ⌜ outcome (ofFewest r) (now (work .exit)) ≡ between (blocksOf (now (rows .entry))) s t (now (work .entry)) ⌝ }
 {
-    let mut up = [0u32; DEPTH];
+    let mut up = [0u32; MAX_DEPTH];
     let from = paths::find(rows, table, s, &mut up);
-    let mut down = [0u32; DEPTH];
+    let mut down = [0u32; MAX_DEPTH];
     let to = paths::find(rows, table, t, &mut down);
     distance::summarise(rows, table, work);
     let steps = distance::fewest(rows, table, from, &up, to, &down, work);
@@ -218,7 +212,7 @@ pub fn fewest_in(
     requires { ⌜ Loaded (now rows) (now table) ⌝ }
     ensures { λ r. ⌜ outcome (ofFewest r) (now (work .exit)) ≡ fewestIn (blocksOf (now (rows .entry))) s t (now (work .entry)) ⌝ }
 {
-    if work.len() < WORK {
+    if work.len() < WORK_SIZE {
         return FewestAnswer::Refused(Refusal {
             number: 11,
             place: 0,

@@ -3,6 +3,7 @@
 //
 // Of the show: `last`, `count`. Of a block: `own`, `joins`, `total`, `link_rows`, `use_rows`. Of a link's row: `from`, `to`, `label`. Of a
 // use's row: `used`, `column`. A `Place` is where a cue is, and `block_on` goes along the rows that lead there.
+use model::limits::ROW_SIZE;
 ghost use mathlib.Core.Path.{_≡_};
 ghost use Prim.Native.Nat.{_+_, _*_, _-_, _≤_, _<_};
 ghost use lib.ListN.{getD};
@@ -13,13 +14,11 @@ ghost use Rattle.verdicts.specs.Index.{linkAt, useAt};
 ghost use Rattle.blocks.specs.Loaded.{Loaded, IsBlock, LinkRows, UseRows, IsRow, columnAt};
 ghost use Rattle.blocks.specs.Places.{blockOn, UsesTo};
 
-// The values of a row; the first one that names a cue.
-const ROW: usize = 11;
-
+// The first value of a row that names a cue.
 const COLUMNS: usize = 3;
 
 // The numbers of a block in the index: its opening row, the first row behind its links, the first behind its uses, its total.
-const ENTRY: usize = 4;
+const ENTRY: usize = verdicts::ENTRY;
 
 const USES: usize = 1;
 
@@ -57,7 +56,7 @@ fn value(xs: &[u32], r: usize, c: usize) -> u32
     requires { ⌜ (r < rowCount (now xs)) × (c < rowSize) ⌝ }
     ensures { λ v. ⌜ v ≡ cell (now (xs .entry)) r c ⌝ }
 {
-    xs[r * ROW + c]
+    xs[r * ROW_SIZE + c]
 }
 
 // Number c of block k in the index.
@@ -73,7 +72,7 @@ pub fn last(xs: &[u32], t: &[u32; INDEX]) -> usize
     requires { ⌜ Loaded (now xs) (now t) ⌝ }
     ensures { λ r. ⌜ (r ≡ lastBlock (blocksOf (now (xs .entry)))) × IsBlock (now (xs .entry)) r ⌝ }
 {
-    wide(xs[xs.len() - ROW])
+    wide(xs[xs.len() - ROW_SIZE])
 }
 
 // The own cues of block k.

@@ -1,5 +1,8 @@
 // The show file as bytes. Others call parse, which reads it to rows; measure and emit, which write it from rows; and put_bytes.
 use model::Refusal;
+use model::limits::MAX_BYTES;
+use model::limits::MAX_ROWS;
+use model::limits::ROW_SIZE;
 use values::Field;
 ghost use mathlib.Core.Path.{_≡_};
 ghost use mathlib.Core.Bool.{true};
@@ -17,18 +20,11 @@ ghost use Rattle.codec.specs.Scanning.{lineAt, LineSays, RowSays, StepSa
 ghost use Rattle.codec.specs.Parsing.{room, Parses};
 ghost use Rattle.codec.specs.Writing.{tableSize, one, two, valueText, rowText, Puts, Spills, shortTexts};
 
-// The bytes of the largest file.
-const MAX_BYTES: usize = 65536;
+// The place of a row's last value.
+const LAST: usize = ROW_SIZE - 1;
 
-// The values of a row, and the place of the last.
-const ROW: usize = 11;
-
-const LAST: usize = 10;
-
-// The rows that are stored, and their numbers.
-const MAX_ROWS: usize = 1024;
-
-const ROOM: usize = 11264;
+// The numbers of the rows that are stored.
+pub const ROOM: usize = MAX_ROWS * ROW_SIZE;
 
 // The byte behind a line's last value, and behind the others.
 const LINE_FEED: u8 = 10;
@@ -85,7 +81,7 @@ fn line_at(file: &[u8], from: usize, row: &mut [u32]) -> Line
 {
     let mut at = from;
     let mut c = 0;
-    while c < ROW {
+    while c < ROW_SIZE {
         let Field::Value(v, next) = values::value_at(file, at, end_of(c)) else {
             return Line::Malformed;
         };
@@ -102,11 +98,11 @@ fn row_at(file: &[u8], at: usize, rows: &mut [u32], r: usize) -> Line
     ensures { λ l. ⌜ RowSays (lineAt ends (now (file .entry)) at) r l (now (rows .entry)) (now (rows .exit)) ⌝ }
 {
     if r < MAX_ROWS {
-        let a = r * ROW;
-        let e = a + ROW;
+        let a = r * ROW_SIZE;
+        let e = a + ROW_SIZE;
         return line_at(file, at, &mut rows[a..e]);
     }
-    let mut spare = [0u32; ROW];
+    let mut spare = [0u32; ROW_SIZE];
     line_at(file, at, &mut spare)
 }
 
@@ -240,7 +236,7 @@ pub fn measure(xs: &[u32], n: usize) -> usize
     requires { ⌜ (n * rowSize ≤ length (now xs)) × (n ≤ maxRows) ⌝ }
     ensures { λ r. ⌜ r ≡ length (fileText (rowsFrom (now (xs .entry)) 0 n)) ⌝ }
 {
-    let m = n * ROW;
+    let m = n * ROW_SIZE;
     let mut sum: u32 = NAMES_SIZE_32;
     let mut i = 0;
     while i < m {
@@ -350,7 +346,7 @@ fn put_row(xs: &[u32], r: usize, texts: &[u8], out: &mut [u8], from: usize) -> u
     requires { ⌜ (r * rowSize + rowSize ≤ length (now xs)) × (now texts ≡ shortTexts 0 tableSize) × (from + length (rowText (now xs) r) ≤ length (now out)) ⌝ }
     ensures { λ p. ⌜ Puts (rowText (now (xs .entry)) r) (now (out .entry)) from p (now (out .exit)) ⌝ }
 {
-    let a = r * ROW;
+    let a = r * ROW_SIZE;
     let mut at = from;
     let mut c = 0;
     while c < LAST {

@@ -5,7 +5,7 @@ use mathlib.Core.Path.{_≡_}
 use mathlib.Core.Logic.{_≢_}
 use mathlib.Core.List.{List}
 use lib.ListN.{getD}
-use Rattle.model.specs.Limits.{noChain, summaryWidth}
+use Rattle.model.specs.Limits.{maxBlocks, noChain, summaryWidth}
 use Rattle.model.specs.Blocks.{blockAt, blocksOf}
 use Rattle.shows.specs.WellFormed.{Cue}
 use Rattle.shows.specs.Copies.{Copy, number, all-links, InCopy, part-copy, show-copy, part-at}
@@ -33,9 +33,9 @@ TellsInside y s d = (c : ℕ) → Cue (y .block) c → Tells each-one (all-links
 abbrev pub TellsWhole : List ℕ → Copy → ℕ → List ℕ → Type 0
 TellsWhole xs y s d = (c : ℕ) → Cue (y .block) c → Tells each-one (all-links (show-copy (blocksOf xs))) noChain s (number y c) (getD d c 0)
 
--- Eight estimates are kept for each of 128 levels: the one for join i at level l.
+-- Eight estimates are kept for each of as many levels as there may be blocks: the one for join i at level l.
 abbrev pub keptSize : ℕ
-keptSize = 1024
+keptSize = summaryWidth * maxBlocks
 
 abbrev pub keptAt : List ℕ → ℕ → ℕ → ℕ
 keptAt kept l i = getD kept (summaryWidth * l + (i - 1)) 0

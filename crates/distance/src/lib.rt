@@ -14,8 +14,10 @@ use estimates::clear;
 use estimates::gather;
 use estimates::put;
 use estimates::put_met;
-use relax::JOINS;
-use relax::SUMMARY;
+use model::limits::MAX_BLOCKS;
+use model::limits::SUMMARY_SIZE;
+use model::limits::SUMMARY_WIDTH;
+use model::limits::WORK_SIZE;
 use relax::clear_block;
 use relax::from_cue;
 use relax::settle;
@@ -37,10 +39,8 @@ ghost use Rattle.distance.specs.Starts.{JoinsAt, RowKept, JoinsKept};
 ghost use Rattle.distance.specs.Summaries.{partOf, RowsFilled, Below, PartFilled, HasSummaries};
 ghost use Rattle.distance.specs.Copies.{FromKept, FromAbove, copyOn, TellsWhole, keptSize, Risen, Source, Common, Sunk};
 
-// Numbers in the work area, and estimates kept on the way up: eight for each level.
-const WORK: usize = 16384;
-
-const KEPT: usize = 1024;
+// Estimates kept on the way up: eight for each level.
+const KEPT: usize = SUMMARY_WIDTH * MAX_BLOCKS as usize;
 
 // Summaries.
 
@@ -51,7 +51,7 @@ fn keep_row(v: &mut [u32], i: usize, d: &[u32], p: usize, m: usize)
 {
     let mut j = 0;
     while j < m {
-        v[JOINS * i + j] = d[p + j];
+        v[SUMMARY_WIDTH * i + j] = d[p + j];
         j += 1;
     }
 }
@@ -84,8 +84,8 @@ fn summarise_join(
     let first = wide(blocks::own(xs, t, k)) + 1;
     let m = blocks::joins(xs, t, k);
     from_cue(xs, t, work, k, first + i, d);
-    let a = SUMMARY * k;
-    let e = a + SUMMARY;
+    let a = SUMMARY_SIZE * k;
+    let e = a + SUMMARY_SIZE;
     keep_row(&mut work[a..e], i, d, first, m);
 }
 
@@ -96,8 +96,8 @@ fn summarise_block(xs: &[u32], t: &[u32; blocks::INDEX], k: usize, d: &mut [u32]
     ensures { λ _. ⌜ now (work .exit) ≡ take (summarySize * k) (now (work .entry)) ++ (summaryOf (blocksOf (now (xs .entry))) k ++ drop
         (summarySize * k + summarySize) (now (work .entry))) ⌝ }
 {
-    let a = SUMMARY * k;
-    let e = a + SUMMARY;
+    let a = SUMMARY_SIZE * k;
+    let e = a + SUMMARY_SIZE;
     fill(&mut work[a..e], NO_CHAIN);
     let m = blocks::joins(xs, t, k);
     let mut i = 0;
@@ -128,8 +128,8 @@ pub fn summarise(xs: &[u32], t: &[u32; blocks::INDEX], work: &mut [u32])
 {
     let blocks = blocks::last(xs, t) + 1;
     summarise_blocks(xs, t, blocks, work);
-    let a = SUMMARY * blocks;
-    fill(&mut work[a..WORK], 0);
+    let a = SUMMARY_SIZE * blocks;
+    fill(&mut work[a..WORK_SIZE], 0);
 }
 
 // The way up. Level 0 is the show, and row l of a place's rows leads from level l to level l + 1.
@@ -160,7 +160,7 @@ fn put_kept(
 {
     let r = wide(rows[l]);
     let m = blocks::joins(xs, t, blocks::used(xs, r));
-    put_met(xs, r, kept, JOINS * (l + 1), m, d);
+    put_met(xs, r, kept, SUMMARY_WIDTH * (l + 1), m, d);
 }
 
 // One level up: the estimates of the block at level l from what was kept for level l + 1.
@@ -235,7 +235,7 @@ fn enter(xs: &[u32], t: &[u32; blocks::INDEX], rows: &[u32], l: usize, d: &mut [
     let k = blocks::used(xs, r);
     let own = wide(blocks::own(xs, t, k));
     let m = blocks::joins(xs, t, k);
-    let mut e = [0u32; JOINS];
+    let mut e = [0u32; SUMMARY_WIDTH];
     gather(xs, r, d, m, &mut e);
     clear(d, own + m);
     put_joins(own + 1, &e, m, d);

@@ -4,12 +4,12 @@ use mathlib.Core.Path.{_≡_}
 use mathlib.Core.Logic.{_⊎_}
 use mathlib.Core.List.{List}
 use lib.ListN.{getD}
-use Rattle.model.specs.Limits.{noChain, maxJoins}
+use Rattle.model.specs.Limits.{noChain, maxJoins, maxOwn}
 use Rattle.blocks.specs.Loaded.{IsRow, columnAt}
 
 -- An estimate for each cue of a block, own or join, and one at 0.
 abbrev pub estimatesSize : ℕ
-estimatesSize = 264
+estimatesSize = maxOwn + maxJoins + 1
 
 -- begun a x: estimates begin with x at cue a.
 abbrev pub Beginnings : Type 1

@@ -4,6 +4,8 @@
 //
 // Of one estimate: `improve`, `put`. Of the cues that a use's row names: `put_met`, `gather`. Of
 // all of them: `clear`.
+use model::limits::MAX_JOINS;
+use model::limits::MAX_OWN;
 ghost use mathlib.Core.Path.{_≡_};
 ghost use Prim.Native.Nat.{_+_, _≤_, _<_};
 ghost use mathlib.Core.Logic.{_⊎_};
@@ -14,10 +16,10 @@ ghost use Rattle.estimates.specs.Rounds.{orb, One, Round, Fell};
 ghost use Rattle.estimates.specs.Starts.{Nowhere, Cell, Meets, MetAt, Started, Merged, Gathered};
 
 // No estimate, and no chain between two joins.
-pub const NO_CHAIN: u32 = 4294967295;
+pub const NO_CHAIN: u32 = model::limits::NO_CHAIN;
 
 // An estimate for each cue of a block, own or join, and one at 0.
-pub const ESTIMATES: usize = 264;
+pub const ESTIMATES: usize = (MAX_OWN + MAX_JOINS + 1) as usize;
 
 // Either of two tests.
 pub fn either(a: bool, b: bool) -> bool

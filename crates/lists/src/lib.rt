@@ -15,6 +15,9 @@ use blocks::total;
 use blocks::use_rows;
 use blocks::used;
 use blocks::wide;
+use model::limits::MAX_BLOCKS;
+use model::limits::MAX_LABEL;
+use model::limits::MAX_TOTAL;
 use neighbours::Ask;
 use neighbours::BITS;
 use neighbours::BLOCK;
@@ -44,16 +47,14 @@ ghost use Rattle.lists.specs.Copies.{innerBase, MayStep, Stepped, Column
 ghost use Rattle.lists.specs.Answer.{lowBlocks, linkedCues, labelledCues, IsListed, MayAnswer, Answered};
 
 // A table of the records of all 128 blocks, and a short one of the blocks below LOW.
-const TABLE: usize = 41984;
+const TABLE: usize = BLOCK * MAX_BLOCKS as usize;
 
 const LOW: usize = 32;
 
-const LOW_TABLE: usize = 10496;
+const LOW_TABLE: usize = BLOCK * LOW;
 
-// The most cues of a show, and the greatest label.
-const CUES: usize = 2147483647;
-
-const LABELS: u32 = 255;
+// The most cues of a show.
+const MAX_TOTAL_64: usize = MAX_TOTAL as usize;
 
 // How many cues were written, and whether there is a further one.
 pub struct Listed {
@@ -466,8 +467,8 @@ fn answer_from(xs: &[u32], t: &[u32; INDEX], q: Ask, z: Frame, c: u32, page: &mu
 fn room_of(size: usize) -> usize
     ensures { λ r. ⌜ r ≡ min size maxTotal ⌝ }
 {
-    if CUES < size {
-        return CUES;
+    if MAX_TOTAL_64 < size {
+        return MAX_TOTAL_64;
     }
     size
 }
@@ -517,7 +518,7 @@ pub fn list(
     let q = Ask {
         inward: inward,
         lo: 1,
-        hi: LABELS,
+        hi: MAX_LABEL,
         after: n,
         room: room,
     };

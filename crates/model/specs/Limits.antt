@@ -59,3 +59,7 @@ summaryWidth = 8
 -- "It is 4,294,967,295 where the block lacks either join or has no chain".
 abbrev pub noChain : ℕ
 noChain = 4294967295
+
+-- "Over 1,000 cues it prints `cues` and the count on two lines".
+abbrev pub printedCues : ℕ
+printedCues = 1000

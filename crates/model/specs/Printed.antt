@@ -5,7 +5,7 @@ use mathlib.Core.Bool.{Bool, true, false}
 use mathlib.Core.List.{List, [], _∷_, _++_, map, flatMap}
 use lib.Dec.{ltb}
 use Rattle.model.specs.Choice.{ifLt, ifEq}
-use Rattle.model.specs.Limits.{maxLabel}
+use Rattle.model.specs.Limits.{maxLabel, printedCues}
 use Rattle.model.specs.Values.{digitZero}
 use Rattle.model.specs.Text.{comma, lineFeed}
 use Rattle.model.specs.Blocks.{Link, Block, blocksOf, count}
@@ -57,7 +57,7 @@ refusalText r = refusalTitle ++ valuesText (r .number ∷ r .place ∷ [])
 -- "Over 1,000 cues it prints `cues` and the count on two lines".
 unfoldable pub showText : List Block → List ℕ
 showText bs =
-    ifLt 1000 (count bs)
+    ifLt printedCues (count bs)
     (cuesTitle ++ valuesText (count bs ∷ []))
     (linksTitle ++ flatMap (λ l. valuesText (l .from ∷ l .to ∷ l .label ∷ [])) (triples bs))
 

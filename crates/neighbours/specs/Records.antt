@@ -8,22 +8,22 @@ use mathlib.Core.List.{List}
 use lib.ListN.{length, getD}
 use lib.Bits.{bitOr}
 use Rattle.model.specs.Choice.{ifLt}
-use Rattle.model.specs.Limits.{maxJoins}
+use Rattle.model.specs.Limits.{maxJoins, maxOwn}
 use Rattle.blocks.specs.Loaded.{columnAt}
-
--- The bytes of a record, and of the records of a block's joins.
-abbrev pub recordSize : ℕ
-recordSize = 41
-
-abbrev pub blockSize : ℕ
-blockSize = 328
 
 -- Where in a record the flag for what is inside stands, and where the bits begin.
 abbrev pub insideAt : ℕ
-insideAt = 8
+insideAt = maxJoins
 
 abbrev pub bitsAt : ℕ
-bitsAt = 9
+bitsAt = insideAt + 1
+
+-- The bytes of a record, and of the records of a block's joins.
+abbrev pub recordSize : ℕ
+recordSize = bitsAt + (maxOwn + 7) / 8
+
+abbrev pub blockSize : ℕ
+blockSize = maxJoins * recordSize
 
 -- Where in a table the record of join i of block k begins.
 abbrev pub recordAt : ℕ → ℕ → ℕ

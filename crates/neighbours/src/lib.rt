@@ -15,6 +15,8 @@ use blocks::to;
 use blocks::use_rows;
 use blocks::used;
 use blocks::wide;
+use model::limits::MAX_JOINS;
+use model::limits::MAX_OWN;
 ghost use mathlib.Core.Path.{_≡_};
 ghost use Prim.Native.Nat.{_+_, _*_, _-_, _≤_, _<_};
 ghost use lib.ListN.{length, replicate};
@@ -28,18 +30,18 @@ ghost use Rattle.neighbours.specs.Near.{IsColumn, ByRow, Copied, Settled
 ghost use Rattle.neighbours.specs.Records.{recordSize, HasRecord, HasBlock, bitAt, setBit, IsCue, Added, IsJoinAt};
 
 // The most joins of a block.
-pub const JOINS: usize = 8;
+pub const JOINS: usize = MAX_JOINS as usize;
 
 // A record of marks: a flag for each join, then one for what is inside, then 32 bytes with a bit
 // for each own cue.
-pub const INSIDE: usize = 8;
+pub const INSIDE: usize = JOINS;
 
-pub const BITS: usize = 9;
+pub const BITS: usize = INSIDE + 1;
 
-pub const RECORD: usize = 41;
+pub const RECORD: usize = BITS + (MAX_OWN as usize + 7) / 8;
 
 // The records of a block's joins in a table.
-pub const BLOCK: usize = 328;
+pub const BLOCK: usize = JOINS * RECORD;
 
 // What is asked for: the cues that links with labels lo to hi lead to from the cue, or inward from
 // which they lead to it, that are greater than after; and how many of them may be written.

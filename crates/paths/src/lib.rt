@@ -6,6 +6,7 @@
 use blocks::INDEX;
 use blocks::Place;
 use blocks::wide;
+use model::limits::MAX_DEPTH;
 ghost use mathlib.Core.Path.{_≡_};
 ghost use Prim.Native.Nat.{_+_, _-_, _≤_, _<_};
 ghost use lib.ListN.{length, getD, drop};
@@ -18,9 +19,6 @@ ghost use Rattle.blocks.specs.Loaded.{Loaded};
 ghost use Rattle.blocks.specs.Places.{Takes, Found};
 ghost use Rattle.paths.specs.Locating.{usesOf, cuesOf, inCopy, inUses, MayLocate, Reached, placeOf, UseFrom, Down, Positions};
 ghost use Rattle.paths.specs.Numbering.{fromCopy, fromUses, MayNumber};
-
-// The most steps of a path.
-const DEPTH: usize = 127;
 
 // Where a way down ends: its depth, and the block and the own cue there.
 struct End {
@@ -90,7 +88,7 @@ fn locate_uses(
 }
 
 // Where cue v is; the rows of the uses that lead there go to a list that is long enough for every path.
-pub fn find(xs: &[u32], t: &[u32; INDEX], v: u32, rows: &mut [u32; DEPTH]) -> Place
+pub fn find(xs: &[u32], t: &[u32; INDEX], v: u32, rows: &mut [u32; MAX_DEPTH]) -> Place
     requires { ⌜ Loaded (now xs) (now t) × (1 ≤ v) × (v ≤ count (blocksOf (now xs))) ⌝ }
     ensures { λ r. ⌜ (r .cue ≡ v) × Found (now (xs .entry)) (now (t .entry)) (now (rows .exit)) r × (length (now (rows .exit)) ≡ maxDepth) ⌝ }
 {

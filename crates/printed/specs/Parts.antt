@@ -5,19 +5,20 @@ use mathlib.Core.Bool.{Bool, true, false}
 use mathlib.Core.List.{List, [], _++_, flatMap}
 use lib.ListN.{length, take}
 use Rattle.model.specs.Choice.{ifLt}
+use Rattle.model.specs.Limits.{printedCues}
 use Rattle.model.specs.Blocks.{Block, blocksOf, count}
 use Rattle.model.specs.Lists.{range}
 use Rattle.model.specs.Printed.{printed}
 use Rattle.model.specs.Unfolding.{showLinks}
 use Rattle.blocks.specs.Loaded.{Loaded}
-use Rattle.triples.specs.Marks.{marksSize, printedCues, Marked}
+use Rattle.triples.specs.Marks.{labelPlaces, marksSize, Marked}
 use Rattle.printing.specs.Stream.{cueLines, linesFrom}
 use Rattle.printed.specs.declared.Begun.{Begun}
 use Rattle.printed.specs.declared.At.{At}
 
 -- Where the places of n cues end in a table of marks.
 abbrev pub endOf : ℕ → ℕ
-endOf n = 256 * n + 256
+endOf n = labelPlaces * n + labelPlaces
 
 -- The lines of the links from the cues after u.
 unfoldable pub linesAfter : List Block → ℕ → List ℕ

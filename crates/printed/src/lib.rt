@@ -4,21 +4,23 @@ ghost use mathlib.Core.Path.{_≡_};
 ghost use mathlib.Core.Bool.{false};
 ghost use Prim.Native.Nat.{_+_, _*_, _≤_};
 ghost use lib.ListN.{length, replicate};
+ghost use Rattle.model.specs.Limits.{rowSize, maxRows};
 ghost use Rattle.model.specs.Blocks.{blocksOf};
+ghost use Rattle.verdicts.specs.Index.{indexSize};
 ghost use Rattle.printed.specs.Parts.{isGoing, Prints, Stands, Part, TextBegun};
-use blocks::INDEX;
 use model::ReadAnswer;
+use model::limits::MAX_ROWS;
+use model::limits::PRINTED_CUES;
+use model::limits::ROW_SIZE;
 
-// The places of a cue in a table of marks, and those of all cues.
-const WIDTH: usize = 256;
+// The places of a cue in a table of marks, and those of all cues; the numbers of an index of blocks, and of the rows of the largest show.
+pub const LABEL_PLACES: usize = triples::LABEL_PLACES;
 
-const MARKS: usize = 256256;
+pub const MARKS: usize = triples::MARKS;
 
-// The most cues of a show whose links are printed.
-const CUES: u32 = 1000;
+pub const INDEX: usize = blocks::INDEX;
 
-// The values of a row.
-const ROW: usize = 11;
+pub const ROOM: usize = MAX_ROWS * ROW_SIZE;
 
 // How the text begins: how many bytes there are so far and, if the lines of the links are still to come, how many numbers the rows have,
 // and how many cues there are.
@@ -56,16 +58,16 @@ fn whole(used: usize) -> Begun
 
 // Begins the text of a file. The rows that it has go to the beginning of a list, and their index to an empty table.
 pub fn begin(file: &[u8], rows: &mut [u32], t: &mut [u32; INDEX], out: &mut [u8; 64]) -> Begun
-    requires { ⌜ (now t ≡ replicate 512 0) × (11264 ≤ length (now rows)) ⌝ }
+    requires { ⌜ (now t ≡ replicate indexSize 0) × (maxRows * rowSize ≤ length (now rows)) ⌝ }
     ensures { λ r. ⌜ TextBegun (now (file .entry)) (now (rows .exit)) (now (t .exit)) (now (out .exit)) r ⌝ }
 {
     match show::read(file, rows) {
         ReadAnswer::Refused(refusal) => whole(printing::put_refusal(refusal, out)),
         ReadAnswer::Read(many, _, cues) => {
-            if CUES < cues {
+            if PRINTED_CUES < cues {
                 return whole(printing::put_count(cues, out));
             }
-            let size = wide(many) * ROW;
+            let size = wide(many) * ROW_SIZE;
             verdicts::check(&rows[0..size], t);
             let used = printing::put_links_title(out);
             Begun {
@@ -82,7 +84,7 @@ pub fn begin(file: &[u8], rows: &mut [u32], t: &mut [u32; INDEX], out: &mut [u8;
 pub fn going(cues: u32, from: u32, place: usize) -> bool
     ensures { λ r. ⌜ r ≡ isGoing cues from place ⌝ }
 {
-    let end = WIDTH * wide(cues) + WIDTH;
+    let end = LABEL_PLACES * wide(cues) + LABEL_PLACES;
     if place < end {
         return true;
     }
@@ -105,7 +107,7 @@ pub fn part(
     requires { ⌜ Prints (now xs) (now t) cues × Stands (blocksOf (now xs)) (now m) from place ⌝ }
     ensures { λ r. ⌜ Part (blocksOf (now (xs .entry))) from place (now (m .entry)) (now (out .entry)) r (now (m .exit)) (now (out .exit)) ⌝ }
 {
-    let end = WIDTH * wide(cues) + WIDTH;
+    let end = LABEL_PLACES * wide(cues) + LABEL_PLACES;
     if place < end {
         let filled = printing::fill(m, from, place, end, out);
         return At {
@@ -123,7 +125,7 @@ pub fn part(
     }
     let u = from + 1;
     triples::follow(xs, t, u, m);
-    let filled = printing::fill(m, u, WIDTH, end, out);
+    let filled = printing::fill(m, u, LABEL_PLACES, end, out);
     At {
         from: u,
         place: filled.place,

@@ -8,6 +8,7 @@ use Rattle.model.specs.Choice.{ifLt, ifEq}
 use Rattle.model.specs.Blocks.{Link}
 use Rattle.model.specs.Lists.{range, keep}
 use Rattle.model.specs.Printed.{numberText, valuesText, triplesOf}
+use Rattle.triples.specs.Marks.{labelPlaces}
 
 -- A number and the byte behind it.
 unfoldable pub endedText : ℕ → ℕ → List ℕ
@@ -21,9 +22,9 @@ linkLine l = valuesText (l .from ∷ l .to ∷ l .label ∷ [])
 abbrev pub cueLines : List Link → ℕ → ℕ → List ℕ
 cueLines E u n = flatMap (λ v. flatMap linkLine (triplesOf E u v)) (range 1 n)
 
--- The line of the link from cue u that place p stands for: it leads to cue p / 256 with label p % 256.
+-- The line of the link from cue u that place p stands for: it leads to cue p / labelPlaces with label p % labelPlaces.
 unfoldable pub lineOf : ℕ → ℕ → List ℕ
-lineOf u p = valuesText (u ∷ p / 256 ∷ p % 256 ∷ [])
+lineOf u p = valuesText (u ∷ p / labelPlaces ∷ p % labelPlaces ∷ [])
 
 -- Place p is marked.
 unfoldable pub marked : List ℕ → ℕ → Bool

@@ -1,5 +1,7 @@
 // The text that the unfolding program prints: numbers, lines and titles, put into lent bytes.
 use model::Refusal;
+use triples::LABEL_PLACES;
+use triples::MARKS;
 ghost use mathlib.Core.Path.{_≡_};
 ghost use mathlib.Core.List.{[], _∷_, _++_};
 ghost use Prim.Native.Nat.{_+_, _≤_, _<_, _%_};
@@ -15,9 +17,6 @@ const LINKS: [u8; 14] = *b"from,to,label\n";
 const CUES: [u8; 5] = *b"cues\n";
 
 const REFUSAL: [u8; 14] = *b"refusal,place\n";
-
-// The bytes of a table of marks: 256 for each cue up to 1,000, and for cue 0.
-const MARKS: usize = 256256;
 
 // The longest line: three numbers of ten digits, each with a byte behind it.
 const LINE: usize = 33;
@@ -88,8 +87,8 @@ fn put_place(u: u32, p: usize, out: &mut [u8], at: usize) -> usize
     requires { ⌜ (p < marksSize) × (at + 33 ≤ length (now out)) ⌝ }
     ensures { λ r. ⌜ Puts (lineOf u p) (now (out .entry)) at r (now (out .exit)) ⌝ }
 {
-    let to = (p / 256) as u32;
-    let label = (p % 256) as u32;
+    let to = (p / LABEL_PLACES) as u32;
+    let label = (p % LABEL_PLACES) as u32;
     put_line(u, to, label, out, at)
 }
 

@@ -10,6 +10,8 @@ use estimates::gather;
 use estimates::improve;
 use estimates::put;
 use estimates::put_met;
+use model::limits::SUMMARY_SIZE;
+use model::limits::SUMMARY_WIDTH;
 ghost use mathlib.Core.Path.{_≡_};
 ghost use Prim.Native.Nat.{_+_, _*_, _≤_, _<_};
 ghost use mathlib.Core.Logic.{_⊎_};
@@ -22,11 +24,6 @@ ghost use Rattle.estimates.specs.Rounds.{Round};
 ghost use Rattle.estimates.specs.Starts.{Nowhere, Meets, Started, estimatesSize};
 ghost use Rattle.relax.specs.Lines.{Least, Line, Lines, Alike};
 ghost use Rattle.relax.specs.Edges.{Mesh, LinkEdges, UseEdges, BlockEdge, cueCount, SettledOver, Only, SpreadIn};
-
-// Joins that a block has at most, and numbers in its summary.
-pub const JOINS: usize = 8;
-
-pub const SUMMARY: usize = 64;
 
 // The lesser of two numbers.
 fn least(a: u32, b: u32) -> u32
@@ -49,7 +46,7 @@ fn lower_line(work: &[u32], q: usize, x: u32, e: &mut [u32])
     ensures { λ _. ⌜ Line (now (work .entry)) q x (now (e .entry)) summaryWidth (now (e .exit)) ⌝ }
 {
     let mut j = 0;
-    while j < JOINS {
+    while j < SUMMARY_WIDTH {
         e[j] = lowered(e[j], x, work[q + j]);
         j += 1;
     }
@@ -71,8 +68,8 @@ fn lower_lines(work: &[u32], q: usize, g: &[u32], e: &mut [u32])
     ensures { λ _. ⌜ Lines (now (work .entry)) q (now (g .entry)) (now (e .entry)) summaryWidth (now (e .exit)) ⌝ }
 {
     let mut i = 0;
-    while i < JOINS {
-        lower_by(work, q + JOINS * i, g[i], e);
+    while i < SUMMARY_WIDTH {
+        lower_by(work, q + SUMMARY_WIDTH * i, g[i], e);
         i += 1;
     }
 }
@@ -94,7 +91,7 @@ fn differ(a: &[u32], b: &[u32]) -> bool
 {
     let mut found = false;
     let mut i = 0;
-    while i < JOINS {
+    while i < SUMMARY_WIDTH {
         let u = unlike(a[i], b[i]);
         found = either(found, u);
         i += 1;
@@ -108,7 +105,7 @@ fn relax_many(xs: &[u32], work: &[u32], r: usize, q: usize, m: usize, d: &mut [u
     requires { ⌜ Meets (now xs) r m (length (now d)) × (q + summarySize ≤ length (now work)) ⌝ }
     ensures { λ c. ⌜ Round (Mesh (now (xs .entry)) (now (work .entry)) r q m) (now (d .entry)) c (now (d .exit)) ⌝ }
 {
-    let mut old = [NO_CHAIN; JOINS];
+    let mut old = [NO_CHAIN; SUMMARY_WIDTH];
     gather(xs, r, d, m, &mut old);
     let mut new = old;
     lower_lines(work, q, &old, &mut new);
@@ -126,7 +123,7 @@ fn relax_pair(xs: &[u32], work: &[u32], r: usize, q: usize, d: &mut [u32]) -> bo
     let a = blocks::wide(blocks::column(xs, r, 0));
     let b = blocks::wide(blocks::column(xs, r, 1));
     let c = improve(d, a, b, work[q + 1]);
-    let e = improve(d, b, a, work[q + JOINS]);
+    let e = improve(d, b, a, work[q + SUMMARY_WIDTH]);
     either(c, e)
 }
 
@@ -175,7 +172,7 @@ fn relax_uses(xs: &[u32], t: &[u32; blocks::INDEX], work: &[u32], k: usize, d: &
     while r < rows.end {
         let b = blocks::used(xs, r);
         let m = blocks::joins(xs, t, b);
-        let c = relax_use(xs, work, r, SUMMARY * b, m, d);
+        let c = relax_use(xs, work, r, SUMMARY_SIZE * b, m, d);
         changed = either(changed, c);
         r += 1;
     }

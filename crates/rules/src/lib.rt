@@ -1,20 +1,16 @@
 // Checks 5 to 8 of one row, in lent rows at place p: the refusal's number, or 0.
+use model::limits::MAX_BLOCKS;
+use model::limits::MAX_JOINS;
+use model::limits::MAX_LABEL;
+use model::limits::MAX_OWN;
 ghost use mathlib.Core.Path.{_≡_};
 ghost use Prim.Native.Nat.{_+_, _-_, _≤_, _<_};
 ghost use lib.ListN.{length};
 ghost use Rattle.model.specs.Choice.{ifLt};
+ghost use Rattle.model.specs.Limits.{rowSize, maxJoins};
 ghost use Rattle.model.specs.Rules.{every, isCue, isZero, differs, distinct};
 ghost use Rattle.rules.specs.Cells.{cells, keyBelow};
 ghost use Rattle.rules.specs.Faults.{namedFault, openFault, linkOrder, useOrder, linkFault, useFault, faultOf};
-
-// The limits of the model, by their names there.
-const MAX_JOINS: u32 = 8;
-
-const MAX_OWN: u32 = 255;
-
-const MAX_LABEL: u32 = 255;
-
-const MAX_BLOCKS: u32 = 128;
 
 // The n numbers from p on are all cues of a block that has so many.
 fn every_cue(xs: &[u32], p: usize, n: usize, cues: u32) -> bool
@@ -47,7 +43,7 @@ fn left_over(x: u32, i: usize, many: usize) -> u32
 
 // Of the eight numbers from p on, all behind the first `many` are 0. All eight are read, with no exit: that is the fastest.
 fn every_zero(xs: &[u32], p: usize, many: usize) -> bool
-    requires { ⌜ (p + 8 ≤ length (now xs)) × (many ≤ 8) ⌝ }
+    requires { ⌜ (p + 8 ≤ length (now xs)) × (many ≤ maxJoins) ⌝ }
     ensures { λ r. ⌜ r ≡ every isZero (cells (now (xs .entry)) (p + many) (8 - many)) ⌝ }
 {
     let mut all = 0;
@@ -113,7 +109,7 @@ fn is_below(xs: &[u32], p: usize, q: usize, n: usize, a: u32, b: u32) -> bool
 
 // Checks 6 and 7 of the columns of a link or a use that names so many cues.
 fn named_fault(xs: &[u32], p: usize, many: usize, cues: u32) -> u32
-    requires { ⌜ (p + 11 ≤ length (now xs)) × (many ≤ 8) ⌝ }
+    requires { ⌜ (p + rowSize ≤ length (now xs)) × (many ≤ maxJoins) ⌝ }
     ensures { λ r. ⌜ r ≡ namedFault (now (xs .entry)) p many cues ⌝ }
 {
     if every_cue(xs, p + 3, many, cues) {
@@ -129,7 +125,7 @@ fn named_fault(xs: &[u32], p: usize, many: usize, cues: u32) -> u32
 }
 
 fn open_fault(xs: &[u32], p: usize, blocks: u32) -> u32
-    requires { ⌜ p + 11 ≤ length (now xs) ⌝ }
+    requires { ⌜ p + rowSize ≤ length (now xs) ⌝ }
     ensures { λ r. ⌜ r ≡ openFault (now (xs .entry)) p blocks ⌝ }
 {
     if xs[p] != blocks {
@@ -152,7 +148,7 @@ fn open_fault(xs: &[u32], p: usize, blocks: u32) -> u32
 
 // Check 8 of a link: q is the place of the row before, and before its kind.
 fn link_order(xs: &[u32], p: usize, q: usize, before: u32) -> u32
-    requires { ⌜ (p + 11 ≤ length (now xs)) × (q + 11 ≤ length (now xs)) ⌝ }
+    requires { ⌜ (p + rowSize ≤ length (now xs)) × (q + rowSize ≤ length (now xs)) ⌝ }
     ensures { λ r. ⌜ r ≡ linkOrder (now (xs .entry)) p q before ⌝ }
 {
     if before != 1 {
@@ -166,7 +162,7 @@ fn link_order(xs: &[u32], p: usize, q: usize, before: u32) -> u32
 
 // Check 8 of a use.
 fn use_order(xs: &[u32], p: usize, q: usize, before: u32) -> u32
-    requires { ⌜ (p + 11 ≤ length (now xs)) × (q + 11 ≤ length (now xs)) ⌝ }
+    requires { ⌜ (p + rowSize ≤ length (now xs)) × (q + rowSize ≤ length (now xs)) ⌝ }
     ensures { λ r. ⌜ r ≡ useOrder (now (xs .entry)) p q before ⌝ }
 {
     if before != 2 {
@@ -179,7 +175,7 @@ fn use_order(xs: &[u32], p: usize, q: usize, before: u32) -> u32
 }
 
 fn link_fault(xs: &[u32], p: usize, q: usize, blocks: u32, cues: u32, before: u32) -> u32
-    requires { ⌜ (p + 11 ≤ length (now xs)) × (q + 11 ≤ length (now xs)) ⌝ }
+    requires { ⌜ (p + rowSize ≤ length (now xs)) × (q + rowSize ≤ length (now xs)) ⌝ }
     ensures { λ r. ⌜ r ≡ linkFault (now (xs .entry)) p q blocks cues before ⌝ }
 {
     let block = xs[p];
@@ -216,7 +212,7 @@ fn use_fault(
     before: u32,
     many: usize,
 ) -> u32
-    requires { ⌜ (p + 11 ≤ length (now xs)) × (q + 11 ≤ length (now xs)) × (many ≤ 8) ⌝ }
+    requires { ⌜ (p + rowSize ≤ length (now xs)) × (q + rowSize ≤ length (now xs)) × (many ≤ maxJoins) ⌝ }
     ensures { λ r. ⌜ r ≡ useFault (now (xs .entry)) p q blocks cues before many ⌝ }
 {
     let block = xs[p];
@@ -247,7 +243,7 @@ pub fn fault(
     before: u32,
     many: usize,
 ) -> u32
-    requires { ⌜ (p + 11 ≤ length (now xs)) × (q + 11 ≤ length (now xs)) × (many ≤ 8) ⌝ }
+    requires { ⌜ (p + rowSize ≤ length (now xs)) × (q + rowSize ≤ length (now xs)) × (many ≤ maxJoins) ⌝ }
     ensures { λ r. ⌜ r ≡ faultOf (now (xs .entry)) p q blocks cues before many ⌝ }
 {
     let kind = xs[p + 1];

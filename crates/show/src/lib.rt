@@ -7,6 +7,7 @@ ghost use Rattle.model.specs.Questions.{outcome, readAsked, writeAsked, countAs
 ghost use Rattle.answers.specs.Asked.{listAsked};
 use blocks::INDEX;
 use codec::Parsed;
+use codec::ROOM;
 use model::CountAnswer;
 use model::FewestAnswer;
 use model::ListAnswer;
@@ -16,13 +17,8 @@ use model::ReadAnswer;
 use model::Refusal;
 use model::Verdict;
 use model::WriteAnswer;
-
-// The values of a row, the most rows of a show, and the numbers of them all.
-const ROW: usize = 11;
-
-const MAX_ROWS: usize = 1024;
-
-const ROOM: usize = 11264;
+use model::limits::MAX_ROWS;
+use model::limits::ROW_SIZE;
 
 // The count of cues.
 pub fn count(rows: &[u32]) -> CountAnswer
@@ -71,7 +67,7 @@ pub fn read(file: &[u8], rows: &mut [u32]) -> ReadAnswer
                     place: 0,
                 });
             }
-            let end = many * ROW;
+            let end = many * ROW_SIZE;
             answers::read_rows(&numbers[0..end], rows)
         }
     }

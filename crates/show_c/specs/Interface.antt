@@ -18,12 +18,16 @@ code r = r .number * 4294967296 + r .place
 unfoldable pub givenAfter : Returned → List ℕ → List ℕ
 givenAfter r given = overwrite (r .values) given
 
--- `given` has at least 3 numbers, or that is refusal 11: after the refusals of the rows or the file, and before 12 and 13.
+-- How many numbers `given` has at least: an answer has up to three values.
+abbrev pub givenSize : ℕ
+givenSize = 3
+
+-- A shorter one is refusal 11: after the refusals of the rows or the file, and before 12 and 13.
 unfoldable pub withGiven : List ℕ → Verdict → Returned → Returned
-withGiven given v r = ifLt (length given) 3 (onAccepted v (λ f. returned f) (returned (refusal 11 0))) r
+withGiven given v r = ifLt (length given) givenSize (onAccepted v (λ f. returned f) (returned (refusal 11 0))) r
 
 unfoldable pub alsoGiven : List ℕ → Verdict → List ℕ → Outcome → Outcome
-alsoGiven given v lent o = ifLt (length given) 3 (onAccepted v (λ f. refuse f lent) (refuse (refusal 11 0) lent)) o
+alsoGiven given v lent o = ifLt (length given) givenSize (onAccepted v (λ f. refuse f lent) (refuse (refusal 11 0) lent)) o
 
 -- The number where `given` is too short.
 unfoldable pub shortOf : Verdict → ℕ

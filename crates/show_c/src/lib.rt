@@ -8,7 +8,7 @@ ghost use Rattle.model.specs.Lists.{overwrite};
 ghost use Rattle.model.specs.Answers.{flag, ofList};
 ghost use Rattle.model.specs.Verdicts.{verdict, fileVerdict};
 ghost use Rattle.model.specs.Questions.{readAsked, writeAsked, countAsked, locateAsked, numberAsked, outAsked, inAsked, fewestAsked};
-ghost use Rattle.show_c.specs.Interface.{withGiven, alsoGiven, shortOf, Told, Wrote};
+ghost use Rattle.show_c.specs.Interface.{givenSize, withGiven, alsoGiven, shortOf, Told, Wrote};
 use model::CountAnswer;
 use model::FewestAnswer;
 use model::ListAnswer;
@@ -17,6 +17,9 @@ use model::NumberAnswer;
 use model::ReadAnswer;
 use model::Refusal;
 use model::WriteAnswer;
+
+// The least length of `given`.
+const GIVEN_SIZE: usize = 3;
 
 // A number of 32 bits in 64.
 fn long(x: u32) -> u64
@@ -65,7 +68,7 @@ fn flag_of(yes: bool) -> u32
 
 // Values told: they stand first in `given`, and 0 is returned.
 fn tell_1(given: &mut [u32], a: u32) -> u64
-    requires { ⌜ 3 ≤ length (now given) ⌝ }
+    requires { ⌜ givenSize ≤ length (now given) ⌝ }
     ensures { λ r. ⌜ (r ≡ 0) × (now (given .exit) ≡ overwrite (a ∷ []) (now (given .entry))) ⌝ }
 {
     given[0] = a;
@@ -73,7 +76,7 @@ fn tell_1(given: &mut [u32], a: u32) -> u64
 }
 
 fn tell_2(given: &mut [u32], a: u32, b: u32) -> u64
-    requires { ⌜ 3 ≤ length (now given) ⌝ }
+    requires { ⌜ givenSize ≤ length (now given) ⌝ }
     ensures { λ r. ⌜ (r ≡ 0) × (now (given .exit) ≡ overwrite (a ∷ b ∷ []) (now (given .entry))) ⌝ }
 {
     given[1] = b;
@@ -81,7 +84,7 @@ fn tell_2(given: &mut [u32], a: u32, b: u32) -> u64
 }
 
 fn tell_3(given: &mut [u32], a: u32, b: u32, c: u32) -> u64
-    requires { ⌜ 3 ≤ length (now given) ⌝ }
+    requires { ⌜ givenSize ≤ length (now given) ⌝ }
     ensures { λ r. ⌜ (r ≡ 0) × (now (given .exit) ≡ overwrite (a ∷ b ∷ c ∷ []) (now (given .entry))) ⌝ }
 {
     given[2] = c;
@@ -90,7 +93,7 @@ fn tell_3(given: &mut [u32], a: u32, b: u32, c: u32) -> u64
 
 // What is told of a list: cues written, whether there are more (0 or 1).
 fn tell_page(answer: ListAnswer, given: &mut [u32]) -> u64
-    requires { ⌜ 3 ≤ length (now given) ⌝ }
+    requires { ⌜ givenSize ≤ length (now given) ⌝ }
     ensures { λ c. ⌜ Told c (now (given .entry)) (now (given .exit)) (ofList answer) ⌝ }
 {
     match answer {
@@ -104,7 +107,7 @@ fn tell_page(answer: ListAnswer, given: &mut [u32]) -> u64
 pub extern "C" fn show_count(rows: &[u32], given: &mut [u32]) -> u64
     ensures { λ c. ⌜ Told c (now (given .entry)) (now (given .exit)) (withGiven (now (given .entry)) (verdict (now (rows .entry))) (countAsked (now (rows .entry)))) ⌝ }
 {
-    if given.len() < 3 {
+    if given.len() < GIVEN_SIZE {
         return short_rows(rows);
     }
     match show::count(rows) {
@@ -118,7 +121,7 @@ pub extern "C" fn show_count(rows: &[u32], given: &mut [u32]) -> u64
 pub extern "C" fn show_number(rows: &[u32], path: &[u32], own: u32, given: &mut [u32]) -> u64
     ensures { λ c. ⌜ Told c (now (given .entry)) (now (given .exit)) (withGiven (now (given .entry)) (verdict (now (rows .entry))) (numberAsked (now (rows .entry)) (now (path .entry)) own)) ⌝ }
 {
-    if given.len() < 3 {
+    if given.len() < GIVEN_SIZE {
         return short_rows(rows);
     }
     match show::number(rows, path, own) {
@@ -132,7 +135,7 @@ pub extern "C" fn show_number(rows: &[u32], path: &[u32], own: u32, given: &mut 
 pub extern "C" fn show_locate(rows: &[u32], n: u32, path: &mut [u32], given: &mut [u32]) -> u64
     ensures { λ c. ⌜ Wrote c (now (given .entry)) (now (given .exit)) (now (path .exit)) (alsoGiven (now (given .entry)) (verdict (now (rows .entry))) (now (path .entry)) (locateAsked (now (rows .entry)) n (now (path .entry)))) ⌝ }
 {
-    if given.len() < 3 {
+    if given.len() < GIVEN_SIZE {
         return short_rows(rows);
     }
     match show::locate(rows, n, path) {
@@ -146,7 +149,7 @@ pub extern "C" fn show_locate(rows: &[u32], n: u32, path: &mut [u32], given: &mu
 pub extern "C" fn show_write(rows: &[u32], out: &mut [u8], given: &mut [u32]) -> u64
     ensures { λ c. ⌜ Wrote c (now (given .entry)) (now (given .exit)) (now (out .exit)) (alsoGiven (now (given .entry)) (verdict (now (rows .entry))) (now (out .entry)) (writeAsked (now (rows .entry)) (now (out .entry)))) ⌝ }
 {
-    if given.len() < 3 {
+    if given.len() < GIVEN_SIZE {
         return short_rows(rows);
     }
     match show::write(rows, out) {
@@ -160,7 +163,7 @@ pub extern "C" fn show_write(rows: &[u32], out: &mut [u8], given: &mut [u32]) ->
 pub extern "C" fn show_read(file: &[u8], rows: &mut [u32], given: &mut [u32]) -> u64
     ensures { λ c. ⌜ Wrote c (now (given .entry)) (now (given .exit)) (now (rows .exit)) (alsoGiven (now (given .entry)) (fileVerdict (now (file .entry))) (now (rows .entry)) (readAsked (now (file .entry)) (now (rows .entry)))) ⌝ }
 {
-    if given.len() < 3 {
+    if given.len() < GIVEN_SIZE {
         return short_file(file);
     }
     match show::read(file, rows) {
@@ -180,7 +183,7 @@ pub extern "C" fn show_list_out(
 ) -> u64
     ensures { λ c. ⌜ Wrote c (now (given .entry)) (now (given .exit)) (now (page .exit)) (alsoGiven (now (given .entry)) (verdict (now (rows .entry))) (now (page .entry)) (outAsked (now (rows .entry)) v n (now (page .entry)))) ⌝ }
 {
-    if given.len() < 3 {
+    if given.len() < GIVEN_SIZE {
         return short_rows(rows);
     }
     tell_page(show::list_out(rows, v, n, page), given)
@@ -197,7 +200,7 @@ pub extern "C" fn show_list_in(
 ) -> u64
     ensures { λ c. ⌜ Wrote c (now (given .entry)) (now (given .exit)) (now (page .exit)) (alsoGiven (now (given .entry)) (verdict (now (rows .entry))) (now (page .entry)) (inAsked (now (rows .entry)) v n (now (page .entry)))) ⌝ }
 {
-    if given.len() < 3 {
+    if given.len() < GIVEN_SIZE {
         return short_rows(rows);
     }
     tell_page(show::list_in(rows, v, n, page), given)
@@ -214,7 +217,7 @@ pub extern "C" fn show_fewest(
 ) -> u64
     ensures { λ c. ⌜ Wrote c (now (given .entry)) (now (given .exit)) (now (work .exit)) (alsoGiven (now (given .entry)) (verdict (now (rows .entry))) (now (work .entry)) (fewestAsked (now (rows .entry)) s t (now (work .entry)))) ⌝ }
 {
-    if given.len() < 3 {
+    if given.len() < GIVEN_SIZE {
         return short_rows(rows);
     }
     match show::fewest(rows, s, t, work) {

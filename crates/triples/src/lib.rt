@@ -3,41 +3,41 @@
 use blocks::INDEX;
 use blocks::Place;
 use blocks::wide;
+use model::limits::MAX_DEPTH;
+use model::limits::MAX_LABEL;
+use model::limits::PRINTED_CUES;
 ghost use mathlib.Core.Path.{_≡_};
 ghost use Prim.Native.Nat.{_+_, _≤_, _<_};
 ghost use lib.ListN.{length, take};
+ghost use Rattle.model.specs.Limits.{printedCues};
 ghost use Rattle.model.specs.Blocks.{blocksOf, count};
 ghost use Rattle.model.specs.Unfolding.{showLinks};
 ghost use Rattle.lists.specs.Answer.{labelledCues};
 ghost use Rattle.blocks.specs.Loaded.{Loaded};
-ghost use Rattle.triples.specs.Marks.{marksSize, printedCues, Blank, marksAll, PageWithin, Aims, TableTo, Marked, Says, GroupEnd};
+ghost use Rattle.triples.specs.Marks.{labelPlaces, marksSize, Blank, marksAll, PageWithin, Aims, TableTo, Marked, Says, GroupEnd};
 
-// The places of a table: 256 for each cue from 0 to 1,000, the most of a show that is printed.
-const WIDTH: usize = 256;
+// The places of a cue in a table, one for each label from 0 on; and of a table, for each cue from 0 to the most of a
+// show that is printed.
+pub const LABEL_PLACES: usize = MAX_LABEL as usize + 1;
 
-const MARKS: usize = 256256;
+pub const MARKS: usize = LABEL_PLACES * (PRINTED_CUES_64 + 1);
 
-const CUES: usize = 1000;
+const PRINTED_CUES_64: usize = PRINTED_CUES as usize;
 
-// The last label, and how many labels are asked for at a time.
-const LAST: u32 = 255;
-
+// How many labels are asked for at a time.
 const GROUP: u32 = 16;
-
-// The most uses that lead to a place.
-const DEPTH: usize = 127;
 
 // ---- a page
 
 // Marks a label of the first n cues of a page.
-fn mark_cues(page: &[u32; CUES], n: usize, label: usize, m: &mut [u8; MARKS])
-    requires { ⌜ (n ≤ printedCues) × (label < 256) × PageWithin (now page) n × (length (now m) ≡ marksSize) ⌝ }
+fn mark_cues(page: &[u32; PRINTED_CUES_64], n: usize, label: usize, m: &mut [u8; MARKS])
+    requires { ⌜ (n ≤ printedCues) × (label < labelPlaces) × PageWithin (now page) n × (length (now m) ≡ marksSize) ⌝ }
     ensures { λ _. ⌜ now (m .exit) ≡ marksAll (take n (now (page .entry))) label (now (m .entry)) ⌝ }
 {
     let mut i = 0;
     while i < n {
         let v = wide(page[i]);
-        m[WIDTH * v + label] = 1;
+        m[LABEL_PLACES * v + label] = 1;
         i += 1;
     }
 }
@@ -49,14 +49,14 @@ fn mark_label(
     xs: &[u32],
     t: &[u32; INDEX],
     place: Place,
-    rows: &[u32; DEPTH],
+    rows: &[u32; MAX_DEPTH],
     label: u32,
     m: &mut [u8; MARKS],
 )
-    requires { ⌜ Aims (now xs) (now t) (now rows) place × (1 ≤ label) × (label < 256) × TableTo (now xs) (place .cue) label (now m) ⌝ }
+    requires { ⌜ Aims (now xs) (now t) (now rows) place × (1 ≤ label) × (label < labelPlaces) × TableTo (now xs) (place .cue) label (now m) ⌝ }
     ensures { λ _. ⌜ TableTo (now (xs .entry)) (place .cue) (label + 1) (now (m .exit)) ⌝ }
 {
-    let mut page = [0u32; CUES];
+    let mut page = [0u32; PRINTED_CUES_64];
     let listed = lists::list_labels(xs, t, label, label, place, rows, &mut page);
     mark_cues(&page, wide(listed.written), wide(label), m);
 }
@@ -66,7 +66,7 @@ fn has_labels(
     xs: &[u32],
     t: &[u32; INDEX],
     place: Place,
-    rows: &[u32; DEPTH],
+    rows: &[u32; MAX_DEPTH],
     lo: u32,
     hi: u32,
 ) -> bool
@@ -84,7 +84,7 @@ fn mark_labels(
     xs: &[u32],
     t: &[u32; INDEX],
     place: Place,
-    rows: &[u32; DEPTH],
+    rows: &[u32; MAX_DEPTH],
     lo: u32,
     hi: u32,
     m: &mut [u8; MARKS],
@@ -104,7 +104,7 @@ fn mark_group(
     xs: &[u32],
     t: &[u32; INDEX],
     place: Place,
-    rows: &[u32; DEPTH],
+    rows: &[u32; MAX_DEPTH],
     lo: u32,
     hi: u32,
     m: &mut [u8; MARKS],
@@ -120,23 +120,29 @@ fn mark_group(
 
 // The last label of the group that begins with lo.
 fn group_end(lo: u32) -> u32
-    requires { ⌜ lo < 256 ⌝ }
+    requires { ⌜ lo < labelPlaces ⌝ }
     ensures { λ hi. ⌜ GroupEnd lo hi ⌝ }
 {
     let hi = lo + (GROUP - 1);
-    if LAST < hi {
-        return LAST;
+    if MAX_LABEL < hi {
+        return MAX_LABEL;
     }
     hi
 }
 
 // Marks all labels, group by group.
-fn mark_all(xs: &[u32], t: &[u32; INDEX], place: Place, rows: &[u32; DEPTH], m: &mut [u8; MARKS])
+fn mark_all(
+    xs: &[u32],
+    t: &[u32; INDEX],
+    place: Place,
+    rows: &[u32; MAX_DEPTH],
+    m: &mut [u8; MARKS],
+)
     requires { ⌜ Aims (now xs) (now t) (now rows) place × TableTo (now xs) (place .cue) 1 (now m) ⌝ }
-    ensures { λ _. ⌜ TableTo (now (xs .entry)) (place .cue) 256 (now (m .exit)) ⌝ }
+    ensures { λ _. ⌜ TableTo (now (xs .entry)) (place .cue) labelPlaces (now (m .exit)) ⌝ }
 {
     let mut lo = 1;
-    while lo <= LAST {
+    while lo <= MAX_LABEL {
         let hi = group_end(lo);
         mark_group(xs, t, place, rows, lo, hi, m);
         lo = hi + 1;
@@ -163,7 +169,7 @@ pub fn follow(xs: &[u32], t: &[u32; INDEX], u: u32, m: &mut [u8; MARKS])
     ensures { λ _. ⌜ Marked (showLinks (blocksOf (now (xs .entry)))) u (count (blocksOf (now (xs .entry)))) (now (m .exit)) ⌝ }
 {
     clear(m);
-    let mut rows = [0u32; DEPTH];
+    let mut rows = [0u32; MAX_DEPTH];
     let place = paths::find(xs, t, u, &mut rows);
     mark_all(xs, t, place, &rows, m);
 }

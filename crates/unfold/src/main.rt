@@ -1,10 +1,10 @@
 // The unfolding program: reads a show file from standard input and prints its links, or how many cues it has, or why it is refused.
+use model::limits::MAX_BYTES;
+use printed::INDEX;
+use printed::LABEL_PLACES;
+use printed::MARKS;
+use printed::ROOM;
 ghost use Rattle.printed.specs.Parts.{Prints};
-
-// The places of a cue in a table of marks, and those of all cues.
-const WIDTH: usize = 256;
-
-const MARKS: usize = 256256;
 
 // The bytes of a part of the text, and of its title.
 const BUFFER: usize = 65536;
@@ -12,12 +12,7 @@ const BUFFER: usize = 65536;
 const TITLE: usize = 64;
 
 // One byte more than a file may have.
-const FILE: usize = 65537;
-
-// The numbers of the rows of the largest show, and of an index of blocks.
-const ROOM: usize = 11264;
-
-const INDEX: usize = 512;
+const FILE: usize = MAX_BYTES + 1;
 
 // Prints the lines of all links of a loaded show, part by part.
 fn print_links(xs: &[u32], t: &[u32; INDEX], cues: u32)
@@ -26,7 +21,7 @@ fn print_links(xs: &[u32], t: &[u32; INDEX], cues: u32)
     let mut marks = [0u8; MARKS];
     let mut out = [0u8; BUFFER];
     let mut from = 0;
-    let mut place = WIDTH * (cues as usize) + WIDTH;
+    let mut place = LABEL_PLACES * (cues as usize) + LABEL_PLACES;
     while printed::going(cues, from, place) {
         let at = printed::part(xs, t, cues, from, place, &mut marks, &mut out);
         let written = io::write_all(1, &out[..at.used]);

@@ -1,12 +1,9 @@
 // A value at a place of a text, with the byte that ends it: up to five digits, with zeros in front or not, and no more than 65,535. Every kind of file
 // has its values so, and nothing here knows of show files. Others call value_at.
+use model::limits::MAX_DIGITS;
+use model::limits::MAX_VALUE;
 ghost use mathlib.Core.Path.{_≡_};
 ghost use Rattle.values.specs.Fields.{figureAt, endedAt, valueAt};
-
-// The largest value, and how many digits a value has at most.
-const MAX_VALUE: u32 = 65535;
-
-const MAX_DIGITS: usize = 5;
 
 // A value in a text: the number, and the place behind the byte that ends it.
 pub enum Field {

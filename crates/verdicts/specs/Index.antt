@@ -3,6 +3,7 @@ use Prim.Native.Nat.{ℕ, zero, suc, _+_, _*_, _-_, _≤_, _<_}
 use mathlib.Core.Path.{_≡_}
 use mathlib.Core.List.{List, [], _∷_}
 use lib.ListN.{length, getD, take}
+use Rattle.model.specs.Limits.{maxBlocks}
 use Rattle.model.specs.Rows.{cell, rowAt, rowCount}
 use Rattle.model.specs.Blocks.{Link, Use, Block, blockAt, joinsOf, total, blocksOf}
 
@@ -27,6 +28,10 @@ unfoldable pub blockFrom : List ℕ → List Block → ℕ → ℕ → ℕ → B
 blockFrom xs bs f u e =
     record { joins = cell xs f 2; own = cell xs f 3; links = linksFrom xs (f + 1) (u - (f + 1)); uses = usesFrom xs bs u (e - u) }
 
+-- The numbers of the index: four for each of the most blocks.
+abbrev pub indexSize : ℕ
+indexSize = 4 * maxBlocks
+
 -- The four numbers of block k.
 pub record IndexedBlock (xs t : List ℕ) (k : ℕ) : Type 0 where
   pub opens : getD t (4 * k) 0 < getD t (4 * k + 1) 0
@@ -37,5 +42,5 @@ pub record IndexedBlock (xs t : List ℕ) (k : ℕ) : Type 0 where
 
 -- The table of accepted rows.
 pub record Indexed (xs t : List ℕ) : Type 0 where
-  pub size : length t ≡ 512
+  pub size : length t ≡ indexSize
   pub at : (k : ℕ) → k < length (blocksOf xs) → IndexedBlock xs t k

@@ -5,20 +5,16 @@ use mathlib.Core.Bool.{Bool, true, false}
 use mathlib.Core.List.{List, []}
 use lib.ListN.{length, getD, set, replicate}
 use Rattle.model.specs.Choice.{ifLt, ifEq, ifTrue}
-use Rattle.model.specs.Limits.{maxTotal}
+use Rattle.model.specs.Limits.{rowSize, maxJoins, maxOwn, maxRows, maxTotal}
 use Rattle.model.specs.Rows.{rowAt, rowsFrom}
 use Rattle.model.specs.Rules.{Seen, start, fault, after}
 use Rattle.model.specs.Blocks.{Block, addRow}
 use Rattle.model.specs.Verdicts.{refused, checkRows, verdict}
 use Rattle.model.specs.declared.Verdict.{Verdict}
 use Rattle.model.specs.declared.Verdict.the-variants.{Accepted}
-use Rattle.verdicts.specs.Index.{Indexed}
+use Rattle.verdicts.specs.Index.{indexSize, Indexed}
 use Rattle.verdicts.specs.declared.State.{State}
 use Rattle.verdicts.specs.declared.Scan.{Scan}
-
--- The numbers of the index: four for each of 128 blocks.
-abbrev pub indexSize : ℕ
-indexSize = 512
 
 -- A total, or one more than the largest where it is too large.
 unfoldable pub capped : ℕ → ℕ
@@ -26,21 +22,21 @@ capped n = ifLt maxTotal n (maxTotal + 1) n
 
 -- The joins of block k, as the table and the rows have them.
 unfoldable pub joinsAt : List ℕ → List ℕ → ℕ → ℕ
-joinsAt xs t k = getD xs (getD t (k * 4) 0 * 11 + 2) 0
+joinsAt xs t k = getD xs (getD t (k * 4) 0 * rowSize + 2) 0
 
 -- Those of the block that a use at p names.
 unfoldable pub manyOf : List ℕ → List ℕ → ℕ → ℕ → ℕ
 manyOf xs t p blocks =
     ifEq (getD xs (p + 1) 0) 2
-    (ifLt (getD xs (p + 2) 0) blocks (ifLt 8 (joinsAt xs t (getD xs (p + 2) 0)) 0 (joinsAt xs t (getD xs (p + 2) 0))) 0)
+    (ifLt (getD xs (p + 2) 0) blocks (ifLt maxJoins (joinsAt xs t (getD xs (p + 2) 0)) 0 (joinsAt xs t (getD xs (p + 2) 0))) 0)
     0
 
 pub record Many (many r : ℕ) : Type 0 where
   pub same : r ≡ many
-  pub few : r ≤ 8
+  pub few : r ≤ maxJoins
 
 unfoldable pub cuesOf : ℕ → ℕ → ℕ
-cuesOf own joins = ifLt 255 own 0 (ifLt 8 joins 0 (own + joins))
+cuesOf own joins = ifLt maxOwn own 0 (ifLt maxJoins joins 0 (own + joins))
 
 -- A number put into the table, if it has the place.
 unfoldable pub putAt : List ℕ → ℕ → ℕ → List ℕ
@@ -72,12 +68,12 @@ seenTo xs (suc r) = after (seenTo xs r) (rowAt xs r)
 
 unfoldable pub stateTo : List ℕ → ℕ → State
 stateTo xs zero = record { blocks = 0; cues = 0; kind = 0 }
-stateTo xs (suc r) = nextState xs (r * 11) (stateTo xs r)
+stateTo xs (suc r) = nextState xs (r * rowSize) (stateTo xs r)
 
 unfoldable pub tableTo : List ℕ → ℕ → List ℕ
 tableTo xs zero = replicate indexSize 0
 tableTo xs (suc r) =
-    noted (tableTo xs r) (getD xs (r * 11) 0) (getD xs (r * 11 + 1) 0) (getD xs (r * 11 + 2) 0) (getD xs (r * 11 + 3) 0) r
+    noted (tableTo xs r) (getD xs (r * rowSize) 0) (getD xs (r * rowSize + 1) 0) (getD xs (r * rowSize + 2) 0) (getD xs (r * rowSize + 3) 0) r
 
 unfoldable pub blocksTo : List ℕ → ℕ → List Block
 blocksTo xs zero = []
@@ -97,7 +93,7 @@ pub record Scanned (xs : List ℕ) (n : ℕ) (t : List ℕ) (r : Scan) : Type 0 
 
 -- Checks 9 and 10 of block k, by the table.
 unfoldable pub ownAt : List ℕ → List ℕ → ℕ → ℕ
-ownAt xs t k = getD xs (getD t (k * 4) 0 * 11 + 3) 0
+ownAt xs t k = getD xs (getD t (k * 4) 0 * rowSize + 3) 0
 
 unfoldable pub standsAt : List ℕ → List ℕ → ℕ → ℕ → Bool
 standsAt xs t blocks k =
@@ -113,7 +109,7 @@ passesAt number xs t blocks k = ifEq number 9 (standsAt xs t blocks k) (fitsAt t
 
 -- The number of the row with so many rows before it.
 unfoldable pub rowNumber : ℕ → ℕ
-rowNumber r = ifLt r 1024 (r + 1) 0
+rowNumber r = ifLt r maxRows (r + 1) 0
 
 -- The opening row of the first of so many blocks from k on that fails a test, or 0.
 unfoldable pub placeFrom : (ℕ → Bool) → List ℕ → ℕ → ℕ → ℕ
@@ -125,7 +121,7 @@ placed number p = ifEq p 0 Accepted (refused number p)
 
 -- How many rows are lent: 0 if they meet refusal 4.
 unfoldable pub rowsIn : List ℕ → ℕ
-rowsIn xs = ifEq (length xs % 11) 0 (ifLt 1024 (length xs / 11) 0 (length xs / 11)) 0
+rowsIn xs = ifEq (length xs % rowSize) 0 (ifLt maxRows (length xs / rowSize) 0 (length xs / rowSize)) 0
 
 -- The verdict by what the pass found and the table it left.
 unfoldable pub judged : List ℕ → List ℕ → ℕ → ℕ → ℕ → ℕ → Verdict

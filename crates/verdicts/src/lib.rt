@@ -6,34 +6,33 @@ ghost use mathlib.Core.Path.{_≡_};
 ghost use mathlib.Core.Bool.{true};
 ghost use Prim.Native.Nat.{_+_, _*_, _-_, _≤_, _<_};
 ghost use lib.ListN.{length, getD, replicate};
-ghost use Rattle.verdicts.specs.Passing.{indexSize, capped, joinsAt, manyOf, Many, cuesOf, putAt, notedOpen, notedUse, noted, nextState, Scanned, ownAt, standsAt, passesAt, rowNumber, placeFrom, rowsIn, judged, IsChecked};
+ghost use Rattle.verdicts.specs.Index.{indexSize};
+ghost use Rattle.verdicts.specs.Passing.{capped, joinsAt, manyOf, Many, cuesOf, putAt, notedOpen, notedUse, noted, nextState, Scanned, ownAt, standsAt, passesAt, rowNumber, placeFrom, rowsIn, judged, IsChecked};
 ghost use Rattle.model.specs.Limits.{rowSize, maxRows};
 ghost use Rattle.model.specs.Verdicts.{refused};
 use model::Refusal;
 use model::Verdict;
+use model::limits::MAX_BLOCKS;
+use model::limits::MAX_JOINS;
+use model::limits::MAX_OWN;
+use model::limits::MAX_ROWS;
+use model::limits::MAX_TOTAL;
+use model::limits::ROW_SIZE;
 
-// The values of a row, and limits of the model by their names there, in the widths that the code compares them in.
-const ROW: usize = 11;
+// Limits in the other widths that the code compares them in.
+const MAX_TOTAL_64: u64 = MAX_TOTAL as u64;
 
-const MAX_ROWS: usize = 1024;
+const MAX_ROWS_32: u32 = MAX_ROWS as u32;
 
-const MAX_TOTAL: u64 = 2147483647;
-
-const MAX_TOTAL_32: u32 = 2147483647;
+const MAX_JOINS_64: usize = MAX_JOINS as usize;
 
 // What stands for a total that is too large.
-const TOO_LARGE: u32 = 2147483648;
+const TOO_LARGE: u32 = MAX_TOTAL + 1;
 
-const MAX_ROWS_32: u32 = 1024;
+// The numbers of a block in the index, and of the whole index.
+pub const ENTRY: usize = 4;
 
-const MAX_OWN: u32 = 255;
-
-const MAX_JOINS: u32 = 8;
-
-const MAX_JOINS_64: usize = 8;
-
-// The numbers of the whole index.
-pub const INDEX: usize = 512;
+pub const INDEX: usize = ENTRY * MAX_BLOCKS as usize;
 
 // What is carried from row to row: how many blocks are open, how many cues the last of them has, the kind of the last row.
 pub struct State {
@@ -82,7 +81,7 @@ fn add_totals(a: u32, b: u32) -> u32
     ensures { λ r. ⌜ r ≡ capped (a + b) ⌝ }
 {
     let sum = long(a) + long(b);
-    if MAX_TOTAL < sum {
+    if MAX_TOTAL_64 < sum {
         return TOO_LARGE;
     }
     sum as u32
@@ -92,16 +91,16 @@ fn add_totals(a: u32, b: u32) -> u32
 fn joins_at(xs: &[u32], t: &[u32; INDEX], k: u32) -> usize
     ensures { λ r. ⌜ r ≡ joinsAt (now (xs .entry)) (now (t .entry)) k ⌝ }
 {
-    let f = wide(get(t, wide(k) * 4));
-    wide(get(xs, f * ROW + 2))
+    let f = wide(get(t, wide(k) * ENTRY));
+    wide(get(xs, f * ROW_SIZE + 2))
 }
 
 // The own cues of block k.
 fn own_at(xs: &[u32], t: &[u32; INDEX], k: u32) -> u32
     ensures { λ r. ⌜ r ≡ ownAt (now (xs .entry)) (now (t .entry)) k ⌝ }
 {
-    let f = wide(get(t, wide(k) * 4));
-    get(xs, f * ROW + 3)
+    let f = wide(get(t, wide(k) * ENTRY));
+    get(xs, f * ROW_SIZE + 3)
 }
 
 // How many joins the block has that a use at p names.
@@ -152,7 +151,7 @@ fn note_use(t: &mut [u32; INDEX], at: usize, k: usize)
     requires { ⌜ (at < 17179869184) × (k < 4294967296) ⌝ }
     ensures { λ _. ⌜ now (t .exit) ≡ notedUse (now (t .entry)) at k ⌝ }
 {
-    let used = get(t, k * 4 + 3);
+    let used = get(t, k * ENTRY + 3);
     let total = add_totals(get(t, at + 3), used);
     put(t, at + 3, total);
 }
@@ -162,7 +161,7 @@ fn note(t: &mut [u32; INDEX], block: u32, kind: u32, label: u32, own: u32, r: u3
     requires { ⌜ r < maxRows ⌝ }
     ensures { λ _. ⌜ now (t .exit) ≡ noted (now (t .entry)) block kind label own r ⌝ }
 {
-    let at = block as usize * 4;
+    let at = block as usize * ENTRY;
     if kind == 0 {
         note_open(t, at, r, own);
         return;
@@ -217,9 +216,17 @@ pub fn pass(xs: &[u32], n: usize, t: &mut [u32; INDEX]) -> Scan
     };
     let mut r = 0;
     while r < n {
-        let p = r * ROW;
+        let p = r * ROW_SIZE;
         let many = many_of(xs, t, p, s.blocks);
-        let k = rules::fault(xs, p, row_before(r) * ROW, s.blocks, s.cues, s.kind, many);
+        let k = rules::fault(
+            xs,
+            p,
+            row_before(r) * ROW_SIZE,
+            s.blocks,
+            s.cues,
+            s.kind,
+            many,
+        );
         if k != 0 {
             return Scan {
                 fault: k,
@@ -261,7 +268,7 @@ fn passes(xs: &[u32], t: &[u32; INDEX], blocks: u32, k: u32, number: u32) -> boo
     if number == 9 {
         return stands(xs, t, blocks, k);
     }
-    if MAX_TOTAL_32 < get(t, wide(k) * 4 + 3) {
+    if MAX_TOTAL < get(t, wide(k) * ENTRY + 3) {
         return false;
     }
     true
@@ -285,7 +292,7 @@ fn check_blocks(xs: &[u32], t: &[u32; INDEX], blocks: u32, number: u32) -> u32
     while k < blocks {
         let fine = passes(xs, t, blocks, k, number);
         if !fine {
-            return row_number(get(t, wide(k) * 4));
+            return row_number(get(t, wide(k) * ENTRY));
         }
         k += 1;
     }
@@ -296,13 +303,13 @@ fn check_blocks(xs: &[u32], t: &[u32; INDEX], blocks: u32, number: u32) -> u32
 fn rows_in(xs: &[u32]) -> usize
     ensures { λ n. ⌜ n ≡ rowsIn (now (xs .entry)) ⌝ }
 {
-    if xs.len() % ROW != 0 {
+    if xs.len() % ROW_SIZE != 0 {
         return 0;
     }
-    if MAX_ROWS < xs.len() / ROW {
+    if MAX_ROWS < xs.len() / ROW_SIZE {
         return 0;
     }
-    xs.len() / ROW
+    xs.len() / ROW_SIZE
 }
 
 fn refuse(number: u32, place: u32) -> Verdict
