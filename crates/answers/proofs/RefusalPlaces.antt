@@ -96,7 +96,7 @@ length-place xs f e = go (ℕ-discrete (length xs % rowSize) 0) (decLt (rowCount
     go (yes a) (no b) (no c) =
         absurd (not-refused f (rw (eq-then (length xs % rowSize) 0 _ _ a, lt-else (rowCount xs) 1 _ _ (omega arith), lt-else maxRows (rowCount xs) _ _ (omega arith)) at e))
 
-pub place-few : (xs : List ℕ) (f : Refusal) → verdict xs ≡ Refused f → f .place ≤ 1024
+pub place-few : (xs : List ℕ) (f : Refusal) → verdict xs ≡ Refused f → f .place ≤ maxRows
 unfolding verdict
 place-few xs f e = first (which (checkLength xs) _ f e)
   where
@@ -106,21 +106,21 @@ place-few xs f e = first (which (checkLength xs) _ f e)
     each : Each (λ p. p < 1 + length (rowsOf xs)) (openingRows 1 (rowsOf xs))
     each = openings-place 1 (rowsOf xs) (1 + length (rowsOf xs)) (omega arith)
 
-    third : rowCount xs ≤ 1024
+    third : rowCount xs ≤ maxRows
         → (checkBlocks 9 (mayStand (blocksOf xs)) 0 (openingRows 1 (rowsOf xs)) ≡ Refused f)
         ⊎ ((checkBlocks 9 (mayStand (blocksOf xs)) 0 (openingRows 1 (rowsOf xs)) ≡ Accepted) × (checkBlocks 10 (totalFits (blocksOf xs)) 0 (openingRows 1 (rowsOf xs)) ≡ Refused f))
-        → f .place ≤ 1024
+        → f .place ≤ maxRows
     third h (inl q) = omega (arith, rows, blocks-place 9 _ 0 (openingRows 1 (rowsOf xs)) (1 + length (rowsOf xs)) f each q)
     third h (inr q) = omega (arith, rows, blocks-place 10 _ 0 (openingRows 1 (rowsOf xs)) (1 + length (rowsOf xs)) f each (q .1))
 
-    second : rowCount xs ≤ 1024 → (v : Verdict)
+    second : rowCount xs ≤ maxRows → (v : Verdict)
         → (checkRows start 1 (rowsOf xs) ≡ Refused f) ⊎ ((checkRows start 1 (rowsOf xs) ≡ Accepted) × (v ≡ Refused f))
-        → (v ≡ Refused f → f .place ≤ 1024) → f .place ≤ 1024
+        → (v ≡ Refused f → f .place ≤ maxRows) → f .place ≤ maxRows
     second h v (inl q) last = omega (arith, rows, rows-place start 1 (rowsOf xs) f q)
     second h v (inr q) last = last (q .1)
 
-    first : (checkLength xs ≡ Refused f) ⊎ ((checkLength xs ≡ Accepted) × (andThen (checkRows start 1 (rowsOf xs)) (andThen (checkBlocks 9 (mayStand (blocksOf xs)) 0 (openingRows 1 (rowsOf xs))) (checkBlocks 10 (totalFits (blocksOf xs)) 0 (openingRows 1 (rowsOf xs)))) ≡ Refused f)) → f .place ≤ 1024
+    first : (checkLength xs ≡ Refused f) ⊎ ((checkLength xs ≡ Accepted) × (andThen (checkRows start 1 (rowsOf xs)) (andThen (checkBlocks 9 (mayStand (blocksOf xs)) 0 (openingRows 1 (rowsOf xs))) (checkBlocks 10 (totalFits (blocksOf xs)) 0 (openingRows 1 (rowsOf xs)))) ≡ Refused f)) → f .place ≤ maxRows
     first (inl q) = omega (arith, length-place xs f q)
     first (inr q) =
-        let few : rowCount xs ≤ 1024 = counted xs (q .0) .2 in
+        let few : rowCount xs ≤ maxRows = counted xs (q .0) .2 in
         second few _ (which (checkRows start 1 (rowsOf xs)) _ f (q .1)) (λ z. third few (which (checkBlocks 9 (mayStand (blocksOf xs)) 0 (openingRows 1 (rowsOf xs))) _ f z))

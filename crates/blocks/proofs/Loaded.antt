@@ -221,7 +221,7 @@ pub last-cell : {xs t : List ℕ} → Loaded xs t → (11 ≤ length xs) × (get
 unfolding cell rowCount
 last-cell {xs} g =
     let show : Show xs = loaded-show g in
-    let p : length xs - 11 ≡ (rowCount xs - 1) * 11 + 0 = omega (arith, show .whole, show .rows) in
+    let p : length xs - 11 ≡ (rowCount xs - 1) * rowSize + 0 = omega (arith, show .whole, show .rows) in
     (omega (arith, show .rows), rw p (last-row xs (g .accepted)))
 
 pub last-read : {xs t : List ℕ} (n v : ℕ) → Loaded xs t → n ≡ getD xs (length xs - 11) 0 → v ≡ n → (v ≡ lastBlock (blocksOf xs)) × IsBlock xs v

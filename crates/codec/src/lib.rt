@@ -2,6 +2,7 @@
 use model::Refusal;
 use model::limits::MAX_BYTES;
 use model::limits::MAX_ROWS;
+use model::limits::ROOM;
 use model::limits::ROW_SIZE;
 use values::Field;
 ghost use mathlib.Core.Path.{_≡_};
@@ -22,9 +23,6 @@ ghost use Rattle.codec.specs.Writing.{tableSize, one, two, valueText, ro
 
 // The place of a row's last value.
 const LAST: usize = ROW_SIZE - 1;
-
-// The numbers of the rows that are stored.
-pub const ROOM: usize = MAX_ROWS * ROW_SIZE;
 
 // The byte behind a line's last value, and behind the others.
 const LINE_FEED: u8 = 10;

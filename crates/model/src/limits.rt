@@ -31,3 +31,6 @@ pub const SUMMARY_WIDTH: usize = 8;
 pub const NO_CHAIN: u32 = 4294967295;
 
 pub const PRINTED_CUES: u32 = 1000;
+
+// What follows from them: the numbers of all rows of the largest show.
+pub const ROOM: usize = MAX_ROWS * ROW_SIZE;

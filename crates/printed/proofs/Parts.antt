@@ -5,11 +5,12 @@ use mathlib.Core.Path.{_≡_, refl, sym, _∙_, ap}
 use mathlib.Core.Bool.{Bool, true, false}
 use mathlib.Core.List.{List, [], _++_, flatMap, append-assoc}
 use lib.ListN.{take}
+use Rattle.model.specs.Limits.{printedCues}
 use Rattle.model.specs.Blocks.{Block, blocksOf, count}
 use Rattle.model.specs.Lists.{range, keep}
 use Rattle.model.specs.Unfolding.{showLinks}
 use Rattle.basics.proofs.Choices.{lt-then, lt-else}
-use Rattle.triples.specs.Marks.{Marked}
+use Rattle.triples.specs.Marks.{labelPlaces, marksSize, Marked}
 use Rattle.printing.specs.Stream.{cueLines, marksFrom, linesFrom, Fills}
 use Rattle.printing.proofs.Triples.{marked-lines}
 use Rattle.blocks.specs.Loaded.{Loaded}
@@ -27,15 +28,15 @@ next-lines bs u h = let e : count bs - u ≡ suc (count bs - suc u) = omega arit
 
 -- The tests for something to come.
 module _ (cues u p w : ℕ) (same : w ≡ cues) where
-  pub going-here : p < 256 * w + 256 → true ≡ isGoing cues u p
+  pub going-here : p < labelPlaces * w + labelPlaces → true ≡ isGoing cues u p
   unfolding isGoing
   going-here h = sym (lt-then p (endOf cues) _ _ (omega arith))
 
-  pub going-next : 256 * w + 256 ≤ p → u < cues → true ≡ isGoing cues u p
+  pub going-next : labelPlaces * w + labelPlaces ≤ p → u < cues → true ≡ isGoing cues u p
   unfolding isGoing
   going-next h l = sym (lt-else p (endOf cues) _ _ (omega arith) ∙ lt-then u cues _ _ l)
 
-  pub going-not : 256 * w + 256 ≤ p → cues ≤ u → false ≡ isGoing cues u p
+  pub going-not : labelPlaces * w + labelPlaces ≤ p → cues ≤ u → false ≡ isGoing cues u p
   unfolding isGoing
   going-not h l = sym (lt-else p (endOf cues) _ _ (omega arith) ∙ lt-else u cues _ _ l)
 
@@ -44,11 +45,11 @@ module _ (xs t : List ℕ) (cues : ℕ) (g : Prints xs t cues) (u p : ℕ) (m : 
   abbrev bs : List Block
   bs = blocksOf xs
 
-  ends : 256 * w + 256 ≡ endOf (count bs)
+  ends : labelPlaces * w + labelPlaces ≡ endOf (count bs)
   ends = omega (arith, g .all)
 
   module _ (out after : List ℕ) (place used : ℕ) where
-    pub part-here : Fills m u p (256 * w + 256) out place used after → p < 256 * w + 256
+    pub part-here : Fills m u p (labelPlaces * w + labelPlaces) out place used after → p < labelPlaces * w + labelPlaces
         → Part bs u p m out (record { «from» = u; place = place; used = used }) m after
     unfolding restOf
     part-here f h =
@@ -61,8 +62,8 @@ module _ (xs t : List ℕ) (cues : ℕ) (g : Prints xs t cues) (u p : ℕ) (m : 
         }
 
     -- A part of those of the next one.
-    pub part-next : (m′ : List ℕ) → Marked (showLinks bs) (u + 1) (count bs) m′ → Fills m′ (u + 1) 256 (256 * w + 256) out place used after
-        → 256 * w + 256 ≤ p → u < cues → Part bs u p m out (record { «from» = u + 1; place = place; used = used }) m′ after
+    pub part-next : (m′ : List ℕ) → Marked (showLinks bs) (u + 1) (count bs) m′ → Fills m′ (u + 1) labelPlaces (labelPlaces * w + labelPlaces) out place used after
+        → labelPlaces * w + labelPlaces ≤ p → u < cues → Part bs u p m out (record { «from» = u + 1; place = place; used = used }) m′ after
     unfolding restOf
     part-next m′ marked f h l =
         let k : u + 1 ≡ suc u = omega arith in
@@ -82,7 +83,7 @@ module _ (xs t : List ℕ) (cues : ℕ) (g : Prints xs t cues) (u p : ℕ) (m : 
         }
 
   -- Nothing is left.
-  pub part-none : (out : List ℕ) → 256 * w + 256 ≤ p → cues ≤ u → Part bs u p m out (record { «from» = u; place = p; used = 0 }) m out
+  pub part-none : (out : List ℕ) → labelPlaces * w + labelPlaces ≤ p → cues ≤ u → Part bs u p m out (record { «from» = u; place = p; used = 0 }) m out
   part-none out h l =
       record {
         stands = s;
@@ -96,6 +97,6 @@ module _ (xs t : List ℕ) (cues : ℕ) (g : Prints xs t cues) (u p : ℕ) (m : 
       }
 
 -- What the table of the next cue asks for.
-pub follow-asks : (xs t : List ℕ) (cues u l : ℕ) → Prints xs t cues → u < cues → l ≡ 256256
-    → Loaded xs t × (1 ≤ u + 1) × (u + 1 ≤ count (blocksOf xs)) × (count (blocksOf xs) ≤ 1000) × (l ≡ 256256)
+pub follow-asks : (xs t : List ℕ) (cues u l : ℕ) → Prints xs t cues → u < cues → l ≡ marksSize
+    → Loaded xs t × (1 ≤ u + 1) × (u + 1 ≤ count (blocksOf xs)) × (count (blocksOf xs) ≤ printedCues) × (l ≡ marksSize)
 follow-asks xs t cues u l g h e = (g .loaded, omega arith, omega (arith, g .all), omega (arith, g .all, g .few), e)

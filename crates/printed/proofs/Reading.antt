@@ -6,6 +6,7 @@ use mathlib.Core.Bool.{true, false}
 use mathlib.Core.List.{List, [], _∷_, _++_}
 use lib.ListN.{length, take, drop, length-append}
 use lib.Seq.{take-at}
+use Rattle.model.specs.Limits.{rowSize, maxRows, printedCues}
 use Rattle.model.specs.Answers.{returned, given, ofRead}
 use Rattle.model.specs.Blocks.{blocksOf, count}
 use Rattle.model.specs.Lists.{overwrite}
@@ -33,13 +34,13 @@ pub record WasRead (file after : List ℕ) (many blocks cues : ℕ) : Type 0 whe
   pub xs : List ℕ
   pub accepted : verdict xs ≡ Accepted
   pub shown : printed file ≡ showText (blocksOf xs)
-  pub few : many ≤ 1024
-  pub size : many * 11 ≤ length after
-  pub rows : take (many * 11) after ≡ xs
+  pub few : many ≤ maxRows
+  pub size : many * rowSize ≤ length after
+  pub rows : take (many * rowSize) after ≡ xs
   pub all : cues ≡ count (blocksOf xs)
 
-module _ (file rows after : List ℕ) (long : 11264 ≤ length rows) where
-  whole-rows : (xs : List ℕ) → verdict xs ≡ Accepted → (rowCount xs * 11 ≡ length xs) × (rowCount xs ≤ 1024)
+module _ (file rows after : List ℕ) (long : maxRows * rowSize ≤ length rows) where
+  whole-rows : (xs : List ℕ) → verdict xs ≡ Accepted → (rowCount xs * rowSize ≡ length xs) × (rowCount xs ≤ maxRows)
   unfolding rowCount
   whole-rows xs v = let s : Show xs = accepted-show xs v in (omega (arith, s .whole), omega (arith, s .rows .1))
 
@@ -77,7 +78,7 @@ module _ (file rows after : List ℕ) (long : 11264 ≤ length rows) where
           let values : _≡_ {A = List ℕ} (many ∷ blocks ∷ cues ∷ []) (rowCount xs ∷ length (blocksOf xs) ∷ count (blocksOf xs) ∷ []) = ap (λ o. o .answer .values) k in
           let is : after ≡ xs ++ drop (length xs) rows = ap (λ o. o .after) k in
           let m : many ≡ rowCount xs = cc in
-          let size : many * 11 ≡ length xs = rw m (w .0) in
+          let size : many * rowSize ≡ length xs = rw m (w .0) in
           record {
             xs = xs;
             accepted = v;
@@ -108,12 +109,12 @@ module _ (file rows t out : List ℕ) (used : ℕ) where
       never : r .more ≡ true → ⊥
       never g = let z : _≡_ {A = ℕ} 0 1 = cc (sym g ∙ f) in omega arith
 
-  pub begun-links : (many blocks cues n size : ℕ) (c : Verdict) → WasRead file rows many blocks cues → n ≡ many → size ≡ n * 11
-      → IsChecked (take size rows) t c → cues ≤ 1000 → StartsWith linksTitle used out
+  pub begun-links : (many blocks cues n size : ℕ) (c : Verdict) → WasRead file rows many blocks cues → n ≡ many → size ≡ n * rowSize
+      → IsChecked (take size rows) t c → cues ≤ printedCues → StartsWith linksTitle used out
       → TextBegun file rows t out (record { used = used; more = true; size = size; cues = cues })
   unfolding restOf linesAfter
   begun-links many blocks cues n size c w same sized checked few s =
-      let k : size ≡ many * 11 = rw same at sized in
+      let k : size ≡ many * rowSize = rw same at sized in
       let is : take size rows ≡ w .xs = rw k (w .rows) in
       let v : verdict (take size rows) ≡ Accepted = rw is (w .accepted) in
       let a : cues ≡ count (blocksOf (take size rows)) = rw is (w .all) in
@@ -135,11 +136,11 @@ module _ (file rows t out : List ℕ) (used : ℕ) where
       rest m = sym (ap (λ zs. zs ++ linesAfter (blocksOf (w .xs)) 0) (no-lines m 0 (endOf (count (blocksOf (w .xs)))) (endOf cues) (omega (arith, w .all))))
 
 -- The three answers of the function that begins it.
-module _ (file rows after : List ℕ) (long : 11264 ≤ length rows) (a : ReadAnswer) (said : outcome (ofRead a) after ≡ readAsked file rows) where
+module _ (file rows after : List ℕ) (long : maxRows * rowSize ≤ length rows) (a : ReadAnswer) (said : outcome (ofRead a) after ≡ readAsked file rows) where
   read-is : (many blocks cues : ℕ) → a ≡ Read many blocks cues → WasRead file after many blocks cues
   read-is many blocks cues e = was-read file rows after long many blocks cues (rw e at said)
 
-  pub rows-small : (many blocks cues n : ℕ) → a ≡ Read many blocks cues → n ≡ many → n * 11 ≤ length after
+  pub rows-small : (many blocks cues n : ℕ) → a ≡ Read many blocks cues → n ≡ many → n * rowSize ≤ length after
   rows-small many blocks cues n e same = omega (arith, read-is many blocks cues e .size)
 
   module _ (t out : List ℕ) (used : ℕ) where
@@ -147,15 +148,15 @@ module _ (file rows after : List ℕ) (long : 11264 ≤ length rows) (a : ReadAn
         → TextBegun file after t out r
     refused-begun f r e s w = begun-whole file after t out used (refusalText f) r (was-refused file rows after long f (rw e at said)) s (w .0) (w .1)
 
-    pub count-begun : (many blocks cues : ℕ) (r : Begun) → a ≡ Read many blocks cues → 1000 < cues → StartsWith (cuesTitle ++ valuesText (cues ∷ [])) used out
+    pub count-begun : (many blocks cues : ℕ) (r : Begun) → a ≡ Read many blocks cues → printedCues < cues → StartsWith (cuesTitle ++ valuesText (cues ∷ [])) used out
         → (r .used ≡ used) × (r .more ≡ false) → TextBegun file after t out r
     count-begun many blocks cues r e h s w =
         let d = read-is many blocks cues e in
         let k : printed file ≡ cuesTitle ++ valuesText (cues ∷ []) = d .shown ∙ show-count (blocksOf (d .xs)) (omega (arith, d .all)) ∙ ap (λ k. cuesTitle ++ valuesText (k ∷ [])) (sym (d .all)) in
         begun-whole file after t out used (cuesTitle ++ valuesText (cues ∷ [])) r k s (w .0) (w .1)
 
-    pub links-begun : (many blocks cues n : ℕ) (c : Verdict) → a ≡ Read many blocks cues → n ≡ many → cues ≤ 1000
-        → (size : ℕ) → IsChecked (take size after) t c → size ≡ n * 11 → StartsWith linksTitle used out
-        → TextBegun file after t out (record { used = used; more = true; size = n * 11; cues = cues })
+    pub links-begun : (many blocks cues n : ℕ) (c : Verdict) → a ≡ Read many blocks cues → n ≡ many → cues ≤ printedCues
+        → (size : ℕ) → IsChecked (take size after) t c → size ≡ n * rowSize → StartsWith linksTitle used out
+        → TextBegun file after t out (record { used = used; more = true; size = n * rowSize; cues = cues })
     links-begun many blocks cues n c e same few size checked sized s =
-        begun-links file after t out used many blocks cues n (n * 11) c (read-is many blocks cues e) same refl (rw sized at checked) few s
+        begun-links file after t out used many blocks cues n (n * rowSize) c (read-is many blocks cues e) same refl (rw sized at checked) few s

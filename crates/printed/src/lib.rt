@@ -8,19 +8,12 @@ ghost use Rattle.model.specs.Limits.{rowSize, maxRows};
 ghost use Rattle.model.specs.Blocks.{blocksOf};
 ghost use Rattle.verdicts.specs.Index.{indexSize};
 ghost use Rattle.printed.specs.Parts.{isGoing, Prints, Stands, Part, TextBegun};
+use blocks::INDEX;
 use model::ReadAnswer;
-use model::limits::MAX_ROWS;
 use model::limits::PRINTED_CUES;
 use model::limits::ROW_SIZE;
-
-// The places of a cue in a table of marks, and those of all cues; the numbers of an index of blocks, and of the rows of the largest show.
-pub const LABEL_PLACES: usize = triples::LABEL_PLACES;
-
-pub const MARKS: usize = triples::MARKS;
-
-pub const INDEX: usize = blocks::INDEX;
-
-pub const ROOM: usize = MAX_ROWS * ROW_SIZE;
+use triples::LABEL_PLACES;
+use triples::MARKS;
 
 // How the text begins: how many bytes there are so far and, if the lines of the links are still to come, how many numbers the rows have,
 // and how many cues there are.

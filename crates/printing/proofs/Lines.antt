@@ -7,6 +7,7 @@ use lib.ListN.{length, set, drop, length-append}
 use lib.Seq.{take-at}
 use Rattle.model.specs.Lists.{overwrite}
 use Rattle.model.specs.Printed.{numberText, valuesText}
+use Rattle.triples.specs.Marks.{labelPlaces}
 use Rattle.codec.specs.Writing.{Puts}
 use Rattle.codec.proofs.Stores.{puts-byte, puts-both, puts-as, puts-long, puts-over}
 use Rattle.printing.specs.Stream.{endedText, lineOf, StartsWith}
@@ -56,7 +57,7 @@ pair-long n m = values-long n m 11 [] (value-long m)
 
 pub line-long : (u p : ℕ) → length (lineOf u p) ≤ 33
 unfolding lineOf
-line-long u p = values-long u _ 22 _ (pair-long (p / 256) (p % 256))
+line-long u p = values-long u _ 22 _ (pair-long (p / labelPlaces) (p % labelPlaces))
 
 -- A text that is stored from the start on stands there; and so does one with another behind it.
 pub begins : (w o p : List ℕ) (r : ℕ) → Puts w o 0 r p → length w ≤ length o → StartsWith w r p

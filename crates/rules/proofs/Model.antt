@@ -8,7 +8,7 @@ use mathlib.Core.List.{List, [], _∷_, _++_}
 use lib.ListN.{length, getD, take, drop}
 use lib.Dec.{ltb, eqb}
 use Rattle.model.specs.Choice.{ifLt, ifEq, ifTrue}
-use Rattle.model.specs.Limits.{maxJoins, maxOwn, maxLabel, maxBlocks}
+use Rattle.model.specs.Limits.{rowSize, maxJoins, maxOwn, maxLabel, maxBlocks}
 use Rattle.model.specs.Rows.{Row, cell, rowAt}
 use Rattle.model.specs.Rules.{
   Seen,
@@ -82,7 +82,7 @@ checked true false z next = refl
 checked false y z next = refl
 
 -- The columns of a row by their places.
-pub columns-cells : (xs : List ℕ) (r : ℕ) → rowAt xs r .columns ≡ cells xs (r * 11 + 3) 8
+pub columns-cells : (xs : List ℕ) (r : ℕ) → rowAt xs r .columns ≡ cells xs (r * rowSize + 3) 8
 unfolding rowAt cell cells
 columns-cells xs r =
     ap₂ _∷_ refl (ap₂ _∷_ (at _ _ (omega arith)) (ap₂ _∷_ (at _ _ (omega arith)) (ap₂ _∷_ (at _ _ (omega arith))
@@ -112,22 +112,22 @@ module _ (s : Seen) (xs : List ℕ) (r : ℕ) where
   w = rowAt xs r
 
   -- The cues that a row names and the columns that it leaves idle, where so many carry a value.
-  named-cells : (many : ℕ) → many ≤ 8 → (w .kind ≡ 0 → ⊥) → columnsUsed s w ≡ many → named s w ≡ cells xs (r * 11 + 3) many
+  named-cells : (many : ℕ) → many ≤ 8 → (w .kind ≡ 0 → ⊥) → columnsUsed s w ≡ many → named s w ≡ cells xs (r * rowSize + 3) many
   unfolding named
-  named-cells many h n e = eq-else _ _ _ _ n ∙ rw (e, columns-cells xs r) (take-cells xs (r * 11 + 3) 8 many h)
+  named-cells many h n e = eq-else _ _ _ _ n ∙ rw (e, columns-cells xs r) (take-cells xs (r * rowSize + 3) 8 many h)
 
-  idle-cells : (many : ℕ) → many ≤ 8 → columnsUsed s w ≡ many → drop (columnsUsed s w) (w .columns) ≡ cells xs (r * 11 + 3 + many) (8 - many)
-  idle-cells many h e = rw (e, columns-cells xs r) (drop-cells xs (r * 11 + 3) 8 many h)
+  idle-cells : (many : ℕ) → many ≤ 8 → columnsUsed s w ≡ many → drop (columnsUsed s w) (w .columns) ≡ cells xs (r * rowSize + 3 + many) (8 - many)
+  idle-cells many h e = rw (e, columns-cells xs r) (drop-cells xs (r * rowSize + 3) 8 many h)
 
-  block-cell : w .block ≡ getD xs (r * 11) 0
+  block-cell : w .block ≡ getD xs (r * rowSize) 0
   unfolding rowAt cell
-  block-cell = let e : r * 11 + 0 ≡ r * 11 = omega arith in ap (λ (k : ℕ). getD xs k 0) e
+  block-cell = let e : r * rowSize + 0 ≡ r * rowSize = omega arith in ap (λ (k : ℕ). getD xs k 0) e
 
-  label-cell : w .label ≡ getD xs (r * 11 + 2) 0
+  label-cell : w .label ≡ getD xs (r * rowSize + 2) 0
   unfolding rowAt cell
   label-cell = refl
 
-  kind-cell : w .kind ≡ getD xs (r * 11 + 1) 0
+  kind-cell : w .kind ≡ getD xs (r * rowSize + 1) 0
   unfolding rowAt cell
   kind-cell = refl
 
@@ -154,22 +154,22 @@ module _ (s : Seen) (xs : List ℕ) (r : ℕ) where
   unfolding columnsUsed
   open-used q = eq-then _ _ _ _ q
 
-  open-follows : w .kind ≡ 0 → mayFollow s w ≡ ifEq (getD xs (r * 11) 0) (length (s .joins)) (ifLt (length (s .joins)) maxBlocks true false) false
+  open-follows : w .kind ≡ 0 → mayFollow s w ≡ ifEq (getD xs (r * rowSize) 0) (length (s .joins)) (ifLt (length (s .joins)) maxBlocks true false) false
   unfolding mayFollow mayOpen
   open-follows q = eq-then _ _ _ _ q ∙ rw block-cell
 
   open-range : w .kind ≡ 0
       → inRange s w
       ≡ ifTrue (ifLt maxJoins (w .label) false true)
-      (ifTrue (ifLt maxOwn (getD (w .columns) 0 0) false true) (ifTrue true (every isZero (cells xs (r * 11 + 3 + 1) (8 - 1))) false) false) false
+      (ifTrue (ifLt maxOwn (getD (w .columns) 0 0) false true) (ifTrue true (every isZero (cells xs (r * rowSize + 3 + 1) (8 - 1))) false) false) false
   unfolding inRange labelFits ownFits every
   open-range q =
       rw (eq-then (w .kind) 0 (ifLt maxJoins (w .label) false true) _ q, eq-then (w .kind) 0 (ifLt maxOwn (getD (w .columns) 0 0) false true) true q, open-named q, idle-cells 1 (omega arith) (open-used q))
 
-  pub open-law : w .kind ≡ 0 → fault s w ≡ openFault xs (r * 11) (length (s .joins))
+  pub open-law : w .kind ≡ 0 → fault s w ≡ openFault xs (r * rowSize) (length (s .joins))
   unfolding fault openFault distinct rowAt cell
   open-law q =
-      let e : r * 11 + 3 + 1 ≡ r * 11 + 4 = omega arith in
+      let e : r * rowSize + 3 + 1 ≡ r * rowSize + 4 = omega arith in
       rw (open-follows q, open-range q, open-named q, open-order (s .before) q, e) (simp pushed)
 
   -- There is no other kind.
@@ -178,7 +178,7 @@ module _ (s : Seen) (xs : List ℕ) (r : ℕ) where
   no-kind a b c = rw (eq-else (w .kind) 0 _ _ a, eq-else (w .kind) 1 _ _ b, eq-else (w .kind) 2 _ _ c) (if-false _ 5)
 
   -- A link and a use belong to the current block.
-  goes-on : goesOn s w ≡ ifEq (getD xs (r * 11) 0 + 1) (length (s .joins)) true false
+  goes-on : goesOn s w ≡ ifEq (getD xs (r * rowSize) 0 + 1) (length (s .joins)) true false
   unfolding goesOn
   goes-on = rw block-cell
 
@@ -195,17 +195,17 @@ module _ (s : Seen) (xs : List ℕ) (r : ℕ) where
   named-law : (many cues : ℕ) (t o : Bool) (next : ℕ) → many ≤ 8 → (w .kind ≡ 0 → ⊥) → columnsUsed s w ≡ many → cues ≡ cuesIn s
       → labelFits w ≡ t → inOrder (s .before) w ≡ o → ifTrue o 0 8 ≡ next
       → ifTrue (inRange s w) (ifTrue (distinct (named s w)) (ifTrue (inOrder (s .before) w) 0 8) 7) 6
-      ≡ ifTrue t (orElse (namedFault xs (r * 11) many cues) next) 6
+      ≡ ifTrue t (orElse (namedFault xs (r * rowSize) many cues) next) 6
   unfolding inRange ownFits namedFault
   named-law many cues t o next h n e c l i f =
       rw (l, eq-else (w .kind) 0 _ true n, named-cells many h n e, idle-cells many h e, c, i, f)
       (simp pushed (ap (λ (y : ℕ). ifTrue t y 6) (checked (every (isCue (cuesIn s)) a) (every isZero b) (distinct a) next)))
     where
       a : List ℕ
-      a = cells xs (r * 11 + 3) many
+      a = cells xs (r * rowSize + 3) many
 
       b : List ℕ
-      b = cells xs (r * 11 + 3 + many) (8 - many)
+      b = cells xs (r * rowSize + 3 + many) (8 - many)
 
   link-used : w .kind ≡ 1 → columnsUsed s w ≡ 2
   unfolding columnsUsed
@@ -233,30 +233,30 @@ module _ (s : Seen) (xs : List ℕ) (r : ℕ) where
 
   -- The order of the row and the one before it, which stands at row q.
   module _ (p : ℕ) (same : (s .before .kind ≡ 0 → ⊥) → s .before ≡ rowAt xs p) where
-    link-key : (v : ℕ) → linkKey (rowAt xs v) ≡ cells xs (v * 11 + 3) 2 ++ (getD xs (v * 11 + 2) 0 ∷ [])
+    link-key : (v : ℕ) → linkKey (rowAt xs v) ≡ cells xs (v * rowSize + 3) 2 ++ (getD xs (v * rowSize + 2) 0 ∷ [])
     unfolding linkKey rowAt cell
-    link-key v = ap (λ (l : List ℕ). take 2 l ++ (getD xs (v * 11 + 2) 0 ∷ [])) (columns-cells xs v) ∙ ap (λ (l : List ℕ). l ++ (getD xs (v * 11 + 2) 0 ∷ [])) (take-cells xs (v * 11 + 3) 8 2 (omega arith))
+    link-key v = ap (λ (l : List ℕ). take 2 l ++ (getD xs (v * rowSize + 2) 0 ∷ [])) (columns-cells xs v) ∙ ap (λ (l : List ℕ). l ++ (getD xs (v * rowSize + 2) 0 ∷ [])) (take-cells xs (v * rowSize + 3) 8 2 (omega arith))
 
-    use-key : (v : ℕ) → useKey (rowAt xs v) ≡ cells xs (v * 11 + 3) 8 ++ (getD xs (v * 11 + 2) 0 ∷ [])
+    use-key : (v : ℕ) → useKey (rowAt xs v) ≡ cells xs (v * rowSize + 3) 8 ++ (getD xs (v * rowSize + 2) 0 ∷ [])
     unfolding useKey rowAt cell
-    use-key v = ap (λ (l : List ℕ). l ++ (getD xs (v * 11 + 2) 0 ∷ [])) (columns-cells xs v)
+    use-key v = ap (λ (l : List ℕ). l ++ (getD xs (v * rowSize + 2) 0 ∷ [])) (columns-cells xs v)
 
-    link-ordered : w .kind ≡ 1 → ifTrue (inOrder (s .before) w) 0 8 ≡ linkOrder xs (r * 11) (p * 11) (s .before .kind)
+    link-ordered : w .kind ≡ 1 → ifTrue (inOrder (s .before) w) 0 8 ≡ linkOrder xs (r * rowSize) (p * rowSize) (s .before .kind)
     unfolding linkOrder inOrder keyBelow
     link-ordered q = go (ℕ-discrete (s .before .kind) 1)
       where
-        go : Dec (s .before .kind ≡ 1) → ifTrue (inOrder (s .before) w) 0 8 ≡ linkOrder xs (r * 11) (p * 11) (s .before .kind)
+        go : Dec (s .before .kind ≡ 1) → ifTrue (inOrder (s .before) w) 0 8 ≡ linkOrder xs (r * rowSize) (p * rowSize) (s .before .kind)
         go (yes e) =
             let b : s .before ≡ rowAt xs p = same (λ z. omega arith) in
             rw (eq-then (w .kind) (s .before .kind) _ _ (q ∙ sym e), eq-then (w .kind) 1 _ _ q, eq-then (s .before .kind) 1 _ _ e, b, link-key p, link-key r)
         go (no n) =
             rw (eq-else (w .kind) (s .before .kind) _ _ (λ z. n (sym z ∙ q)), eq-else (s .before .kind) 1 _ _ n) (if-true 0 8)
 
-    use-ordered : w .kind ≡ 2 → ifTrue (inOrder (s .before) w) 0 8 ≡ useOrder xs (r * 11) (p * 11) (s .before .kind)
+    use-ordered : w .kind ≡ 2 → ifTrue (inOrder (s .before) w) 0 8 ≡ useOrder xs (r * rowSize) (p * rowSize) (s .before .kind)
     unfolding useOrder inOrder keyBelow
     use-ordered q = go (ℕ-discrete (s .before .kind) 2)
       where
-        go : Dec (s .before .kind ≡ 2) → ifTrue (inOrder (s .before) w) 0 8 ≡ useOrder xs (r * 11) (p * 11) (s .before .kind)
+        go : Dec (s .before .kind ≡ 2) → ifTrue (inOrder (s .before) w) 0 8 ≡ useOrder xs (r * rowSize) (p * rowSize) (s .before .kind)
         go (yes e) =
             let b : s .before ≡ rowAt xs p = same (λ z. omega arith) in
             rw (eq-then (w .kind) (s .before .kind) _ _ (q ∙ sym e), eq-else (w .kind) 1 _ _ (λ z. omega arith), eq-then (w .kind) 2 _ _ q, eq-then (s .before .kind) 2 _ _ e, b, use-key p, use-key r)
@@ -264,30 +264,30 @@ module _ (s : Seen) (xs : List ℕ) (r : ℕ) where
         go (no n) =
             rw (eq-else (w .kind) (s .before .kind) _ _ (λ z. n (sym z ∙ q)), eq-else (s .before .kind) 2 _ _ n) (if-true 0 8)
 
-    link-law : w .kind ≡ 1 → fault s w ≡ linkFault xs (r * 11) (p * 11) (length (s .joins)) (cuesIn s) (s .before .kind)
+    link-law : w .kind ≡ 1 → fault s w ≡ linkFault xs (r * rowSize) (p * rowSize) (length (s .joins)) (cuesIn s) (s .before .kind)
     unfolding fault linkFault
     link-law q =
-        rw (guarded (length (s .joins)) (getD xs (r * 11) 0) _, link-follows q, goes-on, named-law 2 (cuesIn s) _ _ _ (omega arith) (λ e. omega arith) (link-used q) refl (link-label q) refl (link-ordered q))
+        rw (guarded (length (s .joins)) (getD xs (r * rowSize) 0) _, link-follows q, goes-on, named-law 2 (cuesIn s) _ _ _ (omega arith) (λ e. omega arith) (link-used q) refl (link-label q) refl (link-ordered q))
         (simp pushed (rw label-cell refl))
 
     use-law : (many : ℕ) → many ≤ 8 → many ≡ getD (s .joins) (w .label) 0 → w .kind ≡ 2
-        → fault s w ≡ useFault xs (r * 11) (p * 11) (length (s .joins)) (cuesIn s) (s .before .kind) many
+        → fault s w ≡ useFault xs (r * rowSize) (p * rowSize) (length (s .joins)) (cuesIn s) (s .before .kind) many
     unfolding fault useFault
     use-law many h m q =
-        rw (guarded (length (s .joins)) (getD xs (r * 11) 0) _, use-follows q, goes-on, named-law many (cuesIn s) _ _ _ h (λ e. omega arith) (use-used q ∙ sym m) refl (use-label q) refl (use-ordered q))
+        rw (guarded (length (s .joins)) (getD xs (r * rowSize) 0) _, use-follows q, goes-on, named-law many (cuesIn s) _ _ _ h (λ e. omega arith) (use-used q ∙ sym m) refl (use-label q) refl (use-ordered q))
         (simp pushed (rw (label-cell, block-cell) refl))
 
     -- The law: what the code finds is what the model's checks 5 to 8 say of the row.
     pub fault-law : (many : ℕ) → many ≤ 8 → (w .kind ≡ 2 → many ≡ getD (s .joins) (w .label) 0)
-        → faultOf xs (r * 11) (p * 11) (length (s .joins)) (cuesIn s) (s .before .kind) many ≡ fault s w
+        → faultOf xs (r * rowSize) (p * rowSize) (length (s .joins)) (cuesIn s) (s .before .kind) many ≡ fault s w
     unfolding faultOf
     fault-law many h m = rw (← kind-cell) (go (ℕ-discrete (w .kind) 0) (ℕ-discrete (w .kind) 1) (ℕ-discrete (w .kind) 2))
       where
         Goal : Type 0
         Goal =
-            ifEq (w .kind) 0 (openFault xs (r * 11) (length (s .joins)))
-            (ifEq (w .kind) 1 (linkFault xs (r * 11) (p * 11) (length (s .joins)) (cuesIn s) (s .before .kind))
-            (ifEq (w .kind) 2 (useFault xs (r * 11) (p * 11) (length (s .joins)) (cuesIn s) (s .before .kind) many) 5))
+            ifEq (w .kind) 0 (openFault xs (r * rowSize) (length (s .joins)))
+            (ifEq (w .kind) 1 (linkFault xs (r * rowSize) (p * rowSize) (length (s .joins)) (cuesIn s) (s .before .kind))
+            (ifEq (w .kind) 2 (useFault xs (r * rowSize) (p * rowSize) (length (s .joins)) (cuesIn s) (s .before .kind) many) 5))
             ≡ fault s w
 
         go : Dec (w .kind ≡ 0) → Dec (w .kind ≡ 1) → Dec (w .kind ≡ 2) → Goal

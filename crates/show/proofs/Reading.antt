@@ -64,8 +64,8 @@ module _ (f out ys : List ℕ) where
     pub reads : readFile f ≡ Numbers xs
     pub many : n ≡ rowCount xs
     pub whole : length xs % rowSize ≡ 0
-    pub size : length ys ≡ 11264
-    pub stored : take (length xs) ys ≡ take 11264 xs
+    pub size : length ys ≡ maxRows * rowSize
+    pub stored : take (length xs) ys ≡ take (maxRows * rowSize) xs
 
   parsed-rows : (p : Parsed) (n : ℕ) → Parses (readFile f) p ys → p ≡ Rows n → Parsed-rows n
   unfolding Parses
@@ -76,21 +76,21 @@ module _ (f out ys : List ℕ) where
           record { xs = xs; reads = q; many = cc (sym e ∙ P .0); whole = read-whole f xs q; size = P .1; stored = P .2 }
       go (Unread s) q P = absurd (let z : _≡_ {A = ℕ} 0 1 = cc (sym e ∙ P) in omega arith)
 
-  pub read-many : (p : Parsed) (n : ℕ) → Parses (readFile f) p ys → p ≡ Rows n → 1024 < n
+  pub read-many : (p : Parsed) (n : ℕ) → Parses (readFile f) p ys → p ≡ Rows n → maxRows < n
       → outcome (ofRead (ReadRefused (record { number = 4; place = 0 }))) out ≡ readAsked f out
   unfolding ofRead refuse refusal
   read-many p n P e h =
       let r = parsed-rows p n P e in
       sym (asked-numbers f out (r .xs) (r .reads) ∙ too-many (r .xs) out (r .whole) (rw (r .many) at h))
 
-  pub room : (p : Parsed) (n : ℕ) → Parses (readFile f) p ys → p ≡ Rows n → n ≤ 1024 → n * 11 ≤ length ys
+  pub room : (p : Parsed) (n : ℕ) → Parses (readFile f) p ys → p ≡ Rows n → n ≤ maxRows → n * rowSize ≤ length ys
   room p n P e h = omega (arith, parsed-rows p n P e .size)
 
-  pub read-few : (p : Parsed) (n : ℕ) (o : Outcome) → Parses (readFile f) p ys → p ≡ Rows n → n ≤ 1024
-      → o ≡ readNumbers (take (n * 11 - 0) (drop 0 ys)) out → o ≡ readAsked f out
+  pub read-few : (p : Parsed) (n : ℕ) (o : Outcome) → Parses (readFile f) p ys → p ≡ Rows n → n ≤ maxRows
+      → o ≡ readNumbers (take (n * rowSize - 0) (drop 0 ys)) out → o ≡ readAsked f out
   unfolding rowCount
   read-few p n o P e h g =
       let r = parsed-rows p n P e in
-      let size : n * 11 - 0 ≡ length (r .xs) = omega (arith, r .many, r .whole) in
-      let same : take (n * 11 - 0) (drop 0 ys) ≡ r .xs = rw size (r .stored ∙ take-all 11264 (r .xs) (omega arith)) in
+      let size : n * rowSize - 0 ≡ length (r .xs) = omega (arith, r .many, r .whole) in
+      let same : take (n * rowSize - 0) (drop 0 ys) ≡ r .xs = rw size (r .stored ∙ take-all (maxRows * rowSize) (r .xs) (omega arith)) in
       g ∙ rw same (sym (asked-numbers f out (r .xs) (r .reads)))

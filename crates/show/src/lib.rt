@@ -7,7 +7,6 @@ ghost use Rattle.model.specs.Questions.{outcome, readAsked, writeAsked, countAs
 ghost use Rattle.answers.specs.Asked.{listAsked};
 use blocks::INDEX;
 use codec::Parsed;
-use codec::ROOM;
 use model::CountAnswer;
 use model::FewestAnswer;
 use model::ListAnswer;
@@ -18,6 +17,7 @@ use model::Refusal;
 use model::Verdict;
 use model::WriteAnswer;
 use model::limits::MAX_ROWS;
+use model::limits::ROOM;
 use model::limits::ROW_SIZE;
 
 // The count of cues.

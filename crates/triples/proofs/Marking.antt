@@ -10,6 +10,7 @@ use lib.ListN.{length, getD, take, drop, set, length-set}
 use lib.Dec.{ltb}
 use borrow.Author.Tests.{ltb-false}
 use lib.Seq.{take-suc, take-at, take-all, getD-set-same, getD-set-other, getD-take}
+use Rattle.model.specs.Limits.{printedCues}
 use Rattle.model.specs.Choice.{ifLt, ifTrue}
 use Rattle.model.specs.Answers.{flag}
 use Rattle.model.specs.Blocks.{Link, Block, blocksOf, count}
@@ -27,12 +28,12 @@ use Rattle.neighbours.proofs.Picked.{picked}
 use Rattle.blocks.specs.declared.Place.{Place}
 use Rattle.blocks.specs.Loaded.{Loaded}
 use Rattle.blocks.specs.Places.{Found}
-use Rattle.triples.specs.Marks.{Marked, MarkedTo, Blank, marksAll, PageWithin, Says, Aims, TableTo}
+use Rattle.triples.specs.Marks.{labelPlaces, Marked, MarkedTo, Blank, marksAll, PageWithin, Says, Aims, TableTo}
 
 -- What the marks of a label change.
 module _ (label : ℕ) where
   abbrev at : ℕ → ℕ
-  at v = 256 * v + label
+  at v = labelPlaces * v + label
 
   pub marks-long : (vs m : List ℕ) → length (marksAll vs label m) ≡ length m
   unfolding marksAll
@@ -72,7 +73,7 @@ module _ (label : ℕ) where
 
 -- One cue more of a page.
 pub mark-on : (page begun m : List ℕ) (i v label : ℕ) → m ≡ marksAll (take i page) label begun → v ≡ getD page i 0 → i < length page
-    → set m (256 * v + label) 1 ≡ marksAll (take (i + 1) page) label begun
+    → set m (labelPlaces * v + label) 1 ≡ marksAll (take (i + 1) page) label begun
 mark-on page begun m i v label e f h =
     let k : i + 1 ≡ suc i = omega arith in
     rw (k, take-suc page i 0 h, e, f) (sym (marks-more label (take i page) begun (getD page i 0)))
@@ -165,19 +166,19 @@ unfolding labelledCues wanted
 few-cues lo hi bs u = omega (arith, keep-short (wants (out lo hi) (showLinks bs) u) (range 1 (count bs)), range-length 1 (count bs))
 
 -- One label more, and some labels that no link has.
-module _ (bs : List Block) (u : ℕ) (few : count bs ≤ 1000) where
+module _ (bs : List Block) (u : ℕ) (few : count bs ≤ printedCues) where
   abbrev E : List Link
   E = showLinks bs
 
   abbrev n : ℕ
   n = count bs
 
-  pub mark-step : (one : ℕ) (m : List ℕ) → 1 ≤ one → one < 256 → MarkedTo E u n one m → MarkedTo E u n (one + 1) (marksAll (labelledCues one one bs u) one m)
+  pub mark-step : (one : ℕ) (m : List ℕ) → 1 ≤ one → one < labelPlaces → MarkedTo E u n one m → MarkedTo E u n (one + 1) (marksAll (labelledCues one one bs u) one m)
   unfolding flag
   mark-step one m low high was =
       record {
         long = marks-long one vs m ∙ was .long;
-        none = λ v a b. marks-other one (256 * v) vs m (λ w i e. omega arith) ∙ was .none v a b;
+        none = λ v a b. marks-other one (labelPlaces * v) vs m (λ w i e. omega arith) ∙ was .none v a b;
         at = λ v label a b c d. go v label a b c d (ℕ-discrete label one);
       }
     where
@@ -188,18 +189,18 @@ module _ (bs : List Block) (u : ℕ) (few : count bs ≤ 1000) where
       other v label (yes h) x = lt-then label one _ _ h ∙ sym (lt-then label (one + 1) _ _ (omega arith))
       other v label (no h) x = lt-else label one _ _ (omega arith) ∙ sym (lt-else label (one + 1) _ _ (omega arith))
 
-      go : (v label : ℕ) → 1 ≤ v → v ≤ n → 1 ≤ label → label < 256 → Dec (label ≡ one)
-          → getD (marksAll vs one m) (256 * v + label) 0 ≡ ifLt label (one + 1) (flag (isTriple E u v label)) 0
+      go : (v label : ℕ) → 1 ≤ v → v ≤ n → 1 ≤ label → label < labelPlaces → Dec (label ≡ one)
+          → getD (marksAll vs one m) (labelPlaces * v + label) 0 ≡ ifLt label (one + 1) (flag (isTriple E u v label)) 0
       go v label a b c d (no x) =
-          marks-other one (256 * v + label) vs m (λ w i e. x (omega arith)) ∙ was .at v label a b c d ∙ other v label (decLt label one) x
+          marks-other one (labelPlaces * v + label) vs m (λ w i e. x (omega arith)) ∙ was .at v label a b c d ∙ other v label (decLt label one) x
       go v label a b c d (yes e) = rw e (here (isTriple E u v one) refl)
         where
-          here : (t : Bool) → isTriple E u v one ≡ t → getD (marksAll vs one m) (256 * v + one) 0 ≡ ifLt one (one + 1) (flag (isTriple E u v one)) 0
+          here : (t : Bool) → isTriple E u v one ≡ t → getD (marksAll vs one m) (labelPlaces * v + one) 0 ≡ ifLt one (one + 1) (flag (isTriple E u v one)) 0
           here true f =
               marks-hit one v vs m (cue-in one one bs u v a b (picks-triple u v one E ∙ f)) (omega (arith, was .long))
               ∙ sym (lt-then one (one + 1) _ _ (omega arith) ∙ ap flag f)
           here false f =
-              marks-other one (256 * v + one) vs m (λ w i g. not-there w i (omega arith))
+              marks-other one (labelPlaces * v + one) vs m (λ w i g. not-there w i (omega arith))
               ∙ was .at v one a b low high
               ∙ lt-else one one _ _ (omega arith)
               ∙ sym (lt-then one (one + 1) _ _ (omega arith) ∙ ap flag f)
@@ -248,17 +249,17 @@ module _ (bs : List Block) (u : ℕ) (few : count bs ≤ 1000) where
           ∙ sym (lt-then label (hi + 1) _ _ (omega arith))
 
 -- The table at the beginning and at the end.
-pub marks-begin : (E : List Link) (u n : ℕ) (m : List ℕ) → n ≤ 1000 → Blank m → MarkedTo E u n 1 m
+pub marks-begin : (E : List Link) (u n : ℕ) (m : List ℕ) → n ≤ printedCues → Blank m → MarkedTo E u n 1 m
 marks-begin E u n m few b =
     record {
       long = b .long;
-      none = λ v x y. b .at (256 * v) (omega arith);
-      at = λ v label x y z w. b .at (256 * v + label) (omega arith) ∙ sym (lt-else label 1 _ _ (omega arith));
+      none = λ v x y. b .at (labelPlaces * v) (omega arith);
+      at = λ v label x y z w. b .at (labelPlaces * v + label) (omega arith) ∙ sym (lt-else label 1 _ _ (omega arith));
     }
 
-pub marks-end : (E : List Link) (u n : ℕ) (m : List ℕ) → MarkedTo E u n 256 m → Marked E u n m
+pub marks-end : (E : List Link) (u n : ℕ) (m : List ℕ) → MarkedTo E u n labelPlaces m → Marked E u n m
 marks-end E u n m was =
-    record { long = was .long; none = was .none; at = λ v label x y z w. was .at v label x y z w ∙ lt-then label 256 _ _ w }
+    record { long = was .long; none = was .none; at = λ v label x y z w. was .at v label x y z w ∙ lt-then label labelPlaces _ _ w }
 
 -- A page that holds all of a list.
 module _ (vs page after : List ℕ) (r : Listed) (l : IsListed vs page after r) where
@@ -269,15 +270,15 @@ module _ (vs page after : List ℕ) (r : Listed) (l : IsListed vs page after r) 
       rw (w, l .filled, take-all (length page) vs h) (take-at vs (drop (length vs) page) (length vs) refl)
 
 -- What the marks of a label ask for, and what they come to.
-module _ (one : ℕ) (bs : List Block) (u : ℕ) (few : count bs ≤ 1000) (page after : List ℕ) (r : Listed) (l : IsListed (labelledCues one one bs u) page after r)
-    (long : length page ≡ 1000) (n : ℕ) (e : n ≡ r .written) where
+module _ (one : ℕ) (bs : List Block) (u : ℕ) (few : count bs ≤ printedCues) (page after : List ℕ) (r : Listed) (l : IsListed (labelledCues one one bs u) page after r)
+    (long : length page ≡ printedCues) (n : ℕ) (e : n ≡ r .written) where
   all : take n after ≡ labelledCues one one bs u
   all = rw e (page-first (labelledCues one one bs u) page after r l (omega (arith, few-cues one one bs u)))
 
   size : n ≡ length (labelledCues one one bs u)
   size = omega (arith, l .written, few-cues one one bs u)
 
-  pub page-small : n ≤ 1000
+  pub page-small : n ≤ printedCues
   page-small = omega (arith, size, few-cues one one bs u)
 
   pub page-within : length after ≡ length page → PageWithin after n
@@ -290,7 +291,7 @@ module _ (one : ℕ) (bs : List Block) (u : ℕ) (few : count bs ≤ 1000) (page
             omega (arith, g, cue-was one one bs u (getD vs i 0) (getD-mem vs i (omega (arith, size))));
       }
 
-  pub label-done : (m w : List ℕ) (label : ℕ) → w ≡ marksAll (take n after) label m → label ≡ one → 1 ≤ one → one < 256
+  pub label-done : (m w : List ℕ) (label : ℕ) → w ≡ marksAll (take n after) label m → label ≡ one → 1 ≤ one → one < labelPlaces
       → MarkedTo (showLinks bs) u (count bs) one m → MarkedTo (showLinks bs) u (count bs) (one + 1) w
   label-done m w label f g low high was = rw (f, all, g) (mark-step bs u few one m low high was)
 
@@ -312,8 +313,8 @@ says-none vs page after r one l = record { none = λ e. empty vs (omega (arith, 
 
 -- What the marks of a cue start from, and what they come to.
 module _ {xs t rows : List ℕ} (u : ℕ) (place : Place) (at : (place .cue ≡ u) × Found xs t rows place) where
-  pub aims : Loaded xs t → count (blocksOf xs) ≤ 1000 → Aims xs t rows place
+  pub aims : Loaded xs t → count (blocksOf xs) ≤ printedCues → Aims xs t rows place
   aims g few = record { loaded = g; found = at .1; few = few }
 
-  pub follow-done : (m : List ℕ) → TableTo xs (place .cue) 256 m → Marked (showLinks (blocksOf xs)) u (count (blocksOf xs)) m
+  pub follow-done : (m : List ℕ) → TableTo xs (place .cue) labelPlaces m → Marked (showLinks (blocksOf xs)) u (count (blocksOf xs)) m
   follow-done m was = rw (at .0) at (marks-end (showLinks (blocksOf xs)) (place .cue) (count (blocksOf xs)) m was)

@@ -6,11 +6,12 @@ use mathlib.Core.Bool.{true}
 use mathlib.Core.List.{List}
 use lib.ListN.{length}
 use Rattle.model.specs.Blocks.{blocksOf}
+use Rattle.triples.specs.Marks.{labelPlaces, marksSize}
 use Rattle.printed.specs.Parts.{Prints, Stands, Part, isGoing, left}
 use Rattle.printed.specs.declared.At.{At}
 
 -- It begins at the end of the table of no cue.
-pub stands-first : (xs t : List ℕ) (cues : ℕ) (m : List ℕ) → Prints xs t cues → length m ≡ 256256 → Stands (blocksOf xs) m 0 (256 * cues + 256)
+pub stands-first : (xs t : List ℕ) (cues : ℕ) (m : List ℕ) → Prints xs t cues → length m ≡ marksSize → Stands (blocksOf xs) m 0 (labelPlaces * cues + labelPlaces)
 stands-first xs t cues m g l =
     record { long = l; cue = omega arith; place = omega (arith, g .all); marks = λ h. absurd (omega (arith, g .all)) }
 

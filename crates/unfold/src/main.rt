@@ -1,9 +1,9 @@
 // The unfolding program: reads a show file from standard input and prints its links, or how many cues it has, or why it is refused.
+use blocks::INDEX;
 use model::limits::MAX_BYTES;
-use printed::INDEX;
-use printed::LABEL_PLACES;
-use printed::MARKS;
-use printed::ROOM;
+use model::limits::ROOM;
+use triples::LABEL_PLACES;
+use triples::MARKS;
 ghost use Rattle.printed.specs.Parts.{Prints};
 
 // The bytes of a part of the text, and of its title.

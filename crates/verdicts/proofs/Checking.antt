@@ -6,7 +6,7 @@ use mathlib.Core.Path.{_≡_, refl, sym, _∙_, ap}
 use mathlib.Core.List.{List, []}
 use lib.ListN.{length, replicate}
 use Rattle.model.specs.Choice.{ifEq, ifLt}
-use Rattle.model.specs.Limits.{maxRows}
+use Rattle.model.specs.Limits.{rowSize, maxRows}
 use Rattle.model.specs.Rows.{rowsFrom, rowCount, rowsOf}
 use Rattle.model.specs.Rules.{start}
 use Rattle.model.specs.Blocks.{addRows, blocksOf, count}
@@ -15,7 +15,7 @@ use Rattle.model.specs.declared.Verdict.{Verdict}
 use Rattle.model.specs.declared.Verdict.the-variants.{Accepted}
 use Rattle.basics.proofs.Choices.{eq-then, eq-else, lt-then, lt-else}
 use Rattle.shows.proofs.Accepted.{accepted-show, not-accepted, both-accepted}
-use Rattle.verdicts.specs.Index.{Indexed}
+use Rattle.verdicts.specs.Index.{indexSize, Indexed}
 use Rattle.verdicts.specs.Passing.{placed, rowsIn, judged, Fine, blocksTo, Scanned, IsChecked}
 use Rattle.verdicts.specs.declared.Scan.{Scan}
 use Rattle.verdicts.proofs.Known.{known, blocks-all}
@@ -25,39 +25,39 @@ use Rattle.verdicts.proofs.Openings.{ends-law, totals-law}
 -- Check 4.
 rows-fit : (xs : List ℕ) → (rowsIn xs ≡ 0 → checkLength xs ≡ refused 4 0) × ((rowsIn xs ≡ 0 → ⊥) → (checkLength xs ≡ Accepted) × (rowsIn xs ≡ rowCount xs))
 unfolding rowsIn checkLength rowCount
-rows-fit xs = go (ℕ-discrete (length xs % 11) 0) (decLt 1024 (length xs / 11)) (decLt (length xs / 11) 1)
+rows-fit xs = go (ℕ-discrete (length xs % rowSize) 0) (decLt maxRows (length xs / rowSize)) (decLt (length xs / rowSize) 1)
   where
     n : ℕ
-    n = length xs / 11
+    n = length xs / rowSize
 
     Goal : Type 0
     Goal =
-        (ifEq (length xs % 11) 0 (ifLt 1024 n 0 n) 0 ≡ 0 → ifEq (length xs % 11) 0 (ifLt n 1 (refused 4 0) (ifLt maxRows n (refused 4 0) Accepted)) (refused 4 0) ≡ refused 4 0)
-        × ((ifEq (length xs % 11) 0 (ifLt 1024 n 0 n) 0 ≡ 0 → ⊥)
-        → (ifEq (length xs % 11) 0 (ifLt n 1 (refused 4 0) (ifLt maxRows n (refused 4 0) Accepted)) (refused 4 0) ≡ Accepted)
-        × (ifEq (length xs % 11) 0 (ifLt 1024 n 0 n) 0 ≡ n))
+        (ifEq (length xs % rowSize) 0 (ifLt maxRows n 0 n) 0 ≡ 0 → ifEq (length xs % rowSize) 0 (ifLt n 1 (refused 4 0) (ifLt maxRows n (refused 4 0) Accepted)) (refused 4 0) ≡ refused 4 0)
+        × ((ifEq (length xs % rowSize) 0 (ifLt maxRows n 0 n) 0 ≡ 0 → ⊥)
+        → (ifEq (length xs % rowSize) 0 (ifLt n 1 (refused 4 0) (ifLt maxRows n (refused 4 0) Accepted)) (refused 4 0) ≡ Accepted)
+        × (ifEq (length xs % rowSize) 0 (ifLt maxRows n 0 n) 0 ≡ n))
 
-    go : Dec (length xs % 11 ≡ 0) → Dec (1024 < n) → Dec (n < 1) → Goal
+    go : Dec (length xs % rowSize ≡ 0) → Dec (maxRows < n) → Dec (n < 1) → Goal
     go (no a) b c = (λ e. eq-else _ _ _ _ a, λ m. absurd (m (eq-else _ _ _ _ a)))
     go (yes a) (yes b) (yes c) = absurd (omega arith)
     go (yes a) (yes b) (no c) = (λ e. eq-then _ _ _ _ a ∙ lt-else _ _ _ _ (omega arith) ∙ lt-then _ _ _ _ b, λ m. absurd (m (eq-then _ _ _ _ a ∙ lt-then _ _ _ _ b)))
     go (yes a) (no b) (yes c) =
         (λ e. eq-then _ _ _ _ a ∙ lt-then _ _ _ _ c, λ m. absurd (m (eq-then _ _ _ _ a ∙ lt-else _ _ _ _ (omega arith) ∙ omega arith)))
     go (yes a) (no b) (no c) = (
-      λ e. absurd (omega (arith, sym (eq-then (length xs % 11) 0 (ifLt 1024 n 0 n) 0 a ∙ lt-else 1024 n 0 n (omega arith)) ∙ e)),
+      λ e. absurd (omega (arith, sym (eq-then (length xs % rowSize) 0 (ifLt maxRows n 0 n) 0 a ∙ lt-else maxRows n 0 n (omega arith)) ∙ e)),
       λ m. (eq-then _ _ _ _ a ∙ lt-else _ _ _ _ (omega arith) ∙ lt-else _ _ _ _ (omega arith), eq-then _ _ _ _ a ∙ lt-else _ _ _ _ (omega arith)),
     )
 
-pub rows-many : (xs : List ℕ) → (rowsIn xs * 11 ≤ length xs) × (rowsIn xs ≤ 1024)
+pub rows-many : (xs : List ℕ) → (rowsIn xs * rowSize ≤ length xs) × (rowsIn xs ≤ maxRows)
 unfolding rowsIn
-rows-many xs = go (ℕ-discrete (length xs % 11) 0) (decLt 1024 (length xs / 11))
+rows-many xs = go (ℕ-discrete (length xs % rowSize) 0) (decLt maxRows (length xs / rowSize))
   where
-    go : Dec (length xs % 11 ≡ 0) → Dec (1024 < length xs / 11)
-        → (ifEq (length xs % 11) 0 (ifLt 1024 (length xs / 11) 0 (length xs / 11)) 0 * 11 ≤ length xs)
-        × (ifEq (length xs % 11) 0 (ifLt 1024 (length xs / 11) 0 (length xs / 11)) 0 ≤ 1024)
-    go (no a) b = rw (eq-else (length xs % 11) 0 (ifLt 1024 (length xs / 11) 0 (length xs / 11)) 0 a) (omega arith)
-    go (yes a) (yes b) = rw (eq-then (length xs % 11) 0 (ifLt 1024 (length xs / 11) 0 (length xs / 11)) 0 a, lt-then 1024 (length xs / 11) 0 (length xs / 11) b) (omega arith)
-    go (yes a) (no b) = rw (eq-then (length xs % 11) 0 (ifLt 1024 (length xs / 11) 0 (length xs / 11)) 0 a, lt-else 1024 (length xs / 11) 0 (length xs / 11) (omega arith)) (omega arith)
+    go : Dec (length xs % rowSize ≡ 0) → Dec (maxRows < length xs / rowSize)
+        → (ifEq (length xs % rowSize) 0 (ifLt maxRows (length xs / rowSize) 0 (length xs / rowSize)) 0 * rowSize ≤ length xs)
+        × (ifEq (length xs % rowSize) 0 (ifLt maxRows (length xs / rowSize) 0 (length xs / rowSize)) 0 ≤ maxRows)
+    go (no a) b = rw (eq-else (length xs % rowSize) 0 (ifLt maxRows (length xs / rowSize) 0 (length xs / rowSize)) 0 a) (omega arith)
+    go (yes a) (yes b) = rw (eq-then (length xs % rowSize) 0 (ifLt maxRows (length xs / rowSize) 0 (length xs / rowSize)) 0 a, lt-then maxRows (length xs / rowSize) 0 (length xs / rowSize) b) (omega arith)
+    go (yes a) (no b) = rw (eq-then (length xs % rowSize) 0 (ifLt maxRows (length xs / rowSize) 0 (length xs / rowSize)) 0 a, lt-else maxRows (length xs / rowSize) 0 (length xs / rowSize) (omega arith)) (omega arith)
 
 -- One check after another.
 passes-first : (v : Verdict) → andThen Accepted v ≡ v
@@ -113,7 +113,7 @@ module _ (xs t : List ℕ) (s : Scan) (S : Scanned xs (rowsIn xs) t s) where
     fine-law : s .fault ≡ 0 → judged xs t (rowsIn xs) (s .fault) (s .row) (s .blocks) ≡ verdict xs
     unfolding judged verdict
     fine-law z =
-        let few : rowsIn xs ≤ 1024 = rows-many xs .1 in
+        let few : rowsIn xs ≤ maxRows = rows-many xs .1 in
         let r : checkRows start 1 (rowsOf xs) ≡ Accepted = rw rows-are at (S .passed z) in
         let e9 = rw (rows-are, blocks-of) at (ends-law xs (rowsIn xs) (S .fine z) few) in
         let e10 = rw (rows-are, blocks-of) at (totals-law xs (rowsIn xs) (S .fine z) few) in
@@ -155,7 +155,7 @@ module _ (xs t : List ℕ) (s : Scan) (S : Scanned xs (rowsIn xs) t s) where
   is-checked v e = record { said = e ∙ judged-law; table = λ a. table-is a }
 
 -- The same with the number of rows under another name.
-pub pass-asks : (xs t : List ℕ) (n : ℕ) → n ≡ rowsIn xs → t ≡ replicate 512 0 → (n * 11 ≤ length xs) × (n ≤ 1024) × (t ≡ replicate 512 0)
+pub pass-asks : (xs t : List ℕ) (n : ℕ) → n ≡ rowsIn xs → t ≡ replicate indexSize 0 → (n * rowSize ≤ length xs) × (n ≤ maxRows) × (t ≡ replicate indexSize 0)
 pass-asks xs t n e empty = let m = rows-many xs in (rw e (m .0), rw e (m .1), empty)
 
 pub checked-of : (xs t : List ℕ) (n : ℕ) (s : Scan) (v : Verdict) → n ≡ rowsIn xs → Scanned xs n t s

@@ -5,11 +5,13 @@ use native.Mathlib.Decide.{ℕ-discrete}
 use mathlib.Core.Path.{_≡_, refl, sym, _∙_, ap}
 use mathlib.Core.List.{List, _∷_}
 use lib.ListN.{getD, replicate}
+use Rattle.model.specs.Limits.{rowSize, maxRows}
 use Rattle.model.specs.Rows.{rowAt, rowsFrom}
 use Rattle.model.specs.Rules.{start, fault}
 use Rattle.model.specs.Verdicts.{refused, checkRows}
 use Rattle.model.specs.declared.Verdict.the-variants.{Accepted}
 use Rattle.basics.proofs.Choices.{eq-then, eq-else}
+use Rattle.verdicts.specs.Index.{indexSize}
 use Rattle.rules.specs.Faults.{faultOf}
 use Rattle.verdicts.specs.Passing.{manyOf, Many, noted, nextState, seenTo, stateTo, tableTo, Fine, Scanned}
 use Rattle.verdicts.specs.declared.State.{State}
@@ -22,7 +24,7 @@ pub record GoingRows (xs : List ℕ) (n : ℕ) (t : List ℕ) (s : State) (r : �
   pub fine : Fine xs r
   pub rest : checkRows start 1 (rowsFrom xs 0 n) ≡ checkRows (seenTo xs r) (suc r) (rowsFrom xs r (n - r))
 
-pub going-begin : (xs : List ℕ) (n : ℕ) (t : List ℕ) → t ≡ replicate 512 0 → GoingRows xs n t (record { blocks = 0; cues = 0; kind = 0 }) 0
+pub going-begin : (xs : List ℕ) (n : ℕ) (t : List ℕ) → t ≡ replicate indexSize 0 → GoingRows xs n t (record { blocks = 0; cues = 0; kind = 0 }) 0
 unfolding tableTo stateTo seenTo
 going-begin xs n t empty =
     let e : n - 0 ≡ n = omega arith in
@@ -36,18 +38,18 @@ rows-next xs n r h = let e : n - r ≡ suc (n - (r + 1)) = omega arith in rw (e,
 pub blocks-few : (xs : List ℕ) (r : ℕ) → stateTo xs r .blocks ≤ r
 unfolding stateTo nextState
 blocks-few xs zero = omega arith
-blocks-few xs (suc r) = go (ℕ-discrete (getD xs (r * 11 + 1) 0) 0) (blocks-few xs r)
+blocks-few xs (suc r) = go (ℕ-discrete (getD xs (r * rowSize + 1) 0) 0) (blocks-few xs r)
   where
-    go : Dec (getD xs (r * 11 + 1) 0 ≡ 0) → stateTo xs r .blocks ≤ r → nextState xs (r * 11) (stateTo xs r) .blocks ≤ suc r
-    go (yes q) h = rw (eq-then (getD xs (r * 11 + 1) 0) 0 _ _ q) (omega arith)
-    go (no n) h = rw (eq-else (getD xs (r * 11 + 1) 0) 0 _ _ n) (omega arith)
+    go : Dec (getD xs (r * rowSize + 1) 0 ≡ 0) → stateTo xs r .blocks ≤ r → nextState xs (r * rowSize) (stateTo xs r) .blocks ≤ suc r
+    go (yes q) h = rw (eq-then (getD xs (r * rowSize + 1) 0) 0 _ _ q) (omega arith)
+    go (no n) h = rw (eq-else (getD xs (r * rowSize + 1) 0) 0 _ _ n) (omega arith)
 
 module _ (xs : List ℕ) (n : ℕ) (t : List ℕ) (s : State) (r : ℕ) (g : GoingRows xs n t s r) where
   -- What the code found at row r.
   pub record FaultFound (q many k : ℕ) : Type 0 where
     pub before : q ≡ r - 1
-    pub joins : Many (manyOf xs t (r * 11) (s .blocks)) many
-    pub number : k ≡ faultOf xs (r * 11) (q * 11) (s .blocks) (s .cues) (s .kind) many
+    pub joins : Many (manyOf xs t (r * rowSize) (s .blocks)) many
+    pub number : k ≡ faultOf xs (r * rowSize) (q * rowSize) (s .blocks) (s .cues) (s .kind) many
 
   found-is : (q many k : ℕ) → FaultFound q many k → k ≡ fault (seenTo xs r) (rowAt xs r)
   found-is q many k f =
@@ -66,8 +68,8 @@ module _ (xs : List ℕ) (n : ℕ) (t : List ℕ) (s : State) (r : ℕ) (g : Goi
           rw (w, checkRows, z, e, v)
 
   pub going-on : (q many k : ℕ) (t′ : List ℕ) (s′ : State) → r < n → FaultFound q many k → k ≡ 0
-      → t′ ≡ noted t (getD xs (r * 11) 0) (getD xs (r * 11 + 1) 0) (getD xs (r * 11 + 2) 0) (getD xs (r * 11 + 3) 0) r
-      → s′ ≡ nextState xs (r * 11) s → GoingRows xs n t′ s′ (r + 1)
+      → t′ ≡ noted t (getD xs (r * rowSize) 0) (getD xs (r * rowSize + 1) 0) (getD xs (r * rowSize + 2) 0) (getD xs (r * rowSize + 3) 0) r
+      → s′ ≡ nextState xs (r * rowSize) s → GoingRows xs n t′ s′ (r + 1)
   unfolding checkRows tableTo stateTo seenTo
   going-on q many k t′ s′ h f z et es =
       let w : fault (seenTo xs r) (rowAt xs r) ≡ 0 = sym (found-is q many k f) ∙ z in
@@ -112,5 +114,5 @@ scanned-done xs n t s r g h =
     }
 
 -- So many blocks can't be open before the last row.
-pub going-blocks : (xs : List ℕ) (n : ℕ) (t : List ℕ) (s : State) (r : ℕ) → GoingRows xs n t s r → n ≤ 1024 → s .blocks ≤ 1024
+pub going-blocks : (xs : List ℕ) (n : ℕ) (t : List ℕ) (s : State) (r : ℕ) → GoingRows xs n t s r → n ≤ maxRows → s .blocks ≤ maxRows
 going-blocks xs n t s r g h = rw (g .state) (omega (arith, blocks-few xs r, g .few))

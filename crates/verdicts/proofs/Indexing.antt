@@ -7,7 +7,7 @@ use mathlib.Core.Bool.{true}
 use mathlib.Core.List.{List, [], _∷_, _++_, List·Memᴰ·head, Memᴰ·append-right}
 use lib.ListN.{length, getD, take}
 use Rattle.model.specs.Choice.{ifEq, ifLt}
-use Rattle.model.specs.Limits.{maxBlocks, maxTotal}
+use Rattle.model.specs.Limits.{rowSize, maxOwn, maxBlocks, maxTotal}
 use Rattle.model.specs.Rows.{Row, cell, rowAt, rowsFrom, rowCount, rowsOf}
 use Rattle.model.specs.Rules.{Seen, start, goesOn, mayFollow, fault, after}
 use Rattle.model.specs.Blocks.{Link, Use, Block, blockAt, joinsOf, addLink, addUse, addRow, addRows, total, blocksOf}
@@ -94,11 +94,11 @@ module _ (xs : List ℕ) (all : List Block) (r : ℕ) (k : KnownRows xs r) (ok :
   p : Passed s w
   p = faultless s w ok
 
-  block-is : getD xs (r * 11) 0 ≡ w .block
+  block-is : getD xs (r * rowSize) 0 ≡ w .block
   unfolding rowAt cell
-  block-is = let e : r * 11 ≡ r * 11 + 0 = omega arith in ap (λ (i : ℕ). getD xs i 0) e
+  block-is = let e : r * rowSize ≡ r * rowSize + 0 = omega arith in ap (λ (i : ℕ). getD xs i 0) e
 
-  kind-is : getD xs (r * 11 + 1) 0 ≡ w .kind
+  kind-is : getD xs (r * rowSize + 1) 0 ≡ w .kind
   unfolding rowAt cell
   kind-is = refl
 
@@ -142,7 +142,7 @@ module _ (xs : List ℕ) (all : List Block) (r : ℕ) (k : KnownRows xs r) (ok :
   unfolding addRow
   blocks-use q = eq-else _ _ _ _ (λ e. omega arith) ∙ eq-else _ _ _ _ (λ e. omega arith)
 
-  head-own : {b : Block} {cs : List Block} → Good (b ∷ cs) → b .own ≤ 255
+  head-own : {b : Block} {cs : List Block} → Good (b ∷ cs) → b .own ≤ maxOwn
   head-own (more g gs) = g .own
 
   last-lower : {b : Block} {cs : List Block} (us : List Use) (u : Use) → b .uses ≡ us ++ (u ∷ []) → Good (b ∷ cs) → u .block < length cs
@@ -159,8 +159,8 @@ module _ (xs : List ℕ) (all : List Block) (r : ℕ) (k : KnownRows xs r) (ok :
 
   next-open : Now → w .kind ≡ 0 → w .block ≡ length (s .joins) → length (s .joins) < maxBlocks → Next
   next-open T q h few =
-      let own : cell xs r 3 ≤ 255 = head-own (rw (blocks-open q) at (tracked .good)) in
-      let room : length bs < 128 = omega (arith, count-is) in
+      let own : cell xs r 3 ≤ maxOwn = head-own (rw (blocks-open q) at (tracked .good)) in
+      let room : length bs < maxBlocks = omega (arith, count-is) in
       let at : w .block ≡ length bs = h ∙ count-is in
       table-cast (sym (rw at at (noted-open q))) (sym (blocks-open q)) (sym q) (open-table xs all (tableTo xs r) r bs (s .before .kind) T room own)
 
@@ -174,7 +174,7 @@ module _ (xs : List ℕ) (all : List Block) (r : ℕ) (k : KnownRows xs r) (ok :
       let at : w .block ≡ length earlier = current b earlier e h in
       let few : length bs ≤ maxBlocks = k .tracks .few in
       let f : length bs ≡ suc (length earlier) = ap length e in
-      let room : length earlier < 128 = omega arith in
+      let room : length earlier < maxBlocks = omega arith in
       table-cast (sym (rw at at (noted-link q))) (sym (blocks-link q ∙ ap (addLink (linkAt xs r)) e)) (sym q)
       (link-table xs all (tableTo xs r) r b earlier (s .before .kind) (rw e at T) room (before-uses q))
 
@@ -192,7 +192,7 @@ module _ (xs : List ℕ) (all : List Block) (r : ℕ) (k : KnownRows xs r) (ok :
       let at : w .block ≡ length earlier = current b earlier e h in
       let few : length bs ≤ maxBlocks = k .tracks .few in
       let f : length bs ≡ suc (length earlier) = ap length e in
-      let room : length earlier < 128 = omega arith in
+      let room : length earlier < maxBlocks = omega arith in
       let u : Use = record { block = w .label; at = take (joinsOf bs (w .label)) (w .columns) } in
       let g : addRow bs w ≡ addUse u (b ∷ earlier) = blocks-use q ∙ ap (addUse u) e in
       let lower : w .label < length earlier = last-lower (b .uses) u refl (rw g at (tracked .good)) in
@@ -239,14 +239,14 @@ module _ (xs : List ℕ) (r : ℕ) (f : Fine xs r) where
   T = tables xs 0 r f
 
   abbrev many : ℕ
-  many = manyOf xs (tableTo xs r) (r * 11) (stateTo xs r .blocks)
+  many = manyOf xs (tableTo xs r) (r * rowSize) (stateTo xs r .blocks)
 
   many-use : rowAt xs r .kind ≡ 2 → many ≡ getD (seenTo xs r .joins) (rowAt xs r .label) 0
   unfolding manyOf rowAt cell
-  many-use q = eq-then _ _ _ _ q ∙ go (decLt (getD xs (r * 11 + 2) 0) (stateTo xs r .blocks))
+  many-use q = eq-then _ _ _ _ q ∙ go (decLt (getD xs (r * rowSize + 2) 0) (stateTo xs r .blocks))
     where
       label : ℕ
-      label = getD xs (r * 11 + 2) 0
+      label = getD xs (r * rowSize + 2) 0
 
       go : Dec (label < stateTo xs r .blocks)
           → ifLt label (stateTo xs r .blocks) (ifLt 8 (joinsAt xs (tableTo xs r) label) 0 (joinsAt xs (tableTo xs r) label)) 0
@@ -262,7 +262,7 @@ module _ (xs : List ℕ) (r : ℕ) (f : Fine xs r) where
 
   -- What the code finds at row r is what the model's checks say of it.
   pub fault-is : (m : ℕ) → Many many m
-      → faultOf xs (r * 11) ((r - 1) * 11) (stateTo xs r .blocks) (stateTo xs r .cues) (stateTo xs r .kind) m ≡ fault (seenTo xs r) (rowAt xs r)
+      → faultOf xs (r * rowSize) ((r - 1) * rowSize) (stateTo xs r .blocks) (stateTo xs r .cues) (stateTo xs r .kind) m ≡ fault (seenTo xs r) (rowAt xs r)
   fault-is m x =
       rw (k .blocks, k .cues, k .kind)
       (fault-law (seenTo xs r) xs r (r - 1) (k .same) m (x .few) (λ q. x .same ∙ many-use q))

@@ -6,6 +6,7 @@ use mathlib.Core.Path.{_≡_, refl, sym, _∙_, ap}
 use mathlib.Core.List.{List, [], _∷_, _++_}
 use lib.ListN.{length, getD, length-append}
 use lib.Seq.{getD-append-seam}
+use Rattle.model.specs.Limits.{rowSize, maxJoins, maxOwn}
 use Rattle.model.specs.Rows.{Row, cell, rowAt, rowsFrom}
 use Rattle.model.specs.Rules.{Seen, start, cuesIn, fault, after}
 use Rattle.model.specs.Blocks.{Block, addRow, addRows}
@@ -40,7 +41,7 @@ known-start xs =
     record { tracks = tracks-start; blocks = refl; cues = omega arith; kind = refl; same = λ n. absurd (n refl) }
 
 -- The cues of a block that was just opened.
-opened-cues : (own label : ℕ) → own ≤ 255 → label ≤ 8 → cuesOf own label ≡ own + label
+opened-cues : (own label : ℕ) → own ≤ maxOwn → label ≤ maxJoins → cuesOf own label ≡ own + label
 unfolding cuesOf
 opened-cues own label h k = lt-else _ _ _ _ h ∙ lt-else _ _ _ _ k
 
@@ -51,7 +52,7 @@ opened-seen joins own label w =
     rw (e, getD-append-seam joins label [] 0)
 
 -- The first block of a well-formed list is small.
-head-small : {b : Block} {bs : List Block} → Good (b ∷ bs) → (b .own ≤ 255) × (b .joins ≤ 8)
+head-small : {b : Block} {bs : List Block} → Good (b ∷ bs) → (b .own ≤ maxOwn) × (b .joins ≤ maxJoins)
 head-small (more g gs) = (g .own, g .joins)
 
 module _ (xs : List ℕ) (r : ℕ) (k : KnownRows xs r) (ok : fault (seenTo xs r) (rowAt xs r) ≡ 0) where
@@ -68,11 +69,11 @@ module _ (xs : List ℕ) (r : ℕ) (k : KnownRows xs r) (ok : fault (seenTo xs r
   tracked : Tracks (after s w) (addRow (blocksTo xs r) w)
   tracked = tracks-step s w (blocksTo xs r) eight ok (k .tracks)
 
-  kind-is : w .kind ≡ getD xs (r * 11 + 1) 0
+  kind-is : w .kind ≡ getD xs (r * rowSize + 1) 0
   unfolding rowAt cell
   kind-is = refl
 
-  open-small : w .kind ≡ 0 → (getD xs (r * 11 + 3) 0 ≤ 255) × (getD xs (r * 11 + 2) 0 ≤ 8)
+  open-small : w .kind ≡ 0 → (getD xs (r * rowSize + 3) 0 ≤ maxOwn) × (getD xs (r * rowSize + 2) 0 ≤ maxJoins)
   unfolding addRow rowAt cell
   open-small q = head-small (rw (eq-then (w .kind) 0 _ _ q) at (tracked .good))
 
@@ -93,12 +94,12 @@ module _ (xs : List ℕ) (r : ℕ) (k : KnownRows xs r) (ok : fault (seenTo xs r
 
   next-open : w .kind ≡ 0
       → stateTo xs (suc r)
-      ≡ record { blocks = stateTo xs r .blocks + 1; cues = cuesOf (getD xs (r * 11 + 3) 0) (getD xs (r * 11 + 2) 0); kind = getD xs (r * 11 + 1) 0 }
+      ≡ record { blocks = stateTo xs r .blocks + 1; cues = cuesOf (getD xs (r * rowSize + 3) 0) (getD xs (r * rowSize + 2) 0); kind = getD xs (r * rowSize + 1) 0 }
   unfolding stateTo nextState
   next-open q = eq-then _ _ _ _ (sym kind-is ∙ q)
 
   next-other : (w .kind ≡ 0 → ⊥)
-      → stateTo xs (suc r) ≡ record { blocks = stateTo xs r .blocks; cues = stateTo xs r .cues; kind = getD xs (r * 11 + 1) 0 }
+      → stateTo xs (suc r) ≡ record { blocks = stateTo xs r .blocks; cues = stateTo xs r .cues; kind = getD xs (r * rowSize + 1) 0 }
   unfolding stateTo nextState
   next-other n = eq-else _ _ _ _ (λ e. n (kind-is ∙ e))
 
@@ -114,11 +115,11 @@ module _ (xs : List ℕ) (r : ℕ) (k : KnownRows xs r) (ok : fault (seenTo xs r
   unfolding cuesIn
   cues-same = refl
 
-  cues-open : cuesOf (getD xs (r * 11 + 3) 0) (getD xs (r * 11 + 2) 0) ≡ cuesOf (getD (w .columns) 0 0) (w .label)
+  cues-open : cuesOf (getD xs (r * rowSize + 3) 0) (getD xs (r * rowSize + 2) 0) ≡ cuesOf (getD (w .columns) 0 0) (w .label)
   unfolding rowAt cell
   cues-open = refl
 
-  small : w .kind ≡ 0 → (getD (w .columns) 0 0 ≤ 255) × (w .label ≤ 8)
+  small : w .kind ≡ 0 → (getD (w .columns) 0 0 ≤ maxOwn) × (w .label ≤ maxJoins)
   unfolding rowAt cell
   small q = open-small q
 

@@ -9,7 +9,7 @@ use mathlib.Core.List.{List, [], _∷_, _++_, append-nil}
 use lib.ListN.{length, getD, length-append, List·getD-append}
 use lib.Seq.{getD-append-seam}
 use Rattle.model.specs.Choice.{ifEq, ifLt}
-use Rattle.model.specs.Limits.{maxTotal}
+use Rattle.model.specs.Limits.{maxBlocks, maxRows, maxTotal}
 use Rattle.model.specs.Rows.{Row, cell, rowAt, rowsFrom}
 use Rattle.model.specs.Rules.{fault}
 use Rattle.model.specs.Blocks.{Block, joinsOf, ownOf, total, addRow}
@@ -92,7 +92,7 @@ module _ (xs : List ℕ) (r : ℕ) (f : Fine xs r) (ok : fault (seenTo xs r) (ro
         each = λ j h. let l : j < length (blocksTo xs r) = rw e at h in rw (other-openings n, same j l) (F .each j l);
       }
 
-  open-firsts : w .kind ≡ 0 → w .block ≡ length (blocksTo xs r) → length (blocksTo xs r) < 128 → Firsts xs (suc r)
+  open-firsts : w .kind ≡ 0 → w .block ≡ length (blocksTo xs r) → length (blocksTo xs r) < maxBlocks → Firsts xs (suc r)
   unfolding blocksTo
   open-firsts q at room = record { many = count; each = λ j h. go j h (ℕ-discrete j (length (blocksTo xs r))) }
     where
@@ -156,7 +156,7 @@ firsts xs (suc r) f =
     next-firsts xs r g (f r (omega arith)) (firsts xs r g)
 
 -- A check of all blocks, by the table.
-row-number : (r : ℕ) → r < 1024 → rowNumber r ≡ r + 1
+row-number : (r : ℕ) → r < maxRows → rowNumber r ≡ r + 1
 unfolding rowNumber
 row-number r h = lt-then _ _ _ _ h
 
@@ -170,17 +170,17 @@ placed-some number p n = eq-else _ _ _ _ n
 
 blocks-by-table : (number : ℕ) (ok ok′ : ℕ → Bool) (t : List ℕ) (k : ℕ) (rs : List ℕ)
     → ((j : ℕ) → k ≤ j → j < k + length rs → ok j ≡ ok′ j)
-    → ((j : ℕ) → j < length rs → (getD rs j 0 ≡ getD t ((k + j) * 4) 0 + 1) × (getD t ((k + j) * 4) 0 < 1024))
+    → ((j : ℕ) → j < length rs → (getD rs j 0 ≡ getD t ((k + j) * 4) 0 + 1) × (getD t ((k + j) * 4) 0 < maxRows))
     → checkBlocks number ok k rs ≡ placed number (placeFrom ok′ t k (length rs))
 unfolding checkBlocks placeFrom
 blocks-by-table number ok ok′ t k [] h g = sym (placed-none number)
 blocks-by-table number ok ok′ t k (r ∷ rs) h g =
     go (ok k) refl (blocks-by-table number ok ok′ t (suc k) rs (λ j a l. h j (omega arith) (omega arith)) (λ j l. later j l))
   where
-    later : (j : ℕ) → j < length rs → (getD rs j 0 ≡ getD t ((suc k + j) * 4) 0 + 1) × (getD t ((suc k + j) * 4) 0 < 1024)
+    later : (j : ℕ) → j < length rs → (getD rs j 0 ≡ getD t ((suc k + j) * 4) 0 + 1) × (getD t ((suc k + j) * 4) 0 < maxRows)
     later j l = let e : k + suc j ≡ suc k + j = omega arith in rw e at (g (suc j) (omega arith))
 
-    first : (r ≡ getD t (k * 4) 0 + 1) × (getD t (k * 4) 0 < 1024)
+    first : (r ≡ getD t (k * 4) 0 + 1) × (getD t (k * 4) 0 < maxRows)
     first = let e : k + 0 ≡ k = omega arith in rw e at (g 0 (omega arith))
 
     at : ok k ≡ ok′ k
@@ -219,7 +219,7 @@ module _ (xs : List ℕ) (all : List Block) (t : List ℕ) (r : ℕ) (bs : List 
       go (no l) = lt-else _ _ _ _ (omega arith) ∙ sym (lt-else _ _ _ _ (rw (capped-fit (total bs k) (omega arith)) (omega arith)))
 
 -- Checks 9 and 10 of n rows without a fault.
-module _ (xs : List ℕ) (n : ℕ) (f : Fine xs n) (few : n ≤ 1024) where
+module _ (xs : List ℕ) (n : ℕ) (f : Fine xs n) (few : n ≤ maxRows) where
   abbrev t : List ℕ
   t = tableTo xs n
 
@@ -232,7 +232,7 @@ module _ (xs : List ℕ) (n : ℕ) (f : Fine xs n) (few : n ≤ 1024) where
       let F = firsts xs n f in
       rw (F .many) at (blocks-by-table number ok ok′ t 0 (openings xs n) (λ j a l. h j (omega (arith, F .many))) (λ j l. at j (rw (F .many) at l)))
     where
-      at : (j : ℕ) → j < length bs → (getD (openings xs n) j 0 ≡ getD t ((0 + j) * 4) 0 + 1) × (getD t ((0 + j) * 4) 0 < 1024)
+      at : (j : ℕ) → j < length bs → (getD (openings xs n) j 0 ≡ getD t ((0 + j) * 4) 0 + 1) × (getD t ((0 + j) * 4) 0 < maxRows)
       at j l =
           let e : 0 + j ≡ j = omega arith in
           let E = tables xs 0 n f .each j l in

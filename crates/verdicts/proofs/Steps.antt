@@ -17,7 +17,7 @@ pub past : (xs : List ℕ) (i : ℕ) → length xs ≤ i → 0 ≡ getD xs i 0
 past xs i h = sym (List·getD-eq-default xs 0 h)
 
 -- A sum that is too large, and one that is not.
-pub capped-large : (n s : ℕ) → s ≡ n → maxTotal < s → 2147483648 ≡ capped n
+pub capped-large : (n s : ℕ) → s ≡ n → maxTotal < s → maxTotal + 1 ≡ capped n
 unfolding capped
 capped-large n s e h = sym (lt-then maxTotal n _ _ (rw e at h))
 

@@ -8,38 +8,38 @@ use mathlib.Core.List.{List, [], _∷_, _++_}
 use lib.ListN.{length, getD, set, length-set, replicate, length-replicate}
 use lib.Seq.{getD-set-same, getD-set-other}
 use borrow.Author.Tests.{eq-eqb, ne-eqb}
-use Rattle.model.specs.Limits.{maxTotal}
+use Rattle.model.specs.Limits.{maxOwn, maxBlocks, maxTotal}
 use Rattle.model.specs.Rows.{cell}
 use Rattle.model.specs.Blocks.{Link, Use, Block, blockAt, sumOver, total}
 use Rattle.basics.proofs.Choices.{lt-then, lt-else}
 use Rattle.shows.proofs.AtBlock.{blockAt-hit, blockAt-skip, total-hit, total-skip}
-use Rattle.verdicts.specs.Index.{linkAt, linksFrom, useAt, usesFrom, blockFrom}
+use Rattle.verdicts.specs.Index.{indexSize, linkAt, linksFrom, useAt, usesFrom, blockFrom}
 use Rattle.verdicts.specs.Passing.{capped, putAt, notedOpen}
 
 -- Numbers put into the table.
 module _ (t : List ℕ) (i v : ℕ) where
-  put-in : i < 512 → putAt t i v ≡ set t i v
+  put-in : i < indexSize → putAt t i v ≡ set t i v
   unfolding putAt
   put-in h = lt-then _ _ _ _ h
 
-  put-out : 512 ≤ i → putAt t i v ≡ t
+  put-out : indexSize ≤ i → putAt t i v ≡ t
   unfolding putAt
   put-out h = lt-else _ _ _ _ h
 
   put-length : length (putAt t i v) ≡ length t
-  put-length = go (decLt i 512)
+  put-length = go (decLt i indexSize)
     where
-      go : Dec (i < 512) → length (putAt t i v) ≡ length t
+      go : Dec (i < indexSize) → length (putAt t i v) ≡ length t
       go (yes h) = rw (put-in h) (length-set t i v)
       go (no h) = rw (put-out (omega arith))
 
-  put-same : length t ≡ 512 → i < 512 → getD (putAt t i v) i 0 ≡ v
+  put-same : length t ≡ indexSize → i < indexSize → getD (putAt t i v) i 0 ≡ v
   put-same e h = rw (put-in h) (getD-set-same t i v 0 (omega arith))
 
   pub put-other : (j : ℕ) → j ≢ i → getD (putAt t i v) j 0 ≡ getD t j 0
-  put-other j n = go (decLt i 512)
+  put-other j n = go (decLt i indexSize)
     where
-      go : Dec (i < 512) → getD (putAt t i v) j 0 ≡ getD t j 0
+      go : Dec (i < indexSize) → getD (putAt t i v) j 0 ≡ getD t j 0
       go (yes h) = rw (put-in h) (getD-set-other t i j v 0 n)
       go (no h) = rw (put-out (omega arith))
 
@@ -48,7 +48,7 @@ pub capped-fit : (n : ℕ) → n ≤ maxTotal → capped n ≡ n
 unfolding capped
 capped-fit n h = lt-else _ _ _ _ h
 
-pub capped-over : (n : ℕ) → maxTotal < n → capped n ≡ 2147483648
+pub capped-over : (n : ℕ) → maxTotal < n → capped n ≡ maxTotal + 1
 unfolding capped
 capped-over n h = lt-then _ _ _ _ h
 
@@ -106,17 +106,17 @@ entry-same xs all t t′ r k b tot h e =
 
 -- What the table says of the blocks of the first r rows, the last of which has the kind given.
 pub record TableFor (xs : List ℕ) (all : List Block) (t : List ℕ) (r : ℕ) (bs : List Block) (kind : ℕ) : Type 0 where
-  pub size : length t ≡ 512
+  pub size : length t ≡ indexSize
   pub each : (k : ℕ) → k < length bs → Entry xs all t r k (blockAt bs k) (total bs k)
   pub last : (m : ℕ) → length bs ≡ suc m → getD t (m * 4 + 2) 0 ≡ r
   pub unused : (m : ℕ) → length bs ≡ suc m → kind < 2 → getD t (m * 4 + 1) 0 ≡ r
 
-pub table-start : (xs : List ℕ) (all : List Block) → TableFor xs all (replicate 512 0) 0 [] 0
+pub table-start : (xs : List ℕ) (all : List Block) → TableFor xs all (replicate indexSize 0) 0 [] 0
 table-start xs all =
-    record { size = length-replicate {A = ℕ} 512 0; each = λ k h. absurd (omega arith); last = λ m e. absurd (omega arith); unused = λ m e. absurd (omega arith) }
+    record { size = length-replicate {A = ℕ} indexSize 0; each = λ k h. absurd (omega arith); last = λ m e. absurd (omega arith); unused = λ m e. absurd (omega arith) }
 
 -- What an opening puts in at a place a.
-module _ (t : List ℕ) (a r own : ℕ) (size : length t ≡ 512) (room : a + 3 < 512) where
+module _ (t : List ℕ) (a r own : ℕ) (size : length t ≡ indexSize) (room : a + 3 < indexSize) where
   abbrev t₁ : List ℕ
   t₁ = putAt t a r
 
@@ -126,16 +126,16 @@ module _ (t : List ℕ) (a r own : ℕ) (size : length t ≡ 512) (room : a + 3 
   abbrev t₃ : List ℕ
   t₃ = putAt t₂ (a + 2) (r + 1)
 
-  size₁ : length t₁ ≡ 512
+  size₁ : length t₁ ≡ indexSize
   size₁ = put-length t a r ∙ size
 
-  size₂ : length t₂ ≡ 512
+  size₂ : length t₂ ≡ indexSize
   size₂ = put-length t₁ (a + 1) (r + 1) ∙ size₁
 
-  size₃ : length t₃ ≡ 512
+  size₃ : length t₃ ≡ indexSize
   size₃ = put-length t₂ (a + 2) (r + 1) ∙ size₂
 
-  open-size : length (notedOpen t a r own) ≡ 512
+  open-size : length (notedOpen t a r own) ≡ indexSize
   unfolding notedOpen
   open-size = put-length t₃ (a + 3) own ∙ size₃
 
@@ -178,11 +178,11 @@ module _ (xs : List ℕ) (all : List Block) (t : List ℕ) (r : ℕ) (bs : List 
   unfolding sumOver
   opened-total = total-hit opened bs (length bs) (eq-eqb (length bs) (length bs) refl) ∙ omega arith
 
-  module _ (room : length bs < 128) (small : cell xs r 3 ≤ 255) where
+  module _ (room : length bs < maxBlocks) (small : cell xs r 3 ≤ maxOwn) where
     abbrev pub t′ : List ℕ
     t′ = notedOpen t (length bs * 4) r (cell xs r 3)
 
-    fits : length bs * 4 + 3 < 512
+    fits : length bs * 4 + 3 < indexSize
     fits = omega arith
 
     new-entry : Entry xs all t′ (suc r) (length bs) (blockAt (opened ∷ bs) (length bs)) (total (opened ∷ bs) (length bs))
@@ -220,7 +220,7 @@ module _ (xs : List ℕ) (all : List Block) (t : List ℕ) (r : ℕ) (bs : List 
 
 -- A link or a use of the current block b, which is the first of the list.
 module _ (xs : List ℕ) (all : List Block) (t : List ℕ) (r : ℕ) (b : Block) (earlier : List Block) (kind : ℕ) (T : TableFor xs all t r (b ∷ earlier) kind)
-    (room : length earlier < 128) where
+    (room : length earlier < maxBlocks) where
   abbrev c : ℕ
   c = length earlier
 
@@ -262,7 +262,7 @@ module _ (xs : List ℕ) (all : List Block) (t : List ℕ) (r : ℕ) (b : Block)
     abbrev pub linked : Block
     linked = record { joins = b .joins; own = b .own; links = b .links ++ (linkAt xs r ∷ []); uses = b .uses }
 
-    l-size : length l₁ ≡ 512
+    l-size : length l₁ ≡ indexSize
     l-size = put-length t (c * 4 + 2) (r + 1) ∙ T .size
 
     l-first : getD l₂ (c * 4) 0 ≡ getD t (c * 4) 0
@@ -331,7 +331,7 @@ module _ (xs : List ℕ) (all : List Block) (t : List ℕ) (r : ℕ) (b : Block)
     abbrev pub u₂ : List ℕ
     u₂ = putAt u₁ (c * 4 + 3) sum
 
-    u-size : length u₁ ≡ 512
+    u-size : length u₁ ≡ indexSize
     u-size = put-length t (c * 4 + 2) (r + 1) ∙ T .size
 
     u-same : (j : ℕ) → j ≢ c * 4 + 3 → j ≢ c * 4 + 2 → getD u₂ j 0 ≡ getD t j 0

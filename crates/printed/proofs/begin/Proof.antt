@@ -2,6 +2,7 @@
 use Prim.Native.Nat.{_*_, _-_}
 use native.Mathlib.Omega.{arith}
 use borrow.Author.Needs.{needs}
+use Rattle.model.specs.Limits.{rowSize}
 use Rattle.printed.proofs.Reading.{refused-begun, count-begun, rows-small, links-begun}
 use Rattle.printed.proofs.begin.Statement.{statement}
 use Rattle.printed.proofs.begin.Tie as tie
@@ -25,7 +26,7 @@ returns-3 : tie.Need-returns-3
 returns-3 c =
     let v = c .before .before .before .before .before .before .before .before .before .many .given in
     links-begun _ _ _ (c .before .before .before .before .before .before .before .before .before .before .before .before .before .before .before .before .before .pre .1) _ (c .before .before .before .before .before .before .before .before .before .before .before .before .before .read .ensures) _ _ _ (v .0 .0) (v .0 .1 .0) (v .0 .1 .1 .0) _ _ (search needs) (c .before .before .before .before .before .before .wide .ensures) (c .before .before .before .before .before .before .before .if1 .left)
-    (c .before .before .before .before .before .before .wide .result * 11 - 0) (c .before .before .check .ensures) (omega arith) (c .put-links-title .ensures)
+    (c .before .before .before .before .before .before .wide .result * rowSize - 0) (c .before .before .check .ensures) (omega arith) (c .put-links-title .ensures)
 
 pub begin-spec : {M : Type 1} → statement M
 begin-spec =

@@ -7,12 +7,13 @@ use borrow.Author.Needs.{needs}
 use Rattle.triples.proofs.Marking.{clear-on}
 use Rattle.triples.proofs.clear.Statement.{statement}
 use Rattle.triples.proofs.clear.Tie as tie
+use Rattle.triples.specs.Marks.{marksSize}
 
 abbrev Inv-loop : tie.InvT-loop
-Inv-loop m₀ i₀ m i = (i ≤ 256256) × (length m ≡ 256256) × ((x : ℕ) → x < i → getD m x 0 ≡ 0)
+Inv-loop m₀ i₀ m i = (i ≤ marksSize) × (length m ≡ marksSize) × ((x : ℕ) → x < i → getD m x 0 ≡ 0)
 
 abbrev μ-loop : tie.MeasureT-loop
-μ-loop m₀ i₀ m i = 256256 - i
+μ-loop m₀ i₀ m i = marksSize - i
 
 loop-holds : tie.Need-loop-holds Inv-loop μ-loop
 loop-holds c = (search needs, search needs, λ x h. absurd (omega arith))

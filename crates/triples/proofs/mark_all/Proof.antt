@@ -3,15 +3,15 @@ use Prim.Native.Nat.{_-_, _≤_}
 use native.Mathlib.Omega.{arith}
 use mathlib.Core.Path.{_≡_}
 use borrow.Author.Needs.{needs}
-use Rattle.triples.specs.Marks.{TableTo}
+use Rattle.triples.specs.Marks.{labelPlaces, TableTo}
 use Rattle.triples.proofs.mark_all.Statement.{statement}
 use Rattle.triples.proofs.mark_all.Tie as tie
 
 abbrev Inv-loop : tie.InvT-loop
-Inv-loop xs t place rows m₀ lo₀ m lo = (1 ≤ lo) × (lo ≤ 256) × TableTo xs (place .cue) lo m
+Inv-loop xs t place rows m₀ lo₀ m lo = (1 ≤ lo) × (lo ≤ labelPlaces) × TableTo xs (place .cue) lo m
 
 abbrev μ-loop : tie.MeasureT-loop
-μ-loop xs t place rows m₀ lo₀ m lo = 256 - lo
+μ-loop xs t place rows m₀ lo₀ m lo = labelPlaces - lo
 
 loop-holds : tie.Need-loop-holds Inv-loop μ-loop
 loop-holds c = (search needs, search needs, c .before .pre .1)
@@ -32,7 +32,7 @@ loop-again c = let g = c .before .before .group-end .ensures in (omega arith, om
 returns : tie.Need-returns Inv-loop μ-loop
 returns c =
     let inv = c .before .loop .inv in
-    let e : c .before .loop .lo ≡ 256 = omega (arith, inv .1, c .loop-test .left) in
+    let e : c .before .loop .lo ≡ labelPlaces = omega (arith, inv .1, c .loop-test .left) in
     rw e at (inv .2)
 
 pub mark-all-spec : {M : Type 1} → statement M

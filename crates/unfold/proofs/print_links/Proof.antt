@@ -5,6 +5,7 @@ use lib.ListN.{length, length-replicate}
 use lib.Seq.{length-take-le}
 use borrow.Author.Needs.{needs}
 use Rattle.model.specs.Blocks.{blocksOf}
+use Rattle.triples.specs.Marks.{marksSize}
 use Rattle.printed.specs.Parts.{Stands, left}
 use Rattle.unfold.proofs.PrintLoop.{stands-first, part-less}
 use Rattle.unfold.proofs.print_links.Statement.{statement}
@@ -17,7 +18,7 @@ abbrev μ-loop : tie.MeasureT-loop
 μ-loop xs t cues marks₀ out₀ from₀ place₀ marks out from place = left from place
 
 loop-holds : tie.Need-loop-holds Inv-loop μ-loop
-loop-holds c = (stands-first _ _ _ _ (c .before .pre) (length-replicate {A = ℕ} 256256 0), length-replicate {A = ℕ} 65536 0)
+loop-holds c = (stands-first _ _ _ _ (c .before .pre) (length-replicate {A = ℕ} marksSize 0), length-replicate {A = ℕ} 65536 0)
 
 slice-aggregate-part : tie.Need-slice-aggregate-part Inv-loop μ-loop
 slice-aggregate-part c = search needs
