@@ -1,6 +1,5 @@
 //! A question about a file: asked of the library, and its answer printed.
 
-use std::ffi::OsStr;
 use std::io::Write;
 
 use show::{Linked, Read, Refused, Rows, PATH_LEN, ROWS_LEN, WORK_LEN};
@@ -19,13 +18,12 @@ struct Show<'a> {
     read: Read<'a>,
 }
 
-/// Reads a file and prints the answer to a question about it.
-pub fn of_file(file: &OsStr, question: &Question, out: &mut impl Write) -> Result<(), Problem> {
-    let input = Input::read(file)?;
+/// Prints the answer to a question about a file.
+pub fn of_input(input: &Input, question: &Question, out: &mut impl Write) -> Result<(), Problem> {
     let mut room = vec![0; ROWS_LEN];
     let read = Rows::read(&input.bytes, &mut room)
-        .map_err(|said| refused(&input, explain::file(&input.bytes, input.size, said)))?;
-    Show { input: &input, read }.answer(question, out)
+        .map_err(|said| refused(input, explain::file(&input.bytes, input.size, said)))?;
+    Show { input, read }.answer(question, out)
 }
 
 fn refused(input: &Input, explained: Explained) -> Problem {

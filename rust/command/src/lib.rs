@@ -18,6 +18,7 @@ use std::io::{self, BufWriter, Write};
 use std::process::ExitCode;
 
 use args::Asked;
+use input::Input;
 use problem::Problem;
 
 /// Does what the words of a command line ask for, and gives the exit status.
@@ -33,7 +34,7 @@ fn done(asked: Asked) -> Result<(), Problem> {
     let mut out = BufWriter::new(io::stdout().lock());
     match asked {
         Asked::Text(text) => out.write_all(text.as_bytes())?,
-        Asked::Of { file, question } => ask::of_file(&file, &question, &mut out)?,
+        Asked::Of { file, question } => ask::of_input(&Input::read(&file)?, &question, &mut out)?,
     }
     Ok(out.flush()?)
 }

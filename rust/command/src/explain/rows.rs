@@ -170,8 +170,12 @@ impl Seen {
 
     /// Check 8: a link that does not rise, or a use that falls. The column is the first that differs.
     fn out_of_order(&self, row: &Row) -> Option<Fault> {
+        let last = match row[1] {
+            OPENING => return None,
+            LINK => Column::B.0,
+            _ => row.len() - 1,
+        };
         let before = self.before.as_ref().filter(|before| before[1] == row[1])?;
-        let last = if row[1] == LINK { Column::B.0 } else { row.len() - 1 };
         let mut key = (Column::A.0..=last).map(Column).chain([Column::LABEL]);
         match key.find(|column| column.of(row) != column.of(before)) {
             None if row[1] == LINK => Some((None, Cause::SameLink {})),

@@ -1,0 +1,283 @@
+//! The command itself, run in a process: what it prints for the ring, and how it ends.
+
+use std::fs::File;
+use std::io::{BufRead, BufReader, Read};
+use std::process::{Command, Stdio};
+
+use second::gen::known;
+use show_command::args::COMMANDS;
+
+use crate::common::{file_of, ring, said, started};
+
+const RING: &str = "shows/ring.csv";
+const BLOCKS: &str = include_str!("../../src/picture/ring-blocks.dot");
+const UNFOLDED: &str = include_str!("../../src/picture/ring-unfolded.dot");
+
+/// Every command on the ring, with what it prints.
+const ANSWERS: &[(&[&str], &str)] = &[
+    (&["check", RING], "blocks,rows,cues\n3,9,5\n"),
+    (&["count", RING], "cues\n5\n"),
+    (&["locate", RING, "4"], "depth,block,cue,path\n2,0,1,1.1\n"),
+    (&["locate", RING, "3"], "depth,block,cue,path\n1,1,1,1\n"),
+    (&["locate", RING, "0002"], "depth,block,cue,path\n0,2,2,-\n"),
+    (&["number", RING, "1,2", "1"], "cue\n5\n"),
+    (&["number", RING, "1.2", "1"], "cue\n5\n"),
+    (&["number", RING, "-", "2"], "cue\n2\n"),
+    (&["out", RING, "1"], "to\n5\n"),
+    (&["in", RING, "1"], "from\n2\n"),
+    (&["fewest", RING, "1", "2"], "fewest\n4\n"),
+    (&["fewest", RING, "3", "3"], "fewest\n0\n"),
+    (&["fewest", "shows/tower31.csv", "1", "2"], "fewest\nnone\n"),
+    (&["count", "shows/tower31.csv"], "cues\n2147483647\n"),
+    (&["links", "shows/tower31.csv"], "cues\n2147483647\n"),
+    (&["links", RING], "from,to,label\n1,5,1\n2,1,2\n3,4,1\n4,2,1\n5,3,1\n"),
+    (&["picture", RING], BLOCKS),
+    (&["picture", "--unfolded", RING], UNFOLDED),
+    (&["picture", RING, "--unfolded"], UNFOLDED),
+    (&["--version"], "show 0.2.0\n"),
+    (&["-V"], "show 0.2.0\n"),
+];
+
+#[test]
+fn answers_are_printed_to_the_letter() {
+    for (words, printed) in ANSWERS {
+        assert_eq!(said(words, b""), (0, printed.to_string(), String::new()), "{words:?}");
+    }
+}
+
+#[test]
+fn the_version_is_that_of_the_library() {
+    assert_eq!(said(&["--version"], b"").1, format!("show {}\n", show::VERSION));
+}
+
+#[test]
+fn a_dash_is_standard_input() {
+    for (words, printed) in ANSWERS.iter().filter(|(words, _)| words.contains(&RING)) {
+        let words: Vec<&str> =
+            words.iter().map(|word| if *word == RING { "-" } else { word }).collect();
+        let printed = printed.replace(">ring:", ">standard input:");
+        assert_eq!(said(&words, &ring()), (0, printed, String::new()), "{words:?}");
+    }
+}
+
+/// Words that are wrong, and what is said of them.
+const WRONG: &[(&[&str], &str)] = &[
+    (&["chekc", RING], "unknown word chekc"),
+    (&["--nothing"], "unknown word --nothing"),
+    (&["help", "chekc"], "unknown word chekc"),
+    (&["--version", "now"], "now is one word too many"),
+    (&["help", "check", "now"], "now is one word too many"),
+    (&["check"], "check: FILE is missing"),
+    (&["check", RING, RING], "check: shows/ring.csv is one word too many"),
+    (&["check", "--unfolded", RING], "check: unknown word --unfolded"),
+    (&["picture", "--folded", RING], "picture: unknown word --folded"),
+    (&["count", RING, "1"], "count: 1 is one word too many"),
+    (&["locate", RING], "locate: N is missing"),
+    (&["locate", RING, "one"], "locate: 'one' is no number"),
+    (&["locate", RING, ""], "locate: '' is no number"),
+    (&["locate", RING, "-1"], "locate: '-1' is no number"),
+    (&["locate", RING, "+1"], "locate: '+1' is no number"),
+    (&["locate", RING, "1.5"], "locate: '1.5' is no number"),
+    (
+        &["locate", RING, "4294967296"],
+        "locate: 4294967296 is too large; a number here is at most 4294967295",
+    ),
+    (&["number", RING, "1"], "number: CUE is missing"),
+    (&["number", RING, "1..2", "1"], "number: '' is no number"),
+    (&["number", RING, "1,", "1"], "number: '' is no number"),
+    (&["number", RING, "1-2", "1"], "number: '1-2' is no number"),
+    (
+        &["number", RING, "1,99999999999999999999999", "1"],
+        "number: 99999999999999999999999 is too large; a number here is at most 4294967295",
+    ),
+    (&["out", RING, "x"], "out: 'x' is no number"),
+    (&["in", RING], "in: CUE is missing"),
+    (&["fewest", RING, "1"], "fewest: T is missing"),
+    (&["fewest", RING, "1", "2", "3"], "fewest: 3 is one word too many"),
+    (&["links"], "links: FILE is missing"),
+];
+
+#[test]
+fn wrong_use_names_the_usage_line() {
+    for (words, problem) in WRONG {
+        let (status, printed, told) = said(words, b"");
+        assert_eq!((status, printed.as_str()), (2, ""), "{words:?}");
+        let (first, usage) = told.split_once('\n').expect("a usage line");
+        assert_eq!(first, format!("show: {problem}"));
+        let command = COMMANDS.iter().find(|command| command.word == words[0]);
+        match command {
+            Some(command) => assert_eq!(usage, format!("usage: {}\n", command.usage())),
+            None => assert!(usage.starts_with("usage: show "), "{usage}"),
+        }
+    }
+    let (status, printed, told) = said(&[], b"");
+    assert_eq!((status, printed.as_str()), (2, ""));
+    assert!(told.starts_with("show: a command is missing\nusage: show COMMAND FILE"));
+}
+
+#[test]
+fn help_lists_every_command() {
+    let (status, all, told) = said(&["--help"], b"");
+    assert_eq!((status, told.as_str()), (0, ""));
+    for words in [&["help"][..], &["-h"]] {
+        assert_eq!(said(words, b""), (0, all.clone(), String::new()));
+    }
+    for command in &COMMANDS {
+        assert!(all.contains(&format!("\n  {} ", command.usage())), "{}", command.word);
+        let usage = format!("usage: {}\n", command.usage());
+        let ways = [["help", command.word], [command.word, "--help"], [command.word, "-h"]];
+        for words in ways {
+            let (status, printed, told) = said(&words, b"");
+            assert_eq!((status, told.as_str()), (0, ""), "{words:?}");
+            assert!(printed.starts_with(&usage), "{printed}");
+        }
+    }
+    assert!(all.lines().all(|line| line.len() <= 108), "a line of the help is too long");
+}
+
+#[test]
+fn a_refusal_is_explained_by_every_command() {
+    let file = file_of(&known::tower(32));
+    let lines = [
+        (&file[..], "line 93: block 31 stands for 4,294,967,295 cues; at most 2,147,483,647 are allowed (refusal 10)"),
+        (b"block;kind", "line 1: the line has 1 name; the eleven are block,kind,label,a,b,c,d,e,f,g,h (refusal 2)"),
+        (b"", "line 1: the file is empty; its first line must be block,kind,label,a,b,c,d,e,f,g,h (refusal 2)"),
+    ];
+    for (file, explained) in lines {
+        for command in &COMMANDS {
+            let usage = command.usage();
+            let takes = usage.split_once(" FILE").expect("every command has a file").1;
+            let numbers = takes.split_whitespace().map(|_| "1");
+            let words: Vec<&str> = [command.word, "-"].into_iter().chain(numbers).collect();
+            let told = format!("show: standard input: {explained}\n");
+            assert_eq!(said(&words, file), (1, String::new(), told), "{words:?}");
+        }
+    }
+}
+
+#[test]
+fn questions_without_an_answer_are_refused() {
+    let cases: &[(&[&str], &str)] = &[
+        (&["locate", RING, "0"], "cue 0; the show has cues 1 to 5 (refusal 12)"),
+        (&["out", RING, "4294967295"], "cue 4294967295; the show has cues 1 to 5 (refusal 12)"),
+        (&["in", RING, "6"], "cue 6; the show has cues 1 to 5 (refusal 12)"),
+        (&["fewest", RING, "7", "6"], "cue 7; the show has cues 1 to 5 (refusal 12)"),
+        (&["fewest", RING, "1", "6"], "cue 6; the show has cues 1 to 5 (refusal 12)"),
+        (
+            &["number", RING, "2", "1"],
+            "step 1 of the path is 2; block 2 has uses 1 to 1 (refusal 13)",
+        ),
+        (&["number", RING, "-", "3"], "own cue 3; block 2 has own cues 1 to 2 (refusal 13)"),
+        (
+            &["number", RING, "1,4294967295", "0"],
+            "step 2 of the path is 4294967295; block 1 has uses 1 to 2 (refusal 13)",
+        ),
+    ];
+    for (words, explained) in cases {
+        let told = format!("show: {RING}: {explained}\n");
+        assert_eq!(said(words, b""), (1, String::new(), told));
+    }
+}
+
+#[test]
+fn what_cannot_be_read_is_said() {
+    for file in ["shows/none.csv", "shows", "shows/ring.csv/more", ""] {
+        let (status, printed, told) = said(&["check", file], b"");
+        assert_eq!((status, printed.as_str()), (2, ""));
+        assert!(told.starts_with(&format!("show: {file}: ")) && told.len() > file.len() + 10);
+    }
+    let mut command = Command::new(env!("CARGO_BIN_EXE_show"));
+    command.args(["count", "-"]).stdin(File::open(env!("CARGO_MANIFEST_DIR")).expect("a folder"));
+    let output = command.output().expect("the command ends");
+    assert_eq!(output.status.code(), Some(2));
+    assert!(output.stderr.starts_with(b"show: standard input: "));
+}
+
+#[cfg(target_os = "linux")]
+#[test]
+fn an_endless_file_is_refused() {
+    let told = "there are more than 65,536 bytes, the most that a show file has (refusal 1)";
+    let told = format!("show: /dev/zero: {told}\n");
+    assert_eq!(said(&["check", "/dev/zero"], b""), (1, String::new(), told));
+}
+
+#[test]
+fn the_size_of_a_file_that_is_too_long_is_said() {
+    let path = std::env::temp_dir().join(format!("show-{}-too-long.csv", std::process::id()));
+    std::fs::write(&path, vec![b'0'; 70_000]).expect("the folder can be written");
+    let name = path.to_str().expect("a plain name");
+    let told = format!(
+        "show: {name}: the file has 70,000 bytes; a show file has at most 65,536 (refusal 1)\n"
+    );
+    let outcome = said(&["check", name], b"");
+    std::fs::remove_file(&path).expect("the file is there");
+    assert_eq!(outcome, (1, String::new(), told));
+}
+
+#[cfg(unix)]
+#[test]
+fn a_name_may_have_any_bytes() {
+    use std::os::unix::ffi::OsStrExt;
+    for word in [&b"\xFF.csv"[..], b"-x", b"./--help"] {
+        let mut command = Command::new(env!("CARGO_BIN_EXE_show"));
+        command.arg("check").arg(std::ffi::OsStr::from_bytes(word));
+        assert_eq!(command.output().expect("the command ends").status.code(), Some(2));
+    }
+    for words in [[&b"\xFF"[..], b"x"], [b"locate", b"\xFF"]] {
+        let mut command = Command::new(env!("CARGO_BIN_EXE_show"));
+        command.args(words.map(std::ffi::OsStr::from_bytes)).arg("\u{221e}");
+        assert_eq!(command.output().expect("the command ends").status.code(), Some(2));
+    }
+}
+
+#[cfg(target_os = "linux")]
+#[test]
+fn a_full_disk_is_said() {
+    let full = || File::options().write(true).open("/dev/full").expect("there is such a file");
+    for words in [&["check", RING][..], &["links", RING], &["picture", RING], &["--help"]] {
+        let mut command = Command::new(env!("CARGO_BIN_EXE_show"));
+        command.args(words).current_dir(concat!(env!("CARGO_MANIFEST_DIR"), "/../.."));
+        let output = command.stdout(full()).output().expect("the command ends");
+        assert_eq!(output.status.code(), Some(2));
+        assert!(output.stderr.starts_with(b"show: standard output: "), "{words:?}");
+        // Words that cannot be said either change nothing.
+        let status = command.stdout(full()).stderr(full()).status().expect("the command ends");
+        assert_eq!(status.code(), Some(2));
+    }
+}
+
+#[test]
+fn a_reader_may_stop_early() {
+    let file = file_of(&known::millions());
+    let mut child = started(&["links", "-"]);
+    let mut stdin = child.stdin.take().expect("it is piped");
+    std::io::Write::write_all(&mut stdin, &file).expect("the command reads it");
+    drop(stdin);
+    let mut first = String::new();
+    let mut stdout = BufReader::new(child.stdout.take().expect("it is piped"));
+    stdout.read_line(&mut first).expect("a line");
+    drop(stdout);
+    let mut told = String::new();
+    child.stderr.take().expect("it is piped").read_to_string(&mut told).expect("text");
+    assert_eq!((first.as_str(), told.as_str()), ("from,to,label\n", ""));
+    assert_eq!(child.wait().expect("the command ends").code(), Some(0));
+}
+
+#[test]
+fn large_shows_are_not_drawn_unfolded() {
+    let drawn = |rows: &[u32]| said(&["picture", "--unfolded", "-"], &file_of(rows));
+    let told = "show: standard input: 1023 cues are too many to draw; 1000 are the most\n";
+    assert_eq!(drawn(&known::tower(10)), (2, String::new(), told.to_string()));
+    let told = "show: standard input: over 10000 links are too many to draw\n";
+    assert_eq!(drawn(&known::millions()), (2, String::new(), told.to_string()));
+    let (status, ..) = said(&["picture", "-"], &file_of(&known::tower(31)));
+    assert_eq!(status, 0);
+}
+
+#[test]
+fn nothing_of_standard_input_is_needed_for_a_file() {
+    let mut command = Command::new(env!("CARGO_BIN_EXE_show"));
+    command.args(["count", RING]).current_dir(concat!(env!("CARGO_MANIFEST_DIR"), "/../.."));
+    let output = command.stdin(Stdio::null()).output().expect("the command ends");
+    assert_eq!(output.stdout, b"cues\n5\n");
+}

@@ -1,0 +1,136 @@
+//! What is explained is what the library refuses: number and line, found apart from it.
+
+use std::collections::BTreeMap;
+
+use second::gen::prng::Prng;
+use second::gen::random;
+use show::{Place, Refused, Rows, ROWS_LEN};
+use show_command::blocks::rows_of;
+use show_command::explain::{self, Cause, Explained};
+
+use crate::common::{file_of, refusal};
+use crate::files;
+
+/// Number and line, as the library has them.
+fn placed(refused: Refused) -> (u32, Option<u32>) {
+    let line = refused.place().map(|place| match place {
+        Place::Line(line) => line,
+        Place::Row(row) => panic!("a file has no row {row}"),
+    });
+    (refused.number(), line)
+}
+
+/// What is wrong with a file, after a look at what the library says of it.
+pub fn of(file: &[u8]) -> Option<Explained> {
+    let found = explain::found(file, None);
+    let refused = refusal(file);
+    let (by_us, by_library) =
+        (found.as_ref().map(|found| (found.number, found.line)), refused.map(placed));
+    assert_eq!(by_us, by_library, "{found:?}\n{}", file.escape_ascii());
+    if let (Some(found), Some(refused)) = (&found, refused) {
+        let explained = explain::file(file, None, refused);
+        assert_eq!(&explained, found);
+        assert_eq!(found.cause.number(), found.number);
+    }
+    found
+}
+
+/// Causes that have to do with a file, but for the one that needs its size.
+fn of_files() -> impl Iterator<Item = &'static &'static str> {
+    const OTHERS: [&str; 8] =
+        ["Unexplained", "TooLong", "NoCue", "LongPath", "NoUses", "NoUse", "NoOwn", "NotOwn"];
+    Cause::NAMES.iter().filter(|name| !OTHERS.contains(name))
+}
+
+#[test]
+fn number_and_line_are_those_of_the_library() {
+    let (mut seen, mut files, mut accepted): (BTreeMap<&str, u32>, u32, u32) = Default::default();
+    files::each(|file| {
+        files += 1;
+        match of(file) {
+            Some(found) => *seen.entry(found.cause.name()).or_default() += 1,
+            None => accepted += 1,
+        }
+    });
+    assert!(files > 100_000 && accepted > 1000, "{files} files, {accepted} accepted");
+    let unseen: Vec<&&str> = of_files().filter(|name| !seen.contains_key(*name)).collect();
+    assert!(unseen.is_empty(), "no file had {unseen:?}; seen: {seen:?}");
+}
+
+/// The explanation of a path and an own cue, if the library refuses them.
+fn of_path(file: &[u8], path: &[u32], own: u32) -> Option<Explained> {
+    let mut room = [0; ROWS_LEN];
+    let read = Rows::read(file, &mut room).expect("an accepted show");
+    let refused = read.rows.number(path, own).err()?;
+    let explained = explain::path(refused, rows_of(&read), path, own);
+    assert_eq!((explained.number, explained.line), (13, None));
+    Some(explained)
+}
+
+/// Changed as its sentence allows, a path or an own cue is no longer refused for that.
+fn hold_path(file: &[u8], path: &[u32], own: u32) -> Option<&'static str> {
+    let explained = of_path(file, path, own)?;
+    let with_step = |place: usize, step: usize| {
+        let mut path = path.to_vec();
+        path[place - 1] = step as u32;
+        of_path(file, &path, own)
+    };
+    let at = |explained: Option<Explained>| match explained?.cause {
+        Cause::NoUse { place, .. } | Cause::NoUses { place, .. } => Some(place),
+        _ => None,
+    };
+    match explained.cause {
+        Cause::NoUse { place, uses, .. } => {
+            assert!([1, uses].iter().all(|step| at(with_step(place, *step)) != Some(place)));
+            assert!([0, uses + 1].iter().all(|step| at(with_step(place, *step)) == Some(place)));
+        }
+        Cause::NoUses { place, .. } => {
+            assert!((0..9).all(|step| at(with_step(place, step)) == Some(place)));
+        }
+        Cause::NotOwn { most, .. } => {
+            assert!([1, most].iter().all(|own| of_path(file, path, *own).is_none()));
+            assert!([0, most + 1].iter().all(|own| of_path(file, path, *own).is_some()));
+        }
+        Cause::NoOwn { .. } => assert!((0..9).all(|own| of_path(file, path, own).is_some())),
+        Cause::LongPath { steps } => assert!(steps == path.len() && steps > 127),
+        ref other => panic!("{other:?}"),
+    }
+    Some(explained.cause.name())
+}
+
+#[test]
+fn paths_are_refused_where_it_is_said() {
+    let mut seen: BTreeMap<&str, u32> = BTreeMap::new();
+    for case in 0..300 {
+        let prng = &mut Prng::new(13, case);
+        let shape = prng.pick(&random::SHAPES);
+        let file = file_of(&random::show(prng, shape));
+        for _ in 0..60 {
+            let length = if prng.one_in(30) { 126 + prng.below(4) } else { prng.below(5) };
+            let path: Vec<u32> = (0..length).map(|_| prng.within(0, 4)).collect();
+            if let Some(name) = hold_path(&file, &path, prng.within(0, 4)) {
+                *seen.entry(name).or_default() += 1;
+            }
+        }
+    }
+    assert_eq!(seen.len(), 5, "{seen:?}");
+}
+
+#[test]
+fn cues_are_refused_where_it_is_said() {
+    for case in 0..300 {
+        let prng = &mut Prng::new(14, case);
+        let shape = prng.pick(&random::SHAPES);
+        let file = file_of(&random::show(prng, shape));
+        let mut room = [0; ROWS_LEN];
+        let read = Rows::read(&file, &mut room).expect("an accepted show");
+        for cue in [0, read.cues + 1, u32::MAX] {
+            let refused = read.rows.linked_in(cue).expect_err("no such cue");
+            let Explained { number, cause, .. } = explain::cues(refused, &[1, cue], read.cues);
+            assert_eq!((number, cause), (12, Cause::NoCue { cue, count: read.cues }));
+        }
+        for cue in [1, read.cues] {
+            assert!(read.rows.linked_out(cue).is_ok());
+        }
+    }
+}

@@ -1,0 +1,188 @@
+//! Broken files, each with what is said of it, to the letter. Every cause is among them.
+
+use std::collections::BTreeSet;
+
+use second::gen::edges::many_blocks;
+use second::gen::known;
+use show::{Refused, Rows, ROWS_LEN};
+use show_command::blocks::rows_of;
+use show_command::explain::{self, Cause, Explained};
+
+use crate::common::{file_of, refusal, ring, NAMES};
+
+/// First lines, and what is said of them.
+const FIRST_LINES: &[(&str, &str)] = &[
+    ("", "line 1: the file is empty; its first line must be block,kind,label,a,b,c,d,e,f,g,h (refusal 2)"),
+    ("\u{FEFF}block,kind,label,a,b,c,d,e,f,g,h\n", "line 1: a byte order mark stands before the names; a show file has none (refusal 2)"),
+    ("\n", "line 1: the line is empty; it must be block,kind,label,a,b,c,d,e,f,g,h (refusal 2)"),
+    ("\r\nblock,kind,label,a,b,c,d,e,f,g,h\r\n", "line 1: the line is empty; it must be block,kind,label,a,b,c,d,e,f,g,h (refusal 2)"),
+    ("block,kind,label,a,b,c,d,e,f,g,h\r\n", "line 1: a carriage return stands behind the names; a line feed alone ends a line (refusal 2)"),
+    ("block,kind,label,a,b,c,d,e,f,g,h\r0,0,0,1,0,0,0,0,0,0,0\r", "line 1: a carriage return stands behind the names; a line feed alone ends a line (refusal 2)"),
+    ("block,kind,label,a,b,c,d,e,f,g,h", "line 1: the line feed behind the names is missing (refusal 2)"),
+    ("block,kind,lab", "line 1: the file ends inside the names, which are block,kind,label,a,b,c,d,e,f,g,h (refusal 2)"),
+    ("0,0,0,1,0,0,0,0,0,0,0\n", "line 1: values stand in the place of the names, which are block,kind,label,a,b,c,d,e,f,g,h (refusal 2)"),
+    ("0;0;0;1;0;0;0;0;0;0;0\r\n", "line 1: values stand in the place of the names, which are block,kind,label,a,b,c,d,e,f,g,h (refusal 2)"),
+    ("block;kind;label;a;b;c;d;e;f;g;h\r\n", "line 1: a semicolon stands between names; it must be a comma (refusal 2)"),
+    ("block\tkind\tlabel\ta\tb\tc\td\te\tf\tg\th\n", "line 1: a tab stands between names; it must be a comma (refusal 2)"),
+    ("Block,Kind,Label,A,B,C,D,E,F,G,H\n", "line 1: the names have capital letters; all of them are small (refusal 2)"),
+    ("block, kind, label, a, b, c, d, e, f, g, h\n", "line 1: the names have spaces; there is none between them or around them (refusal 2)"),
+    ("\"block\",\"kind\",\"label\",\"a\",\"b\",\"c\",\"d\",\"e\",\"f\",\"g\",\"h\"\n", "line 1: the names have quote marks; they are written without any (refusal 2)"),
+    ("block,kind,label,a,b,c,d,e,f,g\n", "line 1: the line has 10 names; the eleven are block,kind,label,a,b,c,d,e,f,g,h (refusal 2)"),
+    ("shows\n", "line 1: the line has 1 name; the eleven are block,kind,label,a,b,c,d,e,f,g,h (refusal 2)"),
+    ("block,kind,lable,a,b,c,d,e,f,g,h\n", "line 1, label: 'lable' stands here; the names are block,kind,label,a,b,c,d,e,f,g,h (refusal 2)"),
+    ("block,kind,label,a,b,c,d,e,f,g,h\u{7}                  \n", "line 1, h: 'h\\x07              ...' stands here; the names are block,kind,label,a,b,c,d,e,f,g,h (refusal 2)"),
+];
+
+/// Lines behind the names, and what is said of the second of them or of the whole file.
+const LINES: &[(&str, &str)] = &[
+    ("0,0,2,1,0,0,0,0,0,0,0\n\n", "line 3: the line is empty; each line behind the names is a row (refusal 3)"),
+    ("block,kind,label,a,b,c,d,e,f,g,h\n", "line 2: the names stand here again; only the first line has them (refusal 3)"),
+    ("0,0,2, 1,0,0,0,0,0,0,0\n", "line 2, a: a space stands in this value; a value is digits alone (refusal 3)"),
+    ("0,0,2,1 ,0,0,0,0,0,0,0\n", "line 2, a: a space stands in this value; a value is digits alone (refusal 3)"),
+    ("0\t0\t2\t1\t0\t0\t0\t0\t0\t0\t0\n", "line 2, block: a tab stands in this value; a value is digits alone, with a comma behind it (refusal 3)"),
+    ("0,0,-2,1,0,0,0,0,0,0,0\n", "line 2, label: the sign - stands in this value; a value is 0 to 65,535, without a sign (refusal 3)"),
+    ("0,x,2,1,0,0,0,0,0,0,0\n", "line 2, kind: the letter x stands in this value; a value is digits alone (refusal 3)"),
+    ("0,0,2,1.0,0,0,0,0,0,0,0\n", "line 2, a: a point stands in this value; a value is a whole number (refusal 3)"),
+    ("\"0\",\"0\",\"2\"\n", "line 2, block: a quote mark stands in this value; a value is digits alone (refusal 3)"),
+    ("0;0;2;1;0;0;0;0;0;0;0\n", "line 2, block: a semicolon stands here; a comma stands between two values (refusal 3)"),
+    ("0,0,2,1,0,0,0,0,0,0,0\r\n", "line 2: a carriage return stands at the end of the line; a line feed alone ends it (refusal 3)"),
+    ("\r\n", "line 2: a carriage return stands at the end of the line; a line feed alone ends it (refusal 3)"),
+    ("0,0,2,1,0,0,0\r,0,0,0,0\n", "line 2, d: a carriage return stands in this value; a value is digits alone (refusal 3)"),
+    ("0,0,2,1,0,0,0,0,0,0,0/\n", "line 2, h: the character / stands in this value; a value is digits alone (refusal 3)"),
+    ("0,0,2,1,0,0,0,\0,0,0,0\n", "line 2, e: the byte 00 (hexadecimal) stands in this value; a value is digits alone (refusal 3)"),
+    ("0,0,2,1,\u{e9},0,0,0,0,0,0\n", "line 2, b: the byte C3 (hexadecimal) stands in this value; a value is digits alone (refusal 3)"),
+    ("0,0,2,,0,0,0,0,0,0,0\n", "line 2, a: there is no value here; a value is one to five digits (refusal 3)"),
+    ("0,0,2,1,0,0,0,0,0,0,\n", "line 2, h: there is no value here; a value is one to five digits (refusal 3)"),
+    ("000000,0,2,1,0,0,0,0,0,0,0\n", "line 2, block: 6 digits; a value has at most five, zeros in front counted (refusal 3)"),
+    ("0,0,65536,1,0,0,0,0,0,0,0\n", "line 2, label: 65536; a value is 0 to 65,535 (refusal 3)"),
+    ("0,0,2,1,0,0,0,0,0,0\n", "line 2: the line has 10 values; a row has eleven (refusal 3)"),
+    ("0\n", "line 2: the line has 1 value; a row has eleven (refusal 3)"),
+    ("0,0,2,1,0,0,0,0,0,0,0,0\n", "line 2: the line has 12 values; a row has eleven (refusal 3)"),
+    ("0,0,2,1,0,0,0,0,0,0,0,0,\n", "line 2: the line has 12 values; a row has eleven (refusal 3)"),
+    ("0,0,2,1,0,0,0,0,0,0,0,\n", "line 2: a comma stands behind the last value; a row ends without one (refusal 3)"),
+    ("0,0,2,1", "line 2: the file ends behind 4 values of this row; a row has eleven and a line feed (refusal 3)"),
+    ("0,", "line 2: the file ends behind 1 value of this row; a row has eleven and a line feed (refusal 3)"),
+    ("0,0,2,1,0,0,0,0,0,0,0", "line 2: the line feed is missing; one ends every line, also the last (refusal 3)"),
+    ("", "there are no rows behind the names; a show has 1 to 1,024 (refusal 4)"),
+    ("0,3,0,1,0,0,0,0,0,0,0\n", "line 2, kind: 3; a kind is 0 to 2: an opening, a link or a use (refusal 5)"),
+    ("0,1,1,1,2,0,0,0,0,0,0\n", "line 2, kind: 1; the first row opens block 0, so this must be 0 (refusal 5)"),
+    ("1,0,0,1,0,0,0,0,0,0,0\n", "line 2, block: 1; the first block that is opened is block 0, so this must be 0 (refusal 5)"),
+    ("0,0,1,1,0,0,0,0,0,0,0\n2,0,0,1,0,0,0,0,0,0,0\n", "line 3, block: 2; blocks are opened without a gap, so this must be 1 (refusal 5)"),
+    ("0,0,1,1,0,0,0,0,0,0,0\n0,0,0,1,0,0,0,0,0,0,0\n", "line 3, block: 0; that block is opened already, so this must be 1 (refusal 5)"),
+    ("0,0,1,1,0,0,0,0,0,0,0\n1,1,1,1,2,0,0,0,0,0,0\n", "line 3, block: 1; that block is not opened yet, so this must be 0 (refusal 5)"),
+    ("0,0,1,1,0,0,0,0,0,0,0\n1,0,0,1,0,0,0,0,0,0,0\n0,2,0,1,0,0,0,0,0,0,0\n", "line 4, block: 0; that block ended where block 1 was opened, so this must be 1 (refusal 5)"),
+    ("0,0,1,1,0,0,0,0,0,0,0\n1,0,0,2,0,0,0,0,0,0,0\n1,2,0,1,0,0,0,0,0,0,0\n1,1,1,1,2,0,0,0,0,0,0\n", "line 5, kind: a link stands behind a use; in a block all links come before the uses (refusal 5)"),
+    ("0,0,9,1,0,0,0,0,0,0,0\n", "line 2, label: 9; a block has 0 to 8 joins (refusal 6)"),
+    ("0,0,0,256,0,0,0,0,0,0,0\n", "line 2, a: 256; a block has 0 to 255 own cues (refusal 6)"),
+    ("0,0,0,2,0,0,0,0,0,0,0\n0,1,256,1,2,0,0,0,0,0,0\n", "line 3, label: 256; a link's label is 1 to 255 (refusal 6)"),
+    ("0,0,0,2,0,0,0,0,0,0,0\n0,1,00000,1,2,0,0,0,0,0,0\n", "line 3, label: 0; a link's label is 1 to 255 (refusal 6)"),
+    ("0,0,0,2,0,0,0,0,0,0,0\n0,2,0,1,0,0,0,0,0,0,0\n", "line 3, kind: 2; block 0 has no earlier block to use (refusal 6)"),
+    ("0,0,1,1,0,0,0,0,0,0,0\n1,0,0,2,0,0,0,0,0,0,0\n1,2,1,1,0,0,0,0,0,0,0\n", "line 4, label: 1; block 1 can use earlier blocks alone, 0 to 0 (refusal 6)"),
+    ("0,0,0,0,0,0,0,0,0,0,0\n0,1,1,1,2,0,0,0,0,0,0\n", "line 3, a: 1; block 0 has neither own cues nor joins, so no cue can be named (refusal 6)"),
+    ("0,0,2,1,0,0,0,0,0,0,0\n0,1,1,1,4,0,0,0,0,0,0\n", "line 3, b: 4; the cues of block 0 are 1 to 3: 1 own cue and 2 joins (refusal 6)"),
+    ("0,0,1,0,0,0,0,0,0,0,0\n0,1,1,0,1,0,0,0,0,0,0\n", "line 3, a: 0; the cues of block 0 are 1 to 1: 0 own cues and 1 join (refusal 6)"),
+    ("0,0,0,1,1,0,0,0,0,0,0\n", "line 2, b: 1; b to h are idle in an opening, so this must be 0 (refusal 6)"),
+    ("0,0,0,3,0,0,0,0,0,0,0\n0,1,1,1,2,3,0,0,0,0,0\n", "line 3, c: 3; c to h are idle in a link, so this must be 0 (refusal 6)"),
+    ("0,0,1,1,0,0,0,0,0,0,0\n1,0,0,2,0,0,0,0,0,0,0\n1,2,0,1,2,0,0,0,0,0,0\n", "line 4, b: 2; block 0 has 1 join, so columns from b on are idle here and this must be 0 (refusal 6)"),
+    ("0,0,0,2,0,0,0,0,0,0,0\n0,1,1,2,2,0,0,0,0,0,0\n", "line 3, b: cue 2 stands in a too; a link is between two cues (refusal 7)"),
+    ("0,0,3,0,0,0,0,0,0,0,0\n1,0,0,2,0,0,0,0,0,0,0\n1,2,0,1,2,1,0,0,0,0,0\n", "line 4, c: cue 1 stands in a too; no cue takes two joins of a copy (refusal 7)"),
+    ("0,0,0,2,0,0,0,0,0,0,0\n0,1,1,1,2,0,0,0,0,0,0\n0,1,1,1,2,0,0,0,0,0,0\n", "line 4: the same link stands in the line before; links rise by a, b and label (refusal 8)"),
+    ("0,0,0,3,0,0,0,0,0,0,0\n0,1,1,1,3,0,0,0,0,0,0\n0,1,2,1,2,0,0,0,0,0,0\n", "line 4, b: 2; links rise by a, b and label, and the line before has 3 here (refusal 8)"),
+    ("0,0,0,2,0,0,0,0,0,0,0\n0,1,7,1,2,0,0,0,0,0,0\n0,1,5,1,2,0,0,0,0,0,0\n", "line 4, label: 5; links rise by a, b and label, and the line before has 7 here (refusal 8)"),
+    ("0,0,1,1,0,0,0,0,0,0,0\n1,0,0,2,0,0,0,0,0,0,0\n1,2,0,2,0,0,0,0,0,0,0\n1,2,0,1,0,0,0,0,0,0,0\n", "line 5, a: 1; uses never fall by a to h and label, and the line before has 2 here (refusal 8)"),
+    ("0,0,2,1,0,0,0,0,0,0,0\n", "line 2, label: 2; the last block is the show and has no joins, so this must be 0 (refusal 9)"),
+    ("0,0,0,0,0,0,0,0,0,0,0\n", "line 2, a: 0; the last block is the show and has 1 to 255 own cues (refusal 9)"),
+    ("0,0,0,1,0,0,0,0,0,0,0\n1,0,0,1,0,0,0,0,0,0,0\n", "line 2, label: 0; a block before the last has 1 to 8 joins (refusal 9)"),
+];
+
+/// The explanation of a file that the library refuses.
+fn explained(file: &[u8]) -> Explained {
+    explain::file(file, Some(file.len() as u64), refusal(file).expect("a refused file"))
+}
+
+/// Files too large to write out.
+fn large() -> Vec<(Vec<u8>, &'static str)> {
+    let sixteen = [&[0xFF, 0xFE][..], b"b\0l\0o\0c\0k\0,\0"].concat();
+    let mut rows = known::wide(1024);
+    rows.extend_from_within(11..22);
+    vec![
+        (sixteen, "line 1: each character has two bytes (UTF-16); in a show file it has one (refusal 2)"),
+        (vec![b'0'; 65_537], "the file has 65,537 bytes; a show file has at most 65,536 (refusal 1)"),
+        (vec![b'0'; 1_234_567], "the file has 1,234,567 bytes; a show file has at most 65,536 (refusal 1)"),
+        (file_of(&rows), "there are 1,025 rows; a show has 1 to 1,024 (refusal 4)"),
+        (file_of(&many_blocks(129)), "line 130: this opens a 129th block; a show has at most 128 (refusal 5)"),
+        (file_of(&known::tower(32)), "line 93: block 31 stands for 4,294,967,295 cues; at most 2,147,483,647 are allowed (refusal 10)"),
+        (file_of(&known::tower_with_one_more()), "line 90: block 30 stands for 2,147,483,648 cues; at most 2,147,483,647 are allowed (refusal 10)"),
+    ]
+}
+
+/// Questions about the ring that it has no answer to.
+fn questions() -> Vec<(Explained, &'static str)> {
+    let file = ring();
+    let mut room = [0; ROWS_LEN];
+    let read = Rows::read(&file, &mut room).expect("the ring is accepted");
+    let path = |path: &[u32], own| {
+        let refused = read.rows.number(path, own).expect_err("no such own cue");
+        explain::path(refused, rows_of(&read), path, own)
+    };
+    let cues = |cues: &[u32]| explain::cues(Refused::NoSuchCue, cues, read.cues);
+    vec![
+        (cues(&[6]), "cue 6; the show has cues 1 to 5 (refusal 12)"),
+        (cues(&[1, 0]), "cue 0; the show has cues 1 to 5 (refusal 12)"),
+        (path(&[1; 128], 1), "the path has 128 steps; the longest has 127 (refusal 13)"),
+        (path(&[1, 3], 1), "step 2 of the path is 3; block 1 has uses 1 to 2 (refusal 13)"),
+        (path(&[0], 1), "step 1 of the path is 0; block 2 has uses 1 to 1 (refusal 13)"),
+        (path(&[1, 1, 1], 1), "step 3 of the path is 1; block 0 has no uses (refusal 13)"),
+        (path(&[1], 2), "own cue 2; block 1 has own cues 1 to 1 (refusal 13)"),
+        (path(&[], 0), "own cue 0; block 2 has own cues 1 to 2 (refusal 13)"),
+    ]
+}
+
+/// A copy of a block without own cues.
+fn no_own_cue() -> (Explained, &'static str) {
+    let file = file_of(&known::knot());
+    let mut room = [0; ROWS_LEN];
+    let read = Rows::read(&file, &mut room).expect("the knot is accepted");
+    let refused = read.rows.number(&[1], 1).expect_err("no such own cue");
+    let said = explain::path(refused, rows_of(&read), &[1], 1);
+    (said, "own cue 1; block 126 has no own cues (refusal 13)")
+}
+
+/// Where nothing is found that the library refuses, its own words are said.
+fn unexplained() -> Vec<(Explained, &'static str)> {
+    let file = ring();
+    let other = explain::file(&file, None, refusal(b"").expect("an empty file is refused"));
+    vec![
+        (explain::cues(Refused::TooShort, &[], 5), "a lent list is too short (refusal 11)"),
+        (other, "line 1: the first line is not block,kind,label,a,b,c,d,e,f,g,h (refusal 2)"),
+    ]
+}
+
+/// Everything that is said here, with what is expected.
+fn all() -> Vec<(Explained, &'static str)> {
+    let first = FIRST_LINES.iter().map(|(file, said)| (file.as_bytes().to_vec(), *said));
+    let lines = LINES.iter().map(|(lines, said)| (format!("{NAMES}{lines}").into_bytes(), *said));
+    let files = first.chain(lines).chain(large()).map(|(file, said)| (explained(&file), said));
+    let longer = vec![b'0'; 65_537];
+    let unknown = explain::file(&longer, None, Refused::FileTooLong);
+    let most = "there are more than 65,536 bytes, the most that a show file has (refusal 1)";
+    let mut all: Vec<(Explained, &str)> = files.collect();
+    all.extend(questions());
+    all.extend(unexplained());
+    all.extend([no_own_cue(), (unknown, most)]);
+    all
+}
+
+#[test]
+fn every_sentence_is_said_as_it_stands_here() {
+    for (explained, said) in all() {
+        assert_eq!(explained.to_string(), said);
+    }
+}
+
+#[test]
+fn every_cause_is_among_them() {
+    let seen: BTreeSet<&str> = all().iter().map(|(explained, _)| explained.cause.name()).collect();
+    let all: BTreeSet<&str> = Cause::NAMES.iter().copied().collect();
+    assert_eq!(seen, all, "causes without a sentence here, or the other way round");
+}
