@@ -18,6 +18,9 @@ struct Show<'a> {
     read: Read<'a>,
 }
 
+/// One of the two questions that a list answers.
+type Lists<'a> = fn(&Rows<'a>, u32) -> Result<Linked<'a>, Refused>;
+
 /// Prints the answer to a question about a file.
 pub fn of_input(input: &Input, question: &Question, out: &mut impl Write) -> Result<(), Problem> {
     let mut room = vec![0; ROWS_LEN];
@@ -30,7 +33,7 @@ fn refused(input: &Input, explained: Explained) -> Problem {
     Problem::Refused { name: input.name.clone(), said: explained.to_string() }
 }
 
-impl Show<'_> {
+impl<'a> Show<'a> {
     fn answer(&self, question: &Question, out: &mut impl Write) -> Result<(), Problem> {
         let Read { rows, blocks, cues } = self.read;
         match *question {
@@ -43,8 +46,8 @@ impl Show<'_> {
                 let number = rows.number(path, own).map_err(|said| self.no_path(said, path, own));
                 writeln!(out, "cue\n{}", number?)?
             }
-            Question::Out(cue) => self.list("to", rows.linked_out(cue), cue, out)?,
-            Question::In(cue) => self.list("from", rows.linked_in(cue), cue, out)?,
+            Question::Out(cue) => list("to", self.linked(Rows::linked_out, cue)?, out)?,
+            Question::In(cue) => list("from", self.linked(Rows::linked_in, cue)?, out)?,
             Question::Fewest(s, t) => self.fewest(s, t, out)?,
             Question::Links => self.links(out)?,
             Question::Picture { unfolded } => out.write_all(self.picture(unfolded)?.as_bytes())?,
@@ -59,19 +62,8 @@ impl Show<'_> {
         Ok(writeln!(out, "depth,block,cue,path\n{depth},{},{},{steps}", cue.block, cue.own)?)
     }
 
-    fn list(
-        &self,
-        heading: &str,
-        linked: Result<Linked, Refused>,
-        cue: u32,
-        out: &mut impl Write,
-    ) -> Result<(), Problem> {
-        let linked = linked.map_err(|said| self.no_cue(said, &[cue]))?;
-        writeln!(out, "{heading}")?;
-        for cue in linked {
-            writeln!(out, "{cue}")?;
-        }
-        Ok(())
+    fn linked(&self, asked: Lists<'a>, cue: u32) -> Result<Linked<'a>, Problem> {
+        asked(&self.read.rows, cue).map_err(|said| self.no_cue(said, &[cue]))
     }
 
     fn fewest(&self, s: u32, t: u32, out: &mut impl Write) -> Result<(), Problem> {
@@ -118,6 +110,15 @@ impl Show<'_> {
     fn no_path(&self, said: Refused, path: &[u32], own: u32) -> Problem {
         refused(self.input, explain::path(said, rows_of(&self.read), path, own))
     }
+}
+
+/// A list of cues, one in a line.
+fn list(heading: &str, linked: Linked, out: &mut impl Write) -> Result<(), Problem> {
+    writeln!(out, "{heading}")?;
+    for cue in linked {
+        writeln!(out, "{cue}")?;
+    }
+    Ok(())
 }
 
 /// A path as one value; the empty one is `-`.
