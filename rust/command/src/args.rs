@@ -3,7 +3,8 @@
 use std::ffi::{OsStr, OsString};
 
 use crate::help;
-use crate::problem::{shown, Problem};
+use crate::problem::Problem;
+use crate::words::shown;
 
 /// What a command line asks for.
 #[derive(Debug, PartialEq, Eq)]

@@ -5,7 +5,8 @@ use std::fs::File;
 use std::io::{self, Read};
 use std::path::Path;
 
-use crate::problem::{shown, Problem};
+use crate::problem::Problem;
+use crate::words::shown;
 
 /// The word for standard input in the place of a file.
 pub const STANDARD: &str = "-";
@@ -45,8 +46,9 @@ impl Input {
 fn of_file(file: &OsStr) -> io::Result<(Vec<u8>, Option<u64>)> {
     let file = File::open(file)?;
     let known = file.metadata()?;
-    let size = known.is_file().then_some(known.len());
-    Ok((limited(file)?, size))
+    let bytes = limited(file)?;
+    let sized = known.is_file() && known.len() >= bytes.len() as u64;
+    Ok((bytes, sized.then_some(known.len())))
 }
 
 fn limited(from: impl Read) -> io::Result<Vec<u8>> {

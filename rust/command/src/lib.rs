@@ -12,6 +12,7 @@ pub mod input;
 pub mod links;
 pub mod picture;
 pub mod problem;
+pub mod words;
 
 use std::ffi::OsString;
 use std::io::{self, BufWriter, Write};

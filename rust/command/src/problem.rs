@@ -1,6 +1,5 @@
 //! Why there is no answer: the words for standard error, and the exit status.
 
-use std::ffi::OsStr;
 use std::fmt::{Display, Formatter};
 use std::io::{self, ErrorKind, Write};
 use std::process::ExitCode;
@@ -69,9 +68,4 @@ impl From<io::Error> for Problem {
     fn from(error: io::Error) -> Problem {
         Problem::Unwritten(error)
     }
-}
-
-/// A word of the command line as it can be printed.
-pub fn shown(word: &OsStr) -> String {
-    word.to_string_lossy().into_owned()
 }

@@ -2,8 +2,9 @@
 
 use show::MAX_CUES;
 
-use super::{Cause, Column, Explained, Fault, Grouped};
+use super::{Cause, Column, Explained, Fault};
 use crate::blocks::{of_rows, Block, Row};
+use crate::words::Grouped;
 
 /// What is wrong first in rows that pass checks 4 to 8.
 pub fn checked(rows: &[Row]) -> Option<Explained> {

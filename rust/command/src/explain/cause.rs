@@ -2,30 +2,8 @@
 
 use std::fmt::{Display, Formatter};
 
-use super::Column;
-
-/// A number with commas between its thousands.
-#[derive(Clone, Copy, Debug, PartialEq, Eq)]
-pub struct Grouped(pub u64);
-
-impl Display for Grouped {
-    fn fmt(&self, f: &mut Formatter) -> std::fmt::Result {
-        match self.0 / 1000 {
-            0 => write!(f, "{}", self.0),
-            thousands => write!(f, "{},{:03}", Grouped(thousands), self.0 % 1000),
-        }
-    }
-}
-
-/// So many of something.
-#[derive(Clone, Copy, Debug, PartialEq, Eq)]
-pub struct Many(pub u32, pub &'static str);
-
-impl Display for Many {
-    fn fmt(&self, f: &mut Formatter) -> std::fmt::Result {
-        write!(f, "{} {}{}", self.0, self.1, if self.0 == 1 { "" } else { "s" })
-    }
-}
+use super::{Column, NAMES};
+use crate::words::{Grouped, Many};
 
 /// Each cause: the number of the refusal, a name, what its sentence says, and the sentence.
 macro_rules! causes {
@@ -72,21 +50,21 @@ causes! {
     1 TooLong(bytes: Grouped) "the file has {bytes} bytes; a show file has at most 65,536"
     1 TooLongToRead() "there are more than 65,536 bytes, the most that a show file has"
 
-    2 Empty() "the file is empty; its first line must be block,kind,label,a,b,c,d,e,f,g,h"
+    2 Empty() "the file is empty; its first line must be {NAMES}"
     2 ByteOrderMark() "a byte order mark stands before the names; a show file has none"
     2 TwoBytes() "each character has two bytes (UTF-16); in a show file it has one"
-    2 NamesBlank() "the line is empty; it must be block,kind,label,a,b,c,d,e,f,g,h"
+    2 NamesBlank() "the line is empty; it must be {NAMES}"
     2 NamesReturn() "a carriage return stands behind the names; a line feed alone ends a line"
     2 NamesUnended() "the line feed behind the names is missing"
-    2 NamesCut() "the file ends inside the names, which are block,kind,label,a,b,c,d,e,f,g,h"
-    2 NamesMissing() "values stand in the place of the names, which are block,kind,label,a,b,c,d,e,f,g,h"
+    2 NamesCut() "the file ends inside the names, which are {NAMES}"
+    2 NamesMissing() "values stand in the place of the names, which are {NAMES}"
     2 NamesSemicolons() "a semicolon stands between names; it must be a comma"
     2 NamesTabs() "a tab stands between names; it must be a comma"
     2 NamesCapitals() "the names have capital letters; all of them are small"
     2 NamesSpaces() "the names have spaces; there is none between them or around them"
     2 NamesQuotes() "the names have quote marks; they are written without any"
-    2 NamesCount(names: Many) "the line has {names}; the eleven are block,kind,label,a,b,c,d,e,f,g,h"
-    2 NameWrong(name: String) "'{name}' stands here; the names are block,kind,label,a,b,c,d,e,f,g,h"
+    2 NamesCount(names: Many) "the line has {names}; the eleven are {NAMES}"
+    2 NameWrong(name: String) "'{name}' stands here; the names are {NAMES}"
 
     3 Blank() "the line is empty; each line behind the names is a row"
     3 NamesAgain() "the names stand here again; only the first line has them"

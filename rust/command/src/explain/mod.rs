@@ -18,11 +18,10 @@ use show::{Place, Refused};
 
 use crate::blocks::Row;
 
-pub use cause::{Cause, Grouped, Many};
+pub use cause::Cause;
 
-/// The names of the columns.
-const NAMES: [&str; show::ROW_LEN] =
-    ["block", "kind", "label", "a", "b", "c", "d", "e", "f", "g", "h"];
+/// The names of the columns, as they stand in the first line.
+const NAMES: &str = "block,kind,label,a,b,c,d,e,f,g,h";
 
 /// A column of a row, by its place from 0.
 #[derive(Clone, Copy, Debug, PartialEq, Eq, PartialOrd, Ord)]
@@ -43,7 +42,7 @@ impl Column {
 
 impl Display for Column {
     fn fmt(&self, f: &mut Formatter) -> std::fmt::Result {
-        f.write_str(NAMES[self.0])
+        f.write_str(NAMES.split(',').nth(self.0).unwrap_or_default())
     }
 }
 

@@ -1,9 +1,12 @@
 //! Refusal 2: the line of names.
 
-use super::{Cause, Column, Fault, Many, NAMES};
+use show::ROW_LEN;
+
+use super::{Cause, Column, Fault, NAMES};
+use crate::words::Many;
 
 /// The names, without the line feed.
-pub const TEXT: &[u8] = b"block,kind,label,a,b,c,d,e,f,g,h";
+pub const TEXT: &[u8] = NAMES.as_bytes();
 
 /// Bytes of a wrong name that are shown, at most.
 const MOST_SHOWN: usize = 16;
@@ -72,12 +75,13 @@ fn respelt(text: &[u8]) -> Option<Cause> {
 /// The first name that is another, or how many there are.
 fn differing(text: &[u8]) -> Fault {
     let found: Vec<&[u8]> = text.split(|byte| *byte == b',').collect();
-    if found.len() != NAMES.len() {
-        return (None, Cause::NamesCount { names: Many(found.len() as u32, "name") });
+    let mut pairs = found.iter().zip(NAMES.split(',')).enumerate();
+    match pairs.find(|(_, (name, right))| **name != right.as_bytes()) {
+        Some((place, (name, _))) if found.len() == ROW_LEN => {
+            (Some(Column(place)), Cause::NameWrong { name: shown(name) })
+        }
+        _ => (None, Cause::NamesCount { names: Many(found.len() as u32, "name") }),
     }
-    let place = found.iter().zip(NAMES).position(|(name, right)| *name != right.as_bytes());
-    let place = place.unwrap_or(0);
-    (Some(Column(place)), Cause::NameWrong { name: shown(found[place]) })
 }
 
 /// A name as it can be printed, cut if it is long.

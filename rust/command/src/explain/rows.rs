@@ -2,8 +2,9 @@
 
 use show::{MAX_JOINS, MAX_ROWS};
 
-use super::{Cause, Column, Explained, Fault, Grouped, Many};
+use super::{Cause, Column, Explained, Fault};
 use crate::blocks::{Row, LINK, OPENING, USE};
+use crate::words::{Grouped, Many};
 
 /// Blocks of a show, at most.
 const MOST_BLOCKS: usize = 128;

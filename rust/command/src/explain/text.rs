@@ -3,8 +3,9 @@
 use show::{MAX_FILE, ROW_LEN};
 
 use super::names::{self, TEXT};
-use super::{Cause, Column, Explained, Fault, Grouped, Many};
+use super::{Cause, Column, Explained, Fault};
 use crate::blocks::Row;
+use crate::words::{Grouped, Many};
 
 /// The largest value.
 const MOST_VALUE: u32 = 65_535;

@@ -9,6 +9,7 @@ use show::{Read, Refused};
 
 use crate::blocks::{of_rows, rows_of, Link};
 use crate::links::{Labelled, MOST_CUES};
+use crate::words::Grouped;
 
 #[cfg(test)]
 mod tests;
@@ -39,27 +40,25 @@ pub fn blocks(title: &str, show: &Read) -> String {
 /// The unfolded show: its copies and its links, or why it is not drawn.
 pub fn unfolded(title: &str, show: &Read) -> Result<String, Undrawn> {
     if show.cues > MOST_CUES {
-        return Err(too_large(format!(
-            "{} cues are too many to draw; {MOST_CUES} are the most",
-            show.cues
-        )));
+        return Err(too_many(format!("{} cues", Grouped(show.cues.into())), MOST_CUES as usize));
     }
-    let blocks = of_rows(rows_of(show));
-    Ok(unfolded::drawn(title, &blocks, &links(show)?))
+    Ok(unfolded::drawn(title, &of_rows(rows_of(show)), &links(show)?))
 }
 
+/// The links, as long as they are not too many.
 fn links(show: &Read) -> Result<Vec<Link>, Undrawn> {
     let mut labelled = Labelled::new(rows_of(show), show.cues);
     let mut links = Vec::new();
     for cue in 1..=show.cues {
         links.extend(labelled.from(cue)?);
         if links.len() > MOST_LINKS {
-            return Err(too_large(format!("over {MOST_LINKS} links are too many to draw")));
+            return Err(too_many("the links".to_string(), MOST_LINKS));
         }
     }
     Ok(links)
 }
 
-fn too_large(said: String) -> Undrawn {
-    Undrawn::TooLarge(said)
+fn too_many(what: String, most: usize) -> Undrawn {
+    let most = Grouped(most as u64);
+    Undrawn::TooLarge(format!("{what} are too many to draw; at most {most} are drawn"))
 }

@@ -1,6 +1,7 @@
 //! The pictures of the ring, where cues stand, and what is not drawn.
 
-use second::gen::known;
+use second::gen::prng::Prng;
+use second::gen::{known, random};
 use second::naive::ask::Show;
 use second::naive::file::print;
 use show::{Read, Rows, ROWS_LEN};
@@ -14,6 +15,25 @@ const RING_UNFOLDED: &str = include_str!("ring-unfolded.dot");
 fn of<T>(numbers: &[u32], said: impl FnOnce(&Read) -> T) -> T {
     let mut room = [0; ROWS_LEN];
     said(&Rows::read(&print(numbers.as_chunks().0), &mut room).expect("an accepted show"))
+}
+
+/// Shows that can be drawn unfolded.
+fn shows() -> Vec<Vec<u32>> {
+    let mut shows = vec![
+        known::ring(),
+        known::long_ring(6),
+        known::tower(9),
+        known::deep(true),
+        known::star(7, false),
+        known::all_joins(),
+        known::labelled(300),
+    ];
+    shows.extend((0..200).map(|case| {
+        let prng = &mut Prng::new(31, case);
+        let shape = prng.pick(&random::SHAPES);
+        random::show(prng, shape)
+    }));
+    shows
 }
 
 fn drawn(numbers: &[u32]) -> String {
@@ -96,7 +116,7 @@ fn arrows(picture: &str) -> Vec<String> {
 
 #[test]
 fn every_link_is_drawn_with_its_label() {
-    for rows in [known::ring(), known::labelled(300), known::all_joins(), known::star(7, true)] {
+    for rows in shows() {
         let show = Show::of_rows(&rows).expect("an accepted show");
         let links = show.unfolding().links.iter();
         let expected: Vec<String> = links
@@ -108,15 +128,7 @@ fn every_link_is_drawn_with_its_label() {
 
 #[test]
 fn every_cue_stands_in_its_copy() {
-    let shows = [
-        known::ring(),
-        known::long_ring(6),
-        known::tower(9),
-        known::deep(true),
-        known::star(7, false),
-        known::all_joins(),
-    ];
-    for rows in shows {
+    for rows in shows() {
         assert_eq!(frames(&drawn(&rows)), owners(&rows));
     }
 }
@@ -140,8 +152,8 @@ fn large_shows_are_not_drawn_unfolded() {
     assert!(
         of(&known::tower(10), |show| blocks("", show)).contains("block 9, the show: total 1023")
     );
-    let said = "1023 cues are too many to draw; 1000 are the most";
+    let said = "1,023 cues are too many to draw; at most 1,000 are drawn";
     assert_eq!(of(&known::tower(10), |show| unfolded("", show)), too_large(said));
-    let said = "over 10000 links are too many to draw";
+    let said = "the links are too many to draw; at most 10,000 are drawn";
     assert_eq!(of(&known::millions(), |show| unfolded("", show)), too_large(said));
 }

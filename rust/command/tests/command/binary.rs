@@ -203,15 +203,12 @@ fn an_endless_file_is_refused() {
 
 #[test]
 fn the_size_of_a_file_that_is_too_long_is_said() {
-    let path = std::env::temp_dir().join(format!("show-{}-too-long.csv", std::process::id()));
-    std::fs::write(&path, vec![b'0'; 70_000]).expect("the folder can be written");
-    let name = path.to_str().expect("a plain name");
+    let name = concat!(env!("CARGO_TARGET_TMPDIR"), "/too-long.csv");
+    std::fs::write(name, vec![b'0'; 70_000]).expect("the folder can be written");
     let told = format!(
         "show: {name}: the file has 70,000 bytes; a show file has at most 65,536 (refusal 1)\n"
     );
-    let outcome = said(&["check", name], b"");
-    std::fs::remove_file(&path).expect("the file is there");
-    assert_eq!(outcome, (1, String::new(), told));
+    assert_eq!(said(&["check", name], b""), (1, String::new(), told));
 }
 
 #[cfg(unix)]
@@ -266,9 +263,9 @@ fn a_reader_may_stop_early() {
 #[test]
 fn large_shows_are_not_drawn_unfolded() {
     let drawn = |rows: &[u32]| said(&["picture", "--unfolded", "-"], &file_of(rows));
-    let told = "show: standard input: 1023 cues are too many to draw; 1000 are the most\n";
+    let told = "show: standard input: 1,023 cues are too many to draw; at most 1,000 are drawn\n";
     assert_eq!(drawn(&known::tower(10)), (2, String::new(), told.to_string()));
-    let told = "show: standard input: over 10000 links are too many to draw\n";
+    let told = "show: standard input: the links are too many to draw; at most 10,000 are drawn\n";
     assert_eq!(drawn(&known::millions()), (2, String::new(), told.to_string()));
     let (status, ..) = said(&["picture", "-"], &file_of(&known::tower(31)));
     assert_eq!(status, 0);
