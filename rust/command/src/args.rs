@@ -63,11 +63,11 @@ pub struct Command {
     pub says: &'static str,
     /// What it does and prints.
     pub more: &'static str,
-    make: fn(&Words) -> Result<Question, String>,
+    make: fn(&Behind) -> Result<Question, String>,
 }
 
 /// The words behind FILE, as many as the command takes, and whether its option is there.
-struct Words<'a> {
+struct Behind<'a> {
     words: &'a [&'a OsString],
     option: bool,
 }
@@ -190,13 +190,13 @@ impl Command {
         if let Some(word) = rest.get(self.takes.len()) {
             return Err(self.wrong(format!("{} is one word too many", shown(word))));
         }
-        let question = (self.make)(&Words { words: rest, option });
+        let question = (self.make)(&Behind { words: rest, option });
         let question = question.map_err(|said| self.wrong(said))?;
         Ok(Asked::Of { file: file.into(), question })
     }
 }
 
-impl Words<'_> {
+impl Behind<'_> {
     fn number(&self, place: usize) -> Result<u32, String> {
         number(&shown(self.words[place]))
     }
@@ -235,7 +235,7 @@ fn wrong(said: String, usage: String) -> Problem {
 pub fn parse(words: impl Iterator<Item = OsString>) -> Result<Asked, Problem> {
     let words: Vec<OsString> = words.collect();
     let Some((first, rest)) = words.split_first() else {
-        return Err(wrong("a command is missing".into(), help::USAGE.into()));
+        return Err(wrong("a command is missing".into(), help::usage()));
     };
     if first == "help" || is_help(first) {
         return helped(rest).map(Asked::Text);
@@ -263,5 +263,5 @@ fn none_left(words: &[OsString], usage: &str) -> Result<(), Problem> {
 
 fn command(word: &OsStr) -> Result<&'static Command, Problem> {
     let found = COMMANDS.iter().find(|command| word == command.word);
-    found.ok_or_else(|| wrong(format!("unknown word {}", shown(word)), help::USAGE.into()))
+    found.ok_or_else(|| wrong(format!("unknown word {}", shown(word)), help::usage()))
 }

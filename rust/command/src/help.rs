@@ -2,21 +2,18 @@
 
 use crate::args::{Command, COMMANDS};
 
-/// The usage line where no command is meant.
-pub const USAGE: &str =
-    "show COMMAND FILE ..., where COMMAND is one of those that `show --help` lists";
-
 const HEAD: &str = "\
 show: questions about a show file, answered by the proved library
 
 usage: show COMMAND FILE ...
        show COMMAND --help
-       show --help | --version
+       show --help       also -h, or help
+       show --version    also -V
 
 ";
 
 const FOOT: &str = "
-FILE      a show file; - is standard input. A name that begins with -- is written as ./--name.
+FILE      a show file; - is standard input. A name that begins with a dash is written with ./ before it.
 N, CUE, S, T
           a number from 0 to 4294967295. Cues of the show are numbered from 1; CUE of `number` is an own
           cue of its block, from 1.
@@ -31,6 +28,12 @@ exit status  0  an answer; also `none`, and an answer that nobody wanted to read
              1  a refusal of the library: its number, line and column, and what is wrong there
              2  wrong use, a file that cannot be read or written, or a picture too large to draw
 ";
+
+/// The usage line where no command is meant.
+pub fn usage() -> String {
+    let words = COMMANDS.map(|command| command.word);
+    format!("show COMMAND FILE ..., or show --help; COMMAND is {}", words.join(", "))
+}
 
 /// The help for all commands.
 pub fn all() -> String {

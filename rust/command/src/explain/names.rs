@@ -60,14 +60,15 @@ fn respelt(text: &[u8]) -> Option<Cause> {
     };
     let without =
         |left_out: &[u8]| text.iter().filter(|byte| !left_out.contains(byte)).eq(TEXT.iter());
-    let value = |byte: &u8| byte.is_ascii_digit() || b",; \t".contains(byte);
+    let (digit, between) = (u8::is_ascii_digit, |byte: &u8| b",; \t".contains(byte));
+    let values = text.iter().all(|byte| digit(byte) || between(byte)) && text.iter().any(digit);
     let causes = [
         (commas_for(b';'), Cause::NamesSemicolons {}),
         (commas_for(b'\t'), Cause::NamesTabs {}),
         (text.eq_ignore_ascii_case(TEXT), Cause::NamesCapitals {}),
         (without(b" \t"), Cause::NamesSpaces {}),
         (without(b"\"'"), Cause::NamesQuotes {}),
-        (text.iter().all(value), Cause::NamesMissing {}),
+        (values, Cause::NamesMissing {}),
     ];
     causes.into_iter().find_map(|(holds, cause)| holds.then_some(cause))
 }

@@ -65,11 +65,13 @@ impl Broken<'_> {
         explained::of(&file)
     }
 
-    /// Whether the same is said then.
+    /// Whether this column is refused by the same number then. A kind that is known may still be
+    /// wrong at its place, and that is another cause.
     fn same(&self, text: &str) -> bool {
+        let place = |found: &Explained| (found.number, found.line, found.column);
+        let kind = |found: &Explained| matches!(found.cause, Cause::Kind { .. });
         self.with(self.column, text).is_some_and(|found| {
-            (found.line, found.column) == (self.found.line, self.found.column)
-                && found.cause.name() == self.found.cause.name()
+            place(&found) == place(&self.found) && (kind(&found) || !kind(&self.found))
         })
     }
 

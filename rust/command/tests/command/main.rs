@@ -5,5 +5,6 @@ mod columns;
 mod common;
 mod explained;
 mod files;
+mod lines;
 mod naive;
 mod sentences;
