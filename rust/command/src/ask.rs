@@ -4,8 +4,8 @@ use std::io::Write;
 
 use show::{Linked, Read, Refused, Rows, PATH_LEN, ROWS_LEN, WORK_LEN};
 
-use crate::args::Question;
 use crate::blocks::rows_of;
+use crate::commands::Question;
 use crate::explain::{self, Explained};
 use crate::input::Input;
 use crate::links::{Labelled, MOST_CUES};

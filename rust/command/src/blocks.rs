@@ -54,8 +54,8 @@ pub fn rows_of<'a>(show: &Read<'a>) -> &'a [Row] {
     show.rows.numbers().as_chunks().0
 }
 
-/// The blocks of rows that pass checks 5 to 8, with their totals. A total over the limit is right in
-/// the first block that has one.
+/// The blocks of rows that pass checks 5 to 8, with their totals. A total over the limit is right
+/// in the first block that has one.
 pub fn of_rows(rows: &[Row]) -> Vec<Block> {
     let mut blocks: Vec<Block> = Vec::new();
     for (row, number) in rows.iter().zip(1..) {

@@ -1,6 +1,6 @@
 //! What `--help` says.
 
-use crate::args::{Command, COMMANDS};
+use crate::commands::{Command, COMMANDS};
 
 const HEAD: &str = "\
 show: questions about a show file, answered by the proved library
@@ -47,5 +47,5 @@ pub fn all() -> String {
 pub fn of(command: &Command) -> String {
     let rest =
         "`show --help` says what FILE and the other words are, and what an exit status means.";
-    format!("usage: {}\n\n{}: {}\n\n{rest}\n", command.usage(), command.word, command.more)
+    format!("usage: {}\n\nprints {}\n\n{rest}\n", command.usage(), command.prints)
 }

@@ -1,11 +1,13 @@
 //! The command `show`: a show file is checked, asked and drawn from a shell.
 //!
-//! Every answer and every refusal is the library's. What is worked out here is words: `explain` says
-//! what is wrong at the place of a refusal, `links` sets the labels to the links, and `picture` draws.
+//! Every answer and every refusal is the library's. What is worked out here is words: `explain`
+//! says what is wrong at the place of a refusal, `links` sets the labels to the links, and `picture`
+//! draws.
 
 pub mod args;
 pub mod ask;
 pub mod blocks;
+pub mod commands;
 pub mod explain;
 pub mod help;
 pub mod input;

@@ -169,7 +169,8 @@ impl Seen {
         })
     }
 
-    /// Check 8: a link that does not rise, or a use that falls. The column is the first that differs.
+    /// Check 8: a link that does not rise, or a use that falls. The column is the first one that
+    /// differs.
     fn out_of_order(&self, row: &Row) -> Option<Fault> {
         let last = match row[1] {
             OPENING => return None,

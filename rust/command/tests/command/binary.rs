@@ -5,7 +5,7 @@ use std::io::{BufRead, BufReader, Read};
 use std::process::{Command, Stdio};
 
 use second::gen::known;
-use show_command::args::COMMANDS;
+use show_command::commands::COMMANDS;
 
 use crate::common::{file_of, ring, said, started};
 

@@ -6,8 +6,8 @@ use std::thread;
 
 use second::naive::file::print;
 use show::{Refused, Rows, ROWS_LEN};
-use show_command::args::Question;
 use show_command::ask;
+use show_command::commands::Question;
 use show_command::input::Input;
 use show_command::problem::Problem;
 

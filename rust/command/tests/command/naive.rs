@@ -6,7 +6,7 @@ use second::limits::{PATH, WORK};
 use second::naive::ask::Show;
 use second::naive::print::printed;
 use second::question::{self, Answer};
-use show_command::args::Question;
+use show_command::commands::Question;
 use show_command::problem::Problem;
 
 use crate::common::{asked, file_of, said};

@@ -1,0 +1,175 @@
+//! The commands: how each is written, what it says of itself, and the question that it asks.
+
+use std::ffi::OsString;
+
+use crate::words::shown;
+
+/// A question about a show file.
+#[derive(Clone, Debug, PartialEq, Eq)]
+pub enum Question {
+    /// Whether it is right.
+    Check,
+    /// How many cues it has.
+    Count,
+    /// Where a cue is.
+    Locate(u32),
+    /// The number of an own cue in the copy to which a path leads.
+    Number {
+        /// The path.
+        path: Vec<u32>,
+        /// The own cue.
+        own: u32,
+    },
+    /// The cues that follow on from a cue.
+    Out(u32),
+    /// The cues from which a cue follows on.
+    In(u32),
+    /// The fewest follow-ons from the first cue to the second.
+    Fewest(u32, u32),
+    /// All links of the unfolded show.
+    Links,
+    /// A picture of the blocks, or of the unfolded show.
+    Picture {
+        /// Whether it is that of the unfolded show.
+        unfolded: bool,
+    },
+}
+
+/// A command.
+pub struct Command {
+    /// Its name.
+    pub word: &'static str,
+    /// An option that it has.
+    pub option: Option<&'static str>,
+    /// The names of the words behind FILE.
+    pub takes: &'static [&'static str],
+    /// What it is for, in a line.
+    pub says: &'static str,
+    /// What it prints.
+    pub prints: &'static str,
+    /// The question that its words ask, or what is wrong with them.
+    pub question: fn(&Behind) -> Result<Question, String>,
+}
+
+impl Command {
+    /// How it is written.
+    pub fn usage(&self) -> String {
+        let option = self.option.map(|option| format!(" [{option}]")).unwrap_or_default();
+        let takes: String = self.takes.iter().map(|name| format!(" {name}")).collect();
+        format!("show {}{option} FILE{takes}", self.word)
+    }
+}
+
+/// All commands, in the order in which `--help` lists them.
+pub const COMMANDS: [Command; 9] = [
+    Command {
+        word: "check",
+        option: None,
+        takes: &[],
+        says: "whether the file is right, and how large the show is",
+        prints: "`blocks,rows,cues` and the three numbers if the file is right.\n\
+            If it is not, the line and the column that are wrong are said, and how.",
+        question: |_| Ok(Question::Check),
+    },
+    Command {
+        word: "count",
+        option: None,
+        takes: &[],
+        says: "how many cues the show has",
+        prints: "`cues` and how many cues the show has.",
+        question: |_| Ok(Question::Count),
+    },
+    Command {
+        word: "locate",
+        option: None,
+        takes: &["N"],
+        says: "where cue N is",
+        prints: "`depth,block,cue,path` and, for cue N: how many uses lead to its copy,\n\
+            the block of which that is a copy, which of its own cues it is, and the path.\n\
+            So 2,0,1,1.2 is own cue 1 of block 0, in use 2 of the copy in use 1 of the show.",
+        question: |behind| Ok(Question::Locate(behind.number(0)?)),
+    },
+    Command {
+        word: "number",
+        option: None,
+        takes: &["PATH", "CUE"],
+        says: "the number of own cue CUE in the copy PATH",
+        prints: "`cue` and the number that own cue CUE has in the copy to which PATH leads.\n\
+            PATH is positions of uses, such as 1.2 or 1,2; the empty path, to the show\n\
+            itself, is written -",
+        question: |behind| Ok(Question::Number { path: behind.path(0)?, own: behind.number(1)? }),
+    },
+    Command {
+        word: "out",
+        option: None,
+        takes: &["CUE"],
+        says: "the cues that follow on from CUE",
+        prints: "`to` and the cues that follow on from CUE by one link, rising, one in a line.",
+        question: |behind| Ok(Question::Out(behind.number(0)?)),
+    },
+    Command {
+        word: "in",
+        option: None,
+        takes: &["CUE"],
+        says: "the cues from which CUE follows on",
+        prints: "`from` and the cues from which CUE follows on by one link, rising, one in a line.",
+        question: |behind| Ok(Question::In(behind.number(0)?)),
+    },
+    Command {
+        word: "fewest",
+        option: None,
+        takes: &["S", "T"],
+        says: "the fewest follow-ons from cue S to cue T, or none",
+        prints: "`fewest` and the fewest follow-ons that lead from cue S to cue T, or `none`.",
+        question: |behind| Ok(Question::Fewest(behind.number(0)?, behind.number(1)?)),
+    },
+    Command {
+        word: "links",
+        option: None,
+        takes: &[],
+        says: "all links of the unfolded show",
+        prints: "`from,to,label` and all links of the unfolded show, rising, each once; for a\n\
+            show of over 1,000 cues `cues` and how many it has. So does the unfolding program.",
+        question: |_| Ok(Question::Links),
+    },
+    Command {
+        word: "picture",
+        option: Some("--unfolded"),
+        takes: &[],
+        says: "the blocks, or the unfolded show, as text for Graphviz",
+        prints: "text from which `dot -Tsvg` of Graphviz draws the blocks of the show or,\n\
+            with --unfolded, its copies, cues and links. Over 1,000 cues or 10,000 links are not\n\
+            drawn unfolded: the exit status is 2, since that is no refusal of the library.",
+        question: |behind| Ok(Question::Picture { unfolded: behind.option }),
+    },
+];
+
+/// The words behind FILE, as many as the command takes, and whether its option is there.
+pub struct Behind<'a> {
+    /// The words.
+    pub words: &'a [&'a OsString],
+    /// Whether the option is there.
+    pub option: bool,
+}
+
+impl Behind<'_> {
+    fn number(&self, place: usize) -> Result<u32, String> {
+        number(&shown(self.words[place]))
+    }
+
+    /// Steps with points or commas between them, or `-`.
+    fn path(&self, place: usize) -> Result<Vec<u32>, String> {
+        match shown(self.words[place]).as_str() {
+            "-" => Ok(Vec::new()),
+            path => path.split(['.', ',']).map(number).collect(),
+        }
+    }
+}
+
+/// A number in digits, no larger than the library takes.
+fn number(word: &str) -> Result<u32, String> {
+    if word.is_empty() || !word.bytes().all(|byte| byte.is_ascii_digit()) {
+        return Err(format!("'{word}' is no number"));
+    }
+    word.parse().map_err(|_| format!("{word} is too large; a number here is at most {}", u32::MAX))
+}
