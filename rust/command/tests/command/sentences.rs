@@ -4,7 +4,7 @@ use std::collections::BTreeSet;
 
 use second::gen::edges::many_blocks;
 use second::gen::known;
-use show::{Refused, Rows, ROWS_LEN};
+use show::{Place, Refused, Rows, ROWS_LEN};
 use show_command::blocks::rows_of;
 use show_command::explain::{self, Cause, Explained};
 
@@ -154,6 +154,10 @@ fn unexplained() -> Vec<(Explained, &'static str)> {
     let other = explain::file(&file, None, refusal(b"").expect("an empty file is refused"));
     vec![
         (explain::cues(Refused::TooShort, &[], 5), "a lent list is too short (refusal 11)"),
+        (
+            explain::cues(Refused::OutOfRange(Place::Row(2)), &[], 5),
+            "line 3: a value is out of its range, or an idle column is not 0 (refusal 6)",
+        ),
         (other, "line 1: the first line is not block,kind,label,a,b,c,d,e,f,g,h (refusal 2)"),
     ]
 }
