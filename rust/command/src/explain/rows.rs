@@ -1,17 +1,10 @@
 //! Refusals 4 to 8: how many rows there are, and each row behind those before it.
 
-use show::{MAX_JOINS, MAX_ROWS};
+use show::{MAX_BLOCKS, MAX_JOINS, MAX_LABEL, MAX_OWN, MAX_ROWS};
 
 use super::{Cause, Column, Explained, Fault};
 use crate::blocks::{Row, LINK, OPENING, USE};
 use crate::words::{Grouped, Many};
-
-/// Blocks of a show, at most.
-const MOST_BLOCKS: usize = 128;
-/// Own cues of a block, at most.
-const MOST_OWN: u32 = 255;
-/// The largest label of a link.
-const MOST_LABEL: u32 = 255;
 
 /// What is wrong first in these rows by checks 4 to 8.
 pub fn checked(rows: &[Row]) -> Option<Explained> {
@@ -83,7 +76,7 @@ impl Seen {
     fn not_next(&self, block: u32) -> Option<Fault> {
         let next = self.joins.len();
         let cause = match block as usize {
-            _ if next == MOST_BLOCKS => return Some((None, Cause::TooManyBlocks {})),
+            _ if next == MAX_BLOCKS => return Some((None, Cause::TooManyBlocks {})),
             opened if opened == next => return None,
             _ if next == 0 => Cause::FirstBlock { block },
             opened if opened > next => Cause::Jumps { block, next },
@@ -198,7 +191,7 @@ impl Seen {
 fn label_fault(&[block, kind, label, ..]: &Row) -> Option<Fault> {
     let cause = match kind {
         OPENING if label as usize > MAX_JOINS => Cause::Joins { joins: label },
-        LINK if !(1..=MOST_LABEL).contains(&label) => Cause::Label { label },
+        LINK if !(1..=MAX_LABEL).contains(&label) => Cause::Label { label },
         USE if block == 0 => return Some((Some(Column::KIND), Cause::UseInFirst {})),
         USE if label >= block => Cause::UseOf { label, block, last: block - 1 },
         _ => return None,
@@ -207,5 +200,5 @@ fn label_fault(&[block, kind, label, ..]: &Row) -> Option<Fault> {
 }
 
 fn own_fault(&[_, kind, _, own, ..]: &Row) -> Option<Fault> {
-    (kind == OPENING && own > MOST_OWN).then_some((Some(Column::A), Cause::Own { own }))
+    (kind == OPENING && own > MAX_OWN).then_some((Some(Column::A), Cause::Own { own }))
 }

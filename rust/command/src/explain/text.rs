@@ -1,14 +1,12 @@
 //! Refusals 1 and 3: the length of a file, and lines that are not eleven values.
 
-use show::{MAX_FILE, ROW_LEN};
+use show::{MAX_FILE, MAX_VALUE, ROW_LEN};
 
 use super::names::{self, TEXT};
 use super::{Cause, Column, Explained, Fault};
 use crate::blocks::Row;
 use crate::words::{Grouped, Many};
 
-/// The largest value.
-const MOST_VALUE: u32 = 65_535;
 /// Digits of a value, at most.
 const MOST_DIGITS: usize = 5;
 
@@ -62,7 +60,7 @@ fn value_of(digits: &[u8]) -> Result<u32, Cause> {
         return Err(Cause::Digits { digits: digits.len() });
     }
     match digits.iter().fold(0, |value, digit| 10 * value + u32::from(digit - b'0')) {
-        value if value > MOST_VALUE => Err(Cause::Over { value }),
+        value if value > MAX_VALUE => Err(Cause::Over { value }),
         value => Ok(value),
     }
 }
