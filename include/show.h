@@ -1,7 +1,8 @@
 /* show.h: show files of theatre lighting consoles, read, checked, written and asked, with every answer proved.
  *
- * Link with libshow_c.a. It is for x86-64 and needs nothing but memcpy and memset of the C library. docs/FORMAT.md explains show
- * files and each refusal; README.md has a whole program.
+ * For C99 or later and C++. Link with libshow_c.a, which is for Linux on x86-64 (ELF, System V calls) and needs nothing but memcpy and
+ * memset of the C library. FORMAT.md, in docs/ and in share/doc/show of an installed copy, explains show files, the words below and
+ * each refusal; examples/first.c of the repository is a whole program.
  *
  * What every function does:
  *
@@ -9,8 +10,8 @@
  *              show_place take them apart, show_refusal_text says the number in words.
  *   given      An answer writes its values to the first numbers of this list; it has at least SHOW_GIVEN_LEN. A shorter one is
  *              SHOW_TOO_SHORT.
- *   Refusals   A refusal changes nothing that was lent, `given` included. Checks run in the order of their numbers, and the first
- *              that fails is returned; what a function can refuse stands at the function.
+ *   Refusals   A refusal changes nothing that was lent, `given` included. Checks run in the order of their numbers, but 5 to 8 row
+ *              by row: the first row that fails one of them decides. What a function can refuse stands at the function.
  *   Lengths    Of every list, in elements: bytes of a file, 32-bit numbers of anything else. Only as much of a list changes as an
  *              answer needs; a longer one is welcome.
  *   Pointers   Valid for their lengths; the lists of one call do not overlap. With length 0 any pointer will do, NULL too.
@@ -51,28 +52,24 @@ extern "C" {
 #endif
 
 /* Lengths of lists, and limits of shows. */
-enum {
-    SHOW_ROW_LEN = 11,                             /* numbers of a row */
-    SHOW_MAX_ROWS = 1024,                          /* rows of a show, at most */
-    SHOW_ROWS_LEN = SHOW_ROW_LEN * SHOW_MAX_ROWS,  /* numbers of the rows of a show, at most */
-    SHOW_MAX_FILE = 65536,                         /* bytes of a file, at most */
-    SHOW_MAX_VALUE = 65535,                        /* a value in a file, at most */
-    SHOW_MAX_BLOCKS = 128,                         /* blocks of a show, at most */
-    SHOW_MAX_OWN = 255,                            /* own cues of a block, at most */
-    SHOW_MAX_JOINS = 8,                            /* joins of a block, at most */
-    SHOW_MAX_LABEL = 255,                          /* label of a link, at most; the least is 1 */
-    SHOW_MAX_CUES = 2147483647,                    /* cues of a show, at most */
-    SHOW_PATH_LEN = 127,                           /* least length of a list lent for a path; steps of a path, at most */
-    SHOW_WORK_LEN = 16384,                         /* least length of a work area */
-    SHOW_SUMMARY_LEN = 64,                         /* numbers of a work area for each block */
-    SHOW_GIVEN_LEN = 3,                            /* least length of `given` */
-    SHOW_STACK_LEN = 131072                        /* bytes of stack that are enough for each call, as far as it was tested */
-};
+#define SHOW_ROW_LEN 11                               /* numbers of a row */
+#define SHOW_MAX_ROWS 1024                            /* rows of a show, at most */
+#define SHOW_ROWS_LEN (SHOW_ROW_LEN * SHOW_MAX_ROWS)  /* numbers of the rows of a show, at most */
+#define SHOW_MAX_FILE 65536                           /* bytes of a file, at most */
+#define SHOW_MAX_VALUE 65535                          /* a value in a file, at most */
+#define SHOW_MAX_BLOCKS 128                           /* blocks of a show, at most */
+#define SHOW_MAX_OWN 255                              /* own cues of a block, at most */
+#define SHOW_MAX_JOINS 8                              /* joins of a block, at most */
+#define SHOW_MAX_LABEL 255                            /* label of a link, at most; the least is 1 */
+#define SHOW_MAX_CUES 2147483647                      /* cues of a show, at most */
+#define SHOW_PATH_LEN 127                             /* least length of a list lent for a path; steps of a path, at most */
+#define SHOW_WORK_LEN 16384                           /* least length of a work area */
+#define SHOW_SUMMARY_LEN 64                           /* numbers of a work area for each block */
+#define SHOW_GIVEN_LEN 3                              /* least length of `given` */
+#define SHOW_STACK_LEN 131072                         /* bytes of stack that are enough for each call, as far as it was tested */
+#define SHOW_NO_CHAIN 4294967295u                     /* in a work area: no chain */
 
-/* In a work area: no chain. */
-#define SHOW_NO_CHAIN UINT32_C(4294967295)
-
-/* Refusals, in the order of the checks. The place is 0 unless it is named. */
+/* Refusals. The place is 0 unless it is named. */
 enum {
     SHOW_ANSWERED = 0,
     SHOW_FILE_TOO_LONG = 1,  /* over SHOW_MAX_FILE bytes */
@@ -101,11 +98,11 @@ static inline const char *show_refusal_text(uint32_t refusal) {
     case SHOW_FILE_TOO_LONG: return "the file has more than 65,536 bytes";
     case SHOW_BAD_NAMES: return "the first line is not block,kind,label,a,b,c,d,e,f,g,h";
     case SHOW_BAD_LINE: return "the line is not eleven values";
-    case SHOW_BAD_ROW_COUNT: return "there are no whole rows, no rows, or more than 1,024";
+    case SHOW_BAD_ROW_COUNT: return "there is no row, there are more than 1,024, or the last one is not whole";
     case SHOW_CANNOT_FOLLOW: return "the block number or the kind cannot follow here";
     case SHOW_OUT_OF_RANGE: return "a value is out of its range, or an idle column is not 0";
     case SHOW_NAMED_TWICE: return "a link or a use names a cue twice";
-    case SHOW_OUT_OF_ORDER: return "a link does not rise, or a use falls";
+    case SHOW_OUT_OF_ORDER: return "links or uses are not in order";
     case SHOW_BAD_BLOCK: return "the last block has joins or no own cue, or another block has no joins";
     case SHOW_TOO_MANY_CUES: return "the block stands for more than 2,147,483,647 cues";
     case SHOW_TOO_SHORT: return "a lent list is too short";
@@ -120,28 +117,30 @@ static inline const char *show_refusal_text(uint32_t refusal) {
  *   rows       output: 11 numbers for each row. SHOW_ROWS_LEN is enough for every file; the length need not be a multiple of 11.
  *   Refusals   1 to 10, then 11 for rows or given. Places of 3 and 5 to 10 are lines of the file, counted from 1: row r is line r + 1.
  *   Values     have up to five digits and are at most 65535; they may begin with zeros, as older desks write them.
- *   Cost       0.7 to 1.1 ns a byte, 21 us for 1,024 rows in 24,028 bytes. Stack: 51 kB. */
+ *   file       SHOW_MAX_FILE + 1 bytes are all that has to be read of one on a disk: one byte over the limit, and it is refused. A buffer
+ *              of SHOW_MAX_FILE would cut a longer file, and what is left may be a show.
+ *   Cost       0.7 to 1.1 ns a byte and half a microsecond: 21 us for 1,024 rows in 24,028 bytes. Stack: 51 kB. */
 SHOW_NODISCARD uint64_t show_read(const uint8_t *file, size_t file_len, uint32_t *rows, size_t rows_len, uint32_t *given,
                                   size_t given_len);
 
 /* Writes rows as a file, without leading zeros: a file that was read and had none comes back byte for byte, any other without them.
  *   given      bytes of the file
  *   out        output. SHOW_MAX_FILE bytes are always enough (proved), and for rows that were read, as many as that file had.
- *   Refusals   4 to 10 with rows as places, then 11 for out or given.
+ *   Refusals   4, 5 to 10 with rows as places, then 11 for out or given.
  *   Cost       14 us for 1,024 rows. Stack: 4 kB. */
 SHOW_NODISCARD uint64_t show_write(const uint32_t *rows, size_t rows_len, uint8_t *out, size_t out_len, uint32_t *given,
                                    size_t given_len);
 
 /* How many cues the show has.
  *   given      cues, 1 to SHOW_MAX_CUES
- *   Refusals   4 to 10 with rows as places, then 11 for given. So this is also the check of rows.
+ *   Refusals   4, 5 to 10 with rows as places, then 11 for given. So this is also the check of rows.
  *   Cost       70 ns for a show of 9 rows, 5 us for one of 1,024. Stack: 3 kB. */
 SHOW_NODISCARD uint64_t show_count(const uint32_t *rows, size_t rows_len, uint32_t *given, size_t given_len);
 
 /* Where cue n is.
  *   given      depth, block (from 0), own cue (from 1)
  *   path       output: depth numbers, each the position of a use in its block, from 1. At least SHOW_PATH_LEN, whatever the depth.
- *   Refusals   4 to 10 with rows as places, 11 for path or given, then 12 for n.
+ *   Refusals   4, 5 to 10 with rows as places, 11 for path or given, then 12 for n.
  *   Cost       as show_count. Stack: 15 kB. */
 SHOW_NODISCARD uint64_t show_locate(const uint32_t *rows, size_t rows_len, uint32_t n, uint32_t *path, size_t path_len, uint32_t *given,
                                     size_t given_len);
@@ -149,7 +148,7 @@ SHOW_NODISCARD uint64_t show_locate(const uint32_t *rows, size_t rows_len, uint3
 /* The number of own cue `own` in the copy to which path leads: show_locate turned round.
  *   given      number
  *   path       input: as many steps as it has numbers; length 0 is the show itself.
- *   Refusals   4 to 10 with rows as places, 11 for given, then 13 for path and own.
+ *   Refusals   4, 5 to 10 with rows as places, 11 for given, then 13 for path and own.
  *   Cost       as show_count. Stack: 13 kB. */
 SHOW_NODISCARD uint64_t show_number(const uint32_t *rows, size_t rows_len, const uint32_t *path, size_t path_len, uint32_t own,
                                     uint32_t *given, size_t given_len);
@@ -159,8 +158,8 @@ SHOW_NODISCARD uint64_t show_number(const uint32_t *rows, size_t rows_len, const
  *   n          any number: 0 for the first page, then the last cue of the page before.
  *   page       output. No page is too short: one of length 0 (it may be NULL) only says whether there are any. A loop over pages
  *              needs room for one cue at least, or it does not come forward.
- *   Refusals   4 to 10 with rows as places, 11 for given, then 12 for v.
- *   Cost       as show_count, and some 7 ns a cue. Stack: 83 kB on a show of 127 levels. */
+ *   Refusals   4, 5 to 10 with rows as places, 11 for given, then 12 for v.
+ *   Cost       one to four times show_count, and some 7 ns a cue. Stack: 83 kB on a show of 127 levels. */
 SHOW_NODISCARD uint64_t show_list_out(const uint32_t *rows, size_t rows_len, uint32_t v, uint32_t n, uint32_t *page, size_t page_len,
                                       uint32_t *given, size_t given_len);
 
@@ -171,9 +170,9 @@ SHOW_NODISCARD uint64_t show_list_in(const uint32_t *rows, size_t rows_len, uint
 /* The fewest follow-ons from cue s to cue t.
  *   given      1 and their number, or 0 and 0 if no chain leads from s to t
  *   work       at least SHOW_WORK_LEN; what stands there does not matter. After an answer it holds the fewest from join i to join j
- *              inside block k (joins from 1, blocks from 0) at SHOW_SUMMARY_LEN * k + 8 * (i - 1) + (j - 1), SHOW_NO_CHAIN for none,
- *              and 0 behind the last block up to SHOW_WORK_LEN numbers.
- *   Refusals   4 to 10 with rows as places, 11 for work or given, then 12 for s or t.
+ *              inside block k (joins from 1, blocks from 0) at SHOW_SUMMARY_LEN * k + 8 * (i - 1) + (j - 1), SHOW_NO_CHAIN for none
+ *              and for a join that the block does not have, and 0 behind the last block up to SHOW_WORK_LEN numbers.
+ *   Refusals   4, 5 to 10 with rows as places, 11 for work or given, then 12 for s or t.
  *   Cost       1 us for a show of 9 rows, 40 us for common ones of 1,024, 0.4 ms for 128 blocks of eight joins; the worst that was
  *              found took 78 ms. Stack: 21 kB. */
 SHOW_NODISCARD uint64_t show_fewest(const uint32_t *rows, size_t rows_len, uint32_t s, uint32_t t, uint32_t *work, size_t work_len,

@@ -9,8 +9,8 @@ fn main() {
     let here = PathBuf::from(env::var_os("CARGO_MANIFEST_DIR").expect("cargo says where"));
     let root = here.join("../..");
     let root = root.canonicalize().unwrap_or(root);
-    let named = env::var_os("SHOW_C_DIR").map(PathBuf::from);
-    let dir = named.clone().unwrap_or_else(|| root.join("target/staticlib"));
+    let named = env::var_os("SHOW_C_DIR").filter(|dir| !dir.is_empty()).map(PathBuf::from);
+    let dir = here.join(named.clone().unwrap_or_else(|| root.join("target/staticlib")));
     let archive = dir.join("libshow_c.a");
     println!("cargo:rerun-if-changed={}", archive.display());
     match archive.canonicalize() {
@@ -32,7 +32,7 @@ fn missing(dir: &Path, root: &Path, named: bool) -> String {
     let said = if named { ", which SHOW_C_DIR names" } else { "" };
     format!(
         "show-sys: there is no libshow_c.a in {}{said}. Run `rt staticlib show_c` in {}, which proves and builds it, \
-         or set SHOW_C_DIR to the folder that has it.",
+         or set SHOW_C_DIR to the folder that has it, by its whole path.",
         dir.display(),
         root.display()
     )

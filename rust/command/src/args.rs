@@ -103,9 +103,9 @@ fn wrong(said: String, usage: String) -> Problem {
 }
 
 fn unknown(word: &OsStr) -> String {
-    format!("unknown word {}", shown(word))
+    format!("unknown word '{}'", shown(word))
 }
 
 fn too_many(word: &OsStr) -> String {
-    format!("{} is one word too many", shown(word))
+    format!("'{}' is one word too many", shown(word))
 }

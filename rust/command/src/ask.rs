@@ -2,7 +2,7 @@
 
 use std::io::Write;
 
-use show::{Linked, Read, Refused, Rows, PATH_LEN, ROWS_LEN, WORK_LEN};
+use show::{Linked, Loaded, Refused, Rows, PATH_LEN, ROWS_LEN, WORK_LEN};
 
 use crate::blocks::rows_of;
 use crate::commands::Question;
@@ -15,7 +15,7 @@ use crate::problem::Problem;
 /// A show that the library accepts, and the file that it was read from.
 struct Show<'a> {
     input: &'a Input,
-    read: Read<'a>,
+    read: Loaded<'a>,
 }
 
 /// One of the two questions that a list answers.
@@ -35,7 +35,7 @@ fn refused(input: &Input, explained: Explained) -> Problem {
 
 impl<'a> Show<'a> {
     fn answer(&self, question: &Question, out: &mut impl Write) -> Result<(), Problem> {
-        let Read { rows, blocks, cues } = self.read;
+        let Loaded { rows, blocks, cues } = self.read;
         match *question {
             Question::Check => {
                 writeln!(out, "blocks,rows,cues\n{blocks},{},{cues}", rows_of(&self.read).len())?
@@ -59,7 +59,7 @@ impl<'a> Show<'a> {
         let mut path = [0; PATH_LEN];
         let cue = self.read.rows.locate(n, &mut path).map_err(|said| self.no_cue(said, &[n]))?;
         let (depth, steps) = (cue.path.len(), joined(cue.path));
-        Ok(writeln!(out, "depth,block,cue,path\n{depth},{},{},{steps}", cue.block, cue.own)?)
+        Ok(writeln!(out, "depth,block,own,path\n{depth},{},{},{steps}", cue.block, cue.own)?)
     }
 
     fn linked(&self, asked: Lists<'a>, cue: u32) -> Result<Linked<'a>, Problem> {

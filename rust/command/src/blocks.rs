@@ -1,6 +1,6 @@
 //! The blocks of a show, out of its rows.
 
-use show::{Read, ROW_LEN};
+use show::{Loaded, ROW_LEN};
 
 /// A row: block, kind, label, and the columns a to h.
 pub type Row = [u32; ROW_LEN];
@@ -50,7 +50,7 @@ pub struct Block {
 }
 
 /// The rows of a show that was read.
-pub fn rows_of<'a>(show: &Read<'a>) -> &'a [Row] {
+pub fn rows_of<'a>(show: &Loaded<'a>) -> &'a [Row] {
     show.rows.numbers().as_chunks().0
 }
 

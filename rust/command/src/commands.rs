@@ -84,7 +84,7 @@ pub const COMMANDS: [Command; 9] = [
         option: None,
         takes: &["N"],
         says: "where cue N is",
-        prints: "`depth,block,cue,path` and, for cue N: how many uses lead to its copy,\n\
+        prints: "`depth,block,own,path` and, for cue N: how many uses lead to its copy,\n\
             the block of which that is a copy, which of its own cues it is, and the path.\n\
             So 2,0,1,1.2 is own cue 1 of block 0, in use 2 of the copy in use 1 of the show.",
         question: |behind| Ok(Question::Locate(behind.number(0)?)),
@@ -161,6 +161,9 @@ impl Behind<'_> {
     fn path(&self, place: usize) -> Result<Vec<u32>, String> {
         match shown(self.words[place]).as_str() {
             "-" => Ok(Vec::new()),
+            path if path.split(['.', ',']).any(str::is_empty) => {
+                Err(format!("PATH '{path}' has an empty step; the empty path is -"))
+            }
             path => path.split(['.', ',']).map(number).collect(),
         }
     }

@@ -31,7 +31,11 @@ impl Input {
     /// Reads the file of this name, or standard input.
     pub fn read(file: &OsStr) -> Result<Input, Problem> {
         let standard = file == STANDARD;
-        let name = if standard { "standard input".to_string() } else { shown(file) };
+        let name = match shown(file) {
+            _ if standard => "standard input".to_string(),
+            name if name.is_empty() => "''".to_string(),
+            name => name,
+        };
         let (bytes, size) = match standard {
             true => limited(io::stdin().lock()).map(|bytes| (bytes, None)),
             false => of_file(file),

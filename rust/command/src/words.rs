@@ -26,7 +26,11 @@ impl Display for Many {
     }
 }
 
-/// A word of the command line as it can be printed.
+/// A word of the command line as it can be printed in a line.
 pub fn shown(word: &OsStr) -> String {
-    word.to_string_lossy().into_owned()
+    let plain = |letter: char| match letter.is_control() {
+        true => letter.escape_default().to_string(),
+        false => letter.to_string(),
+    };
+    word.to_string_lossy().chars().map(plain).collect()
 }

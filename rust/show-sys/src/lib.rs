@@ -39,6 +39,8 @@ pub const WORK_LEN: usize = 16_384;
 pub const SUMMARY_LEN: usize = 64;
 /// Least length of `given`.
 pub const GIVEN_LEN: usize = 3;
+/// Bytes of stack that are enough for each call, as far as it was tested.
+pub const STACK_LEN: usize = 131_072;
 /// In a work area: no chain leads from the one join to the other.
 pub const NO_CHAIN: u32 = 4_294_967_295;
 

@@ -22,7 +22,8 @@
 //! # Ok::<(), show::Refused>(())
 //! ```
 //!
-//! Every call may be made from any number of threads at once: the library has no state.
+//! Every call may be made from any number of threads at once: the library has no state. No call was
+//! seen to need more than 83 kB of stack; [`STACK_LEN`] is what the tests hold it to.
 #![no_std]
 #![warn(missing_docs)]
 
@@ -33,7 +34,7 @@ pub use linked::Linked;
 pub use refused::{Place, Refused};
 pub use show_sys::{
     MAX_BLOCKS, MAX_CUES, MAX_FILE, MAX_JOINS, MAX_LABEL, MAX_OWN, MAX_ROWS, MAX_VALUE, NO_CHAIN,
-    PATH_LEN, ROWS_LEN, ROW_LEN, SUMMARY_LEN, WORK_LEN,
+    PATH_LEN, ROWS_LEN, ROW_LEN, STACK_LEN, SUMMARY_LEN, WORK_LEN,
 };
 
 /// The version of this crate, which is that of the library's header too.
@@ -41,15 +42,17 @@ pub const VERSION: &str = env!("CARGO_PKG_VERSION");
 
 /// The rows of a show, eleven numbers each, in memory that the caller lends.
 ///
-/// Nothing is assumed of the numbers: each question checks them, in some eight nanoseconds a row.
+/// Nothing is assumed of the numbers: each question checks them first, in 4 to 8 nanoseconds a row, and
+/// refuses what is no show: [`Refused::BadRowCount`] to [`Refused::TooManyCues`], placed at rows. What
+/// else a question refuses stands at its method.
 #[derive(Clone, Copy, Debug, PartialEq, Eq)]
 pub struct Rows<'a> {
     numbers: &'a [u32],
 }
 
-/// What was read from a file.
+/// A show that was read from a file.
 #[derive(Clone, Copy, Debug, PartialEq, Eq)]
-pub struct Read<'a> {
+pub struct Loaded<'a> {
     /// The rows, at the beginning of the lent room.
     pub rows: Rows<'a>,
     /// How many blocks the show has.
@@ -64,7 +67,7 @@ pub struct Located<'p> {
     /// The uses that lead to its copy, each by its position in its block, from 1. Its length is
     /// the depth.
     pub path: &'p [u32],
-    /// The block of which this is a copy.
+    /// The block of which this is a copy, from 0.
     pub block: u32,
     /// Which of that block's own cues it is, from 1.
     pub own: u32,
@@ -75,7 +78,7 @@ pub struct Located<'p> {
 pub struct Page<'p> {
     /// The cues of this page, rising.
     pub cues: &'p [u32],
-    /// Whether there are more behind them. A page with no room says so of the whole list.
+    /// Whether there are more behind them; where the page has no room, whether there are any above n.
     pub more: bool,
 }
 
@@ -93,8 +96,11 @@ impl<'a> Rows<'a> {
         Rows { numbers }
     }
 
-    /// Reads a file to the beginning of `room`; [`ROWS_LEN`] numbers are enough for every file.
-    /// Refusals are placed at lines of the file.
+    /// Reads a file to the beginning of `room`; [`ROWS_LEN`] numbers are enough for every file, fewer
+    /// may be [`Refused::TooShort`]. Refusals are placed at lines of the file.
+    ///
+    /// Of a file on a disk, [`MAX_FILE`]` + 1` bytes are all that has to be read: with one byte over the
+    /// limit it is refused. Cut at the limit, what is left may be a show.
     ///
     /// ```
     /// use show::{Place, Refused, Rows, ROWS_LEN};
@@ -107,7 +113,7 @@ impl<'a> Rows<'a> {
     /// assert_eq!(refused.to_string(), "line 3: a value is out of its range, or an idle column is not 0");
     /// assert!(room.iter().all(|number| *number == 0));
     /// ```
-    pub fn read(file: &[u8], room: &'a mut [u32]) -> Result<Read<'a>, Refused> {
+    pub fn read(file: &[u8], room: &'a mut [u32]) -> Result<Loaded<'a>, Refused> {
         let (len, to) = (room.len(), room.as_mut_ptr());
         // SAFETY: each pointer goes with the length of its own slice, and a slice that is written
         // overlaps no other. So it is in every call below.
@@ -115,7 +121,7 @@ impl<'a> Rows<'a> {
             show_sys::show_read(file.as_ptr(), file.len(), to, len, given, given_len)
         };
         let [many, blocks, cues] = ask(call, Place::Line)?;
-        Ok(Read { rows: Rows::new(&room[..many as usize * ROW_LEN]), blocks, cues })
+        Ok(Loaded { rows: Rows::new(&room[..many as usize * ROW_LEN]), blocks, cues })
     }
 
     /// The numbers.
@@ -124,7 +130,7 @@ impl<'a> Rows<'a> {
     }
 
     /// Writes a file to the beginning of `out` and gives it; [`MAX_FILE`] bytes are enough for
-    /// all rows. Values are written without leading zeros: what was read from a file without any
+    /// all rows, fewer may be [`Refused::TooShort`]. Values are written without leading zeros: what was read from a file without any
     /// comes back byte for byte.
     ///
     /// ```
@@ -155,7 +161,7 @@ impl<'a> Rows<'a> {
     }
 
     /// Where cue `n` is. Its path goes to the beginning of `path`, which has at least
-    /// [`PATH_LEN`] places.
+    /// [`PATH_LEN`] numbers, or it is [`Refused::TooShort`]. Also [`Refused::NoSuchCue`].
     ///
     /// ```
     /// use show::{Rows, PATH_LEN};
@@ -184,7 +190,8 @@ impl<'a> Rows<'a> {
         Ok(Located { path: &path[..depth as usize], block, own })
     }
 
-    /// The number of own cue `own` in the copy to which `path` leads.
+    /// The number of own cue `own` in the copy to which `path` leads, or [`Refused::NoSuchPath`]. The
+    /// empty path is the show itself.
     pub fn number(&self, path: &[u32], own: u32) -> Result<u32, Refused> {
         let (rows, rows_len) = self.lent();
         let (from, len) = (path.as_ptr(), path.len());
@@ -195,7 +202,7 @@ impl<'a> Rows<'a> {
         Ok(n)
     }
 
-    /// The cues that follow on from cue `v` by one link, rising, each once.
+    /// The cues that follow on from cue `v` by one link, rising, each once; or [`Refused::NoSuchCue`].
     ///
     /// The iterator asks for a page at a time, so a list of millions needs no memory. A refusal is
     /// said here; the pages behind the first are asked of the same rows and cannot be refused.
@@ -209,6 +216,8 @@ impl<'a> Rows<'a> {
     }
 
     /// One page of [`linked_out`](Rows::linked_out): the cues above `n`, as many as `page` has room for.
+    /// `n` is any number: 0 for the first page, then the last cue of the page before. No page is too
+    /// short, but a loop over pages with no room does not come forward.
     pub fn list_out<'p>(&self, v: u32, n: u32, page: &'p mut [u32]) -> Result<Page<'p>, Refused> {
         self.list(show_sys::show_list_out, v, n, page)
     }
@@ -219,11 +228,12 @@ impl<'a> Rows<'a> {
     }
 
     /// The fewest follow-ons from cue `s` to cue `t`, or nothing where no chain of links leads
-    /// from the one to the other. `work` has at least [`WORK_LEN`] places, whatever stands in them.
+    /// from the one to the other. `work` has at least [`WORK_LEN`] numbers, whatever they are, or it is
+    /// [`Refused::TooShort`]. Also [`Refused::NoSuchCue`], of `s` or `t`.
     ///
     /// Afterwards they hold the fewest from each join to each join inside each block: those from
     /// join i to join j of block k at [`SUMMARY_LEN`]` * k + 8 * (i - 1) + (j - 1)`, [`NO_CHAIN`] for
-    /// none.
+    /// none and for a join that the block does not have.
     pub fn fewest(&self, s: u32, t: u32, work: &mut [u32]) -> Result<Option<u32>, Refused> {
         let (rows, rows_len) = self.lent();
         let (len, to) = (work.len(), work.as_mut_ptr());

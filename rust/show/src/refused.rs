@@ -12,8 +12,8 @@ pub enum Place {
     Line(u32),
 }
 
-/// Why there is no answer. The variants are in the order in which the checks are made, and numbered
-/// so, from 1; a refusal is the first check that fails.
+/// Why there is no answer. The variants are in the order of the checks and numbered so, from 1; the
+/// first check that fails is said. Checks 5 to 8 go row by row: the first row that fails one decides.
 #[derive(Clone, Copy, Debug, PartialEq, Eq, Hash)]
 #[non_exhaustive]
 pub enum Refused {
@@ -23,7 +23,7 @@ pub enum Refused {
     BadNames,
     /// 3: this line of the file is not eleven values.
     BadLine(u32),
-    /// 4: no whole number of rows, no row, or more than 1,024.
+    /// 4: no row, more than 1,024, or a length of lent numbers that is no multiple of eleven.
     BadRowCount,
     /// 5: block number or kind cannot follow here.
     CannotFollow(Place),
@@ -116,11 +116,13 @@ impl Refused {
             Refused::FileTooLong => "the file has more than 65,536 bytes",
             Refused::BadNames => "the first line is not block,kind,label,a,b,c,d,e,f,g,h",
             Refused::BadLine(_) => "the line is not eleven values",
-            Refused::BadRowCount => "there are no whole rows, no rows, or more than 1,024",
+            Refused::BadRowCount => {
+                "there is no row, there are more than 1,024, or the last one is not whole"
+            }
             Refused::CannotFollow(_) => "the block number or the kind cannot follow here",
             Refused::OutOfRange(_) => "a value is out of its range, or an idle column is not 0",
             Refused::NamedTwice(_) => "a link or a use names a cue twice",
-            Refused::OutOfOrder(_) => "a link does not rise, or a use falls",
+            Refused::OutOfOrder(_) => "links or uses are not in order",
             Refused::BadBlock(_) => {
                 "the last block has joins or no own cue, or another block has no joins"
             }

@@ -6,10 +6,11 @@ const HEADER: &str = include_str!("../../../include/show.h");
 
 /// The value of a constant of the header: a number, or the product of two constants.
 fn value(name: &str) -> u64 {
-    let forms = [format!(" {name} = "), format!("#define {name} UINT32_C(")];
+    let forms = [format!(" {name} = "), format!("#define {name} ")];
     let found = forms.iter().find_map(|form| HEADER.split_once(form.as_str()));
-    let rest = found.unwrap_or_else(|| panic!("{name} is not in the header")).1;
-    let text: &str = rest.split([',', ')', '/', '\n']).next().expect("a split has a part");
+    let rest =
+        found.unwrap_or_else(|| panic!("{name} is not in the header")).1.trim_start_matches('(');
+    let text: &str = rest.split([',', ')', '/', '\n', 'u']).next().expect("a split has a part");
     text.split('*')
         .map(str::trim)
         .map(|part| part.parse().unwrap_or_else(|_| value(part)))
@@ -33,16 +34,16 @@ fn lengths_and_limits() {
         ("SHOW_WORK_LEN", show::WORK_LEN),
         ("SHOW_SUMMARY_LEN", show::SUMMARY_LEN),
         ("SHOW_GIVEN_LEN", show_sys::GIVEN_LEN),
+        ("SHOW_STACK_LEN", show::STACK_LEN),
         ("SHOW_NO_CHAIN", show::NO_CHAIN as usize),
     ];
     for (name, number) in constants {
         assert_eq!(value(name), number as u64, "{name}");
     }
-    // Every length and limit of the header is in the list; the stack is of C alone.
-    let names = HEADER.lines().filter_map(|line| line.strip_prefix("    SHOW_")?.split(' ').next());
-    for name in names.filter(|name| name.ends_with("_LEN") || name.starts_with("MAX_")) {
-        let listed = constants.iter().any(|(listed, _)| listed.strip_prefix("SHOW_") == Some(name));
-        assert!(listed || name == "STACK_LEN", "{name}");
+    // Every length and limit of the header is in the list.
+    let names = HEADER.lines().filter_map(|line| line.strip_prefix("#define ")?.split(' ').next());
+    for name in names.filter(|name| name.ends_with("_LEN") || name.starts_with("SHOW_MAX_")) {
+        assert!(constants.iter().any(|(listed, _)| *listed == name), "{name}");
     }
 }
 

@@ -63,6 +63,7 @@ causes! {
     2 NamesCapitals() "the names have capital letters; all of them are small"
     2 NamesSpaces() "the names have spaces; there is none between them or around them"
     2 NamesQuotes() "the names have quote marks; they are written without any"
+    2 NamesComma() "a comma stands behind the last name; the line ends without one"
     2 NamesCount(names: Many) "the line has {names}; the eleven are {NAMES}"
     2 NameWrong(name: String) "'{name}' stands here; the names are {NAMES}"
 
@@ -97,7 +98,8 @@ causes! {
     5 Jumps(block: u32, next: usize) "{block}; blocks are opened without a gap, so this must be {next}"
     5 OpenedAgain(block: u32, next: usize) "{block}; that block is opened already, so this must be {next}"
     5 TooManyBlocks() "this opens a 129th block; a show has at most 128"
-    5 NotOpened(block: u32, open: usize) "{block}; that block is not opened yet, so this must be {open}"
+    5 NotOpened(block: u32, open: usize)
+        "{block}; that block is not opened: its opening is missing before this line, or this must be {open}"
     5 Left(block: u32, open: usize) "{block}; that block ended where block {open} was opened, so this must be {open}"
     5 LinkBehindUse() "a link stands behind a use; in a block all links come before the uses"
 
@@ -109,6 +111,8 @@ causes! {
     6 NoCues(cue: u32, block: u32) "{cue}; block {block} has neither own cues nor joins, so no cue can be named"
     6 Cue(cue: u32, block: u32, cues: u32, own: Many, joins: Many)
         "{cue}; the cues of block {block} are 1 to {cues}: {own} and {joins}"
+    6 UseCue(cue: u32, used: u32, joins: Many, last: Column, block: u32, cues: u32)
+        "{cue}; block {used} has {joins}, so columns up to {last} name cues of block {block}, 1 to {cues}"
     6 IdleInOpening(value: u32) "{value}; b to h are idle in an opening, so this must be 0"
     6 IdleInLink(value: u32) "{value}; c to h are idle in a link, so this must be 0"
     6 IdleInUse(value: u32, used: u32, joins: Many, first: Column)

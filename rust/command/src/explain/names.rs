@@ -37,6 +37,7 @@ fn begun(line: &[u8]) -> Option<Cause> {
         [] => Some(Cause::Empty {}),
         [0xEF, 0xBB, 0xBF, ..] => Some(Cause::ByteOrderMark {}),
         [0xFF, 0xFE, ..] | [0xFE, 0xFF, ..] => Some(Cause::TwoBytes {}),
+        [b'b', 0, b'l', 0, ..] | [0, b'b', 0, b'l', ..] => Some(Cause::TwoBytes {}),
         _ if text_of(line).is_empty() => Some(Cause::NamesBlank {}),
         _ => None,
     }
@@ -47,6 +48,7 @@ fn ended(line: &[u8]) -> Option<Cause> {
     match line.strip_prefix(TEXT) {
         Some([]) => Some(Cause::NamesUnended {}),
         Some([b'\r', ..]) => Some(Cause::NamesReturn {}),
+        Some([b',', rest @ ..]) if text_of(rest).is_empty() => Some(Cause::NamesComma {}),
         _ if TEXT.starts_with(line) => Some(Cause::NamesCut {}),
         _ => None,
     }

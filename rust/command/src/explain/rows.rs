@@ -126,6 +126,12 @@ impl Seen {
         let cause = match cues {
             _ if (1..=cues).contains(&cue) => return None,
             0 => Cause::NoCues { cue, block },
+            _ if row[1] == USE => {
+                let (many, last) =
+                    (self.carrying(row), Column(Column::A.0 + self.carrying(row) - 1));
+                let joins = Many(many as u32, "join");
+                Cause::UseCue { cue, used: row[2], joins, last, block, cues }
+            }
             _ => {
                 let (own, joins) = (Many(own, "own cue"), Many(joins, "join"));
                 Cause::Cue { cue, block, cues, own, joins }

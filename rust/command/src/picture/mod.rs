@@ -5,7 +5,7 @@ mod blocks;
 mod dot;
 mod unfolded;
 
-use show::{Read, Refused};
+use show::{Loaded, Refused};
 
 use crate::blocks::{of_rows, rows_of, Link};
 use crate::links::{Labelled, MOST_CUES};
@@ -33,12 +33,12 @@ impl From<Refused> for Undrawn {
 }
 
 /// The blocks of a show.
-pub fn blocks(title: &str, show: &Read) -> String {
+pub fn blocks(title: &str, show: &Loaded) -> String {
     blocks::drawn(title, &of_rows(rows_of(show)))
 }
 
 /// The unfolded show: its copies and its links, or why it is not drawn.
-pub fn unfolded(title: &str, show: &Read) -> Result<String, Undrawn> {
+pub fn unfolded(title: &str, show: &Loaded) -> Result<String, Undrawn> {
     if show.cues > MOST_CUES {
         return Err(too_many(format!("{} cues", Grouped(show.cues.into())), MOST_CUES as usize));
     }
@@ -46,7 +46,7 @@ pub fn unfolded(title: &str, show: &Read) -> Result<String, Undrawn> {
 }
 
 /// The links, as long as they are not too many.
-fn links(show: &Read) -> Result<Vec<Link>, Undrawn> {
+fn links(show: &Loaded) -> Result<Vec<Link>, Undrawn> {
     let mut labelled = Labelled::new(rows_of(show), show.cues);
     let mut links = Vec::new();
     for cue in 1..=show.cues {

@@ -4,7 +4,7 @@ use second::gen::prng::Prng;
 use second::gen::{known, random};
 use second::naive::ask::Show;
 use second::naive::file::print;
-use show::{Read, Rows, ROWS_LEN};
+use show::{Loaded, Rows, ROWS_LEN};
 
 use super::{blocks, unfolded, Undrawn};
 
@@ -12,7 +12,7 @@ const RING_BLOCKS: &str = include_str!("ring-blocks.dot");
 const RING_UNFOLDED: &str = include_str!("ring-unfolded.dot");
 
 /// What is said of a show that the library has read.
-fn of<T>(numbers: &[u32], said: impl FnOnce(&Read) -> T) -> T {
+fn of<T>(numbers: &[u32], said: impl FnOnce(&Loaded) -> T) -> T {
     let mut room = [0; ROWS_LEN];
     said(&Rows::read(&print(numbers.as_chunks().0), &mut room).expect("an accepted show"))
 }

@@ -17,9 +17,9 @@ const UNFOLDED: &str = include_str!("../../src/picture/ring-unfolded.dot");
 const ANSWERS: &[(&[&str], &str)] = &[
     (&["check", RING], "blocks,rows,cues\n3,9,5\n"),
     (&["count", RING], "cues\n5\n"),
-    (&["locate", RING, "4"], "depth,block,cue,path\n2,0,1,1.1\n"),
-    (&["locate", RING, "3"], "depth,block,cue,path\n1,1,1,1\n"),
-    (&["locate", RING, "0002"], "depth,block,cue,path\n0,2,2,-\n"),
+    (&["locate", RING, "4"], "depth,block,own,path\n2,0,1,1.1\n"),
+    (&["locate", RING, "3"], "depth,block,own,path\n1,1,1,1\n"),
+    (&["locate", RING, "0002"], "depth,block,own,path\n0,2,2,-\n"),
     (&["number", RING, "1,2", "1"], "cue\n5\n"),
     (&["number", RING, "1.2", "1"], "cue\n5\n"),
     (&["number", RING, "-", "2"], "cue\n2\n"),
@@ -62,16 +62,16 @@ fn a_dash_is_standard_input() {
 
 /// Words that are wrong, and what is said of them.
 const WRONG: &[(&[&str], &str)] = &[
-    (&["chekc", RING], "unknown word chekc"),
-    (&["--nothing"], "unknown word --nothing"),
-    (&["help", "chekc"], "unknown word chekc"),
-    (&["--version", "now"], "now is one word too many"),
-    (&["help", "check", "now"], "now is one word too many"),
+    (&["chekc", RING], "unknown word 'chekc'"),
+    (&["--nothing"], "unknown word '--nothing'"),
+    (&["help", "chekc"], "unknown word 'chekc'"),
+    (&["--version", "now"], "'now' is one word too many"),
+    (&["help", "check", "now"], "'now' is one word too many"),
     (&["check"], "check: FILE is missing"),
-    (&["check", RING, RING], "check: shows/ring.csv is one word too many"),
-    (&["check", "--unfolded", RING], "check: unknown word --unfolded"),
-    (&["picture", "--folded", RING], "picture: unknown word --folded"),
-    (&["count", RING, "1"], "count: 1 is one word too many"),
+    (&["check", RING, RING], "check: 'shows/ring.csv' is one word too many"),
+    (&["check", "--unfolded", RING], "check: unknown word '--unfolded'"),
+    (&["picture", "--folded", RING], "picture: unknown word '--folded'"),
+    (&["count", RING, "1"], "count: '1' is one word too many"),
     (&["locate", RING], "locate: N is missing"),
     (&["locate", RING, "one"], "locate: 'one' is no number"),
     (&["locate", RING, ""], "locate: '' is no number"),
@@ -83,8 +83,9 @@ const WRONG: &[(&[&str], &str)] = &[
         "locate: 4294967296 is too large; a number here is at most 4294967295",
     ),
     (&["number", RING, "1"], "number: CUE is missing"),
-    (&["number", RING, "1..2", "1"], "number: '' is no number"),
-    (&["number", RING, "1,", "1"], "number: '' is no number"),
+    (&["number", RING, "1..2", "1"], "number: PATH '1..2' has an empty step; the empty path is -"),
+    (&["number", RING, "1,", "1"], "number: PATH '1,' has an empty step; the empty path is -"),
+    (&["number", RING, "", "1"], "number: PATH '' has an empty step; the empty path is -"),
     (&["number", RING, "1-2", "1"], "number: '1-2' is no number"),
     (
         &["number", RING, "1,99999999999999999999999", "1"],
@@ -93,7 +94,7 @@ const WRONG: &[(&[&str], &str)] = &[
     (&["out", RING, "x"], "out: 'x' is no number"),
     (&["in", RING], "in: CUE is missing"),
     (&["fewest", RING, "1"], "fewest: T is missing"),
-    (&["fewest", RING, "1", "2", "3"], "fewest: 3 is one word too many"),
+    (&["fewest", RING, "1", "2", "3"], "fewest: '3' is one word too many"),
     (&["links"], "links: FILE is missing"),
 ];
 
@@ -181,7 +182,7 @@ fn questions_without_an_answer_are_refused() {
 
 #[test]
 fn what_cannot_be_read_is_said() {
-    for file in ["shows/none.csv", "shows", "shows/ring.csv/more", ""] {
+    for file in ["shows/none.csv", "shows", "shows/ring.csv/more"] {
         let (status, printed, told) = said(&["check", file], b"");
         assert_eq!((status, printed.as_str()), (2, ""));
         assert!(told.starts_with(&format!("show: {file}: ")) && told.len() > file.len() + 10);
@@ -194,6 +195,18 @@ fn what_cannot_be_read_is_said() {
 }
 
 #[cfg(target_os = "linux")]
+#[test]
+fn a_file_name_is_said_in_one_line() {
+    for (name, told) in [("", "''"), ("no\nfile", "no\\nfile"), ("no file", "no file")] {
+        let (status, printed, words) = said(&["check", name], b"");
+        assert_eq!((status, printed.as_str()), (2, ""), "{name:?}");
+        assert!(
+            words.starts_with(&format!("show: {told}: ")) && words.lines().count() == 1,
+            "{words}"
+        );
+    }
+}
+
 #[test]
 fn an_endless_file_is_refused() {
     let told = "there are more than 65,536 bytes, the most that a show file has (refusal 1)";

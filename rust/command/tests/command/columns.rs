@@ -149,7 +149,7 @@ impl std::fmt::Display for Broken<'_> {
 }
 
 /// Causes that name a column.
-const WITH_COLUMN: usize = 39;
+const WITH_COLUMN: usize = 40;
 
 #[test]
 fn another_value_in_the_named_column_helps() {

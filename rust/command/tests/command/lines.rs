@@ -103,7 +103,7 @@ fn hold(file: &[u8], found: &Explained) {
 }
 
 /// Causes of files that name no column.
-const WITHOUT_COLUMN: usize = 28;
+const WITHOUT_COLUMN: usize = 29;
 
 #[test]
 fn the_line_set_right_helps() {

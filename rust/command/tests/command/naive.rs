@@ -73,7 +73,7 @@ fn text(question: &Question, Answer { given, numbers, .. }: Answer) -> String {
         Question::Locate(_) => {
             let steps: Vec<String> = numbers.iter().map(u32::to_string).collect();
             let path = if steps.is_empty() { "-".to_string() } else { steps.join(".") };
-            format!("depth,block,cue,path\n{},{},{},{path}\n", given[0], given[1], given[2])
+            format!("depth,block,own,path\n{},{},{},{path}\n", given[0], given[1], given[2])
         }
         Question::Number { .. } => format!("cue\n{}\n", given[0]),
         Question::Out(_) => format!("to\n{}", lines(&numbers)),
