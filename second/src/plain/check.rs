@@ -7,9 +7,9 @@ use crate::limits::{Refusal, Row, BLOCKS, COLUMNS, JOINS, OWN, ROWS, TOTAL};
 pub struct Block {
     /// The total, or one more than the most where it is too large.
     pub total: u32,
-    pub open: u16,
-    pub uses: u16,
-    pub end: u16,
+    pub open: u32,
+    pub uses: u32,
+    pub end: u32,
     pub joins: u8,
     pub own: u8,
 }
@@ -70,12 +70,12 @@ impl<'a> Show<'a> {
 
     /// The links of a block.
     pub fn links(&self, block: &Block) -> &'a [Row] {
-        &self.rows[usize::from(block.open) + 1..usize::from(block.uses)]
+        &self.rows[block.open as usize + 1..block.uses as usize]
     }
 
     /// The uses of a block.
     pub fn uses(&self, block: &Block) -> &'a [Row] {
-        &self.rows[usize::from(block.uses)..usize::from(block.end)]
+        &self.rows[block.uses as usize..block.end as usize]
     }
 
     /// The block that a use names.
@@ -95,7 +95,7 @@ impl<'a> Show<'a> {
             let end = base + self.used(row).total;
             if n <= end {
                 let copy = Copy { block: row[2] as usize, base };
-                let row = usize::from(block.uses) + position as usize - 1;
+                let row = block.uses as usize + position as usize - 1;
                 return Some(Step { row, position, copy });
             }
             base = end;
@@ -134,9 +134,9 @@ impl Pass<'_, '_> {
         }
         self.blocks[self.count] = Block {
             total: total.min(TOTAL + 1) as u32,
-            open: open as u16,
-            uses: uses as u16,
-            end: next as u16,
+            open: open as u32,
+            uses: uses as u32,
+            end: next as u32,
             joins: joins as u8,
             own: own as u8,
         };
@@ -173,10 +173,10 @@ impl Pass<'_, '_> {
 fn check_joins(blocks: &[Block]) -> Result<(), usize> {
     let (last, earlier) = blocks.split_last().ok_or(0usize)?;
     if let Some(block) = earlier.iter().find(|block| block.joins == 0) {
-        return Err(block.open.into());
+        return Err(block.open as usize);
     }
     if last.joins != 0 || last.own == 0 {
-        Err(last.open.into())
+        Err(last.open as usize)
     } else {
         Ok(())
     }
@@ -184,7 +184,7 @@ fn check_joins(blocks: &[Block]) -> Result<(), usize> {
 
 fn check_totals(blocks: &[Block]) -> Result<(), usize> {
     match blocks.iter().find(|block| u64::from(block.total) > TOTAL) {
-        Some(block) => Err(block.open.into()),
+        Some(block) => Err(block.open as usize),
         None => Ok(()),
     }
 }
