@@ -17,6 +17,8 @@ use Rattle.model.specs.declared.NumberAnswer.{NumberAnswer}
 use Rattle.model.specs.declared.NumberAnswer.the-variants.{Number, Refused as NumberRefused}
 use Rattle.model.specs.declared.ListAnswer.{ListAnswer}
 use Rattle.model.specs.declared.ListAnswer.the-variants.{Page, Refused as ListRefused}
+use Rattle.model.specs.declared.RowAnswer.{RowAnswer}
+use Rattle.model.specs.declared.RowAnswer.the-variants.{Row, Refused as RowRefused}
 use Rattle.model.specs.declared.FewestAnswer.{FewestAnswer}
 use Rattle.model.specs.declared.FewestAnswer.the-variants.{Steps, None, Refused as FewestRefused}
 
@@ -66,6 +68,11 @@ ofNumber (NumberRefused r) = returned r
 unfoldable pub ofList : ListAnswer → Returned
 ofList (Page written more) = given (written ∷ flag more ∷ [])
 ofList (ListRefused r) = returned r
+
+-- "the number of one link row, and the depth .. of the copy it stands in" (02, Paper 2).
+unfoldable pub ofRow : RowAnswer → Returned
+ofRow (Row row depth) = given (row ∷ depth ∷ [])
+ofRow (RowRefused r) = returned r
 
 -- "Fewest from s to t: a number, or none": whether there is one, and the number, 0 where there is none.
 unfoldable pub ofFewest : FewestAnswer → Returned

@@ -1,5 +1,5 @@
 -- What a reader must believe, in the order in which document 01 is best followed: values, the file, the rows and their checks, blocks, the
--- unfolding, numbers, lists, chains, and the questions. Quotations in comments are from document 01, unless 02 is named.
+-- unfolding, numbers, lists, rows behind follow-ons, chains, and the questions. Quotations in comments are from document 01, unless 02 is named.
 pub mod Choice
 pub mod Limits
 pub mod Values
@@ -11,6 +11,7 @@ pub mod Verdicts
 pub mod Unfolding
 pub mod Paths
 pub mod Lists
+pub mod Behind
 pub mod Chains
 pub mod Summaries
 pub mod Answers

@@ -15,6 +15,7 @@ use Rattle.model.specs.Verdicts.{refusal, verdict, readFile, numbersOf, 
 use Rattle.model.specs.Unfolding.{showLinks}
 use Rattle.model.specs.Paths.{Place, numberIn, placeIn}
 use Rattle.model.specs.Lists.{cuesAfter, isOut, isInto, overwrite}
+use Rattle.model.specs.Behind.{Behind, Stands, Missing, behind}
 use Rattle.model.specs.Chains.{Distance, Far, Unreachable, fewest}
 use Rattle.model.specs.Summaries.{workAfter}
 use Rattle.model.specs.Answers.{Returned, returned, given, flag}
@@ -107,6 +108,19 @@ outAsked xs v n page =
 unfoldable pub inAsked : List ℕ → ℕ → ℕ → List ℕ → Outcome
 inAsked xs v n page =
     onAccepted (verdict xs) (λ r. refuse r page) (listIn (blocksOf xs) (isInto (showLinks (blocksOf xs)) v) v n page)
+
+-- 02, Paper 2: "For s and t, give the number of one link row, and the depth and path of the copy it stands in, the path into a path list as
+-- for locating"; "14, place 0, where no link from s to t exists, after 12". s is checked before t.
+unfoldable pub rowFound : Behind → List ℕ → Outcome
+rowFound (Stands o) path = answer (o .row ∷ length (o .path) ∷ []) (overwrite (o .path) path)
+rowFound Missing path = refuse (refusal 14 0) path
+
+unfoldable pub rowIn : List ℕ → ℕ → ℕ → List ℕ → Outcome
+rowIn xs s t path =
+    withRoom maxDepth path (withCue (blocksOf xs) s path (withCue (blocksOf xs) t path (rowFound (behind xs s t) path)))
+
+unfoldable pub rowAsked : List ℕ → ℕ → ℕ → List ℕ → Outcome
+rowAsked xs s t path = onAccepted (verdict xs) (λ r. refuse r path) (rowIn xs s t path)
 
 -- "Fewest from s to t: a number, or none": whether there is one, and the number, 0 where there is none. s is checked before t.
 unfoldable pub distanceValues : Distance → List ℕ

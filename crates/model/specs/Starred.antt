@@ -11,7 +11,7 @@ use Rattle.model.specs.Blocks.{Link, blocksOf, total}
 use Rattle.model.specs.Verdicts.{refusal}
 use Rattle.model.specs.Unfolding.{showLinks}
 use Rattle.model.specs.Answers.{returned, given}
-use Rattle.model.specs.Questions.{answer, refuse, readAsked, writeAsked, countAsked, locateAsked, numberAsked, outAsked, inAsked, fewestAsked}
+use Rattle.model.specs.Questions.{answer, refuse, readAsked, writeAsked, countAsked, locateAsked, numberAsked, outAsked, inAsked, rowAsked, fewestAsked}
 use Rattle.model.specs.Printed.{triples, printed}
 use Rattle.model.specs.Ring.{ring, ringFile, ringPrinted, opening, openingFile, paddedFile}
 
@@ -84,3 +84,13 @@ pub record Starred : Type 0 where
   pub read-padded : readAsked paddedFile (replicate 12 7) ≡ answer (1 ∷ 1 ∷ 1 ∷ []) (opening 1 ++ (7 ∷ []))
   pub write-unpadded : writeAsked (opening 1) (replicate 56 7) ≡ answer (55 ∷ []) (openingFile ++ (7 ∷ []))
   pub read-unpadded : readAsked openingFile (replicate 12 7) ≡ answer (1 ∷ 1 ∷ 1 ∷ []) (opening 1 ++ (7 ∷ []))
+  -- 02, Paper 2: the ring's five links, each with its row, depth and path; no link from 1 to 2, nor from a cue to itself; no cue 6; a short list
+  pub row-2-1 : rowAsked ring 2 1 lentPath ≡ answer (8 ∷ 0 ∷ []) lentPath
+  pub row-4-2 : rowAsked ring 4 2 lentPath ≡ answer (2 ∷ 2 ∷ []) (1 ∷ 1 ∷ drop 2 lentPath)
+  pub row-3-4 : rowAsked ring 3 4 lentPath ≡ answer (3 ∷ 2 ∷ []) (1 ∷ 1 ∷ drop 2 lentPath)
+  pub row-5-3 : rowAsked ring 5 3 lentPath ≡ answer (2 ∷ 2 ∷ []) (1 ∷ 2 ∷ drop 2 lentPath)
+  pub row-1-5 : rowAsked ring 1 5 lentPath ≡ answer (3 ∷ 2 ∷ []) (1 ∷ 2 ∷ drop 2 lentPath)
+  pub row-1-2 : rowAsked ring 1 2 lentPath ≡ refuse (refusal 14 0) lentPath
+  pub row-1-1 : rowAsked ring 1 1 lentPath ≡ refuse (refusal 14 0) lentPath
+  pub row-6-1 : rowAsked ring 6 1 lentPath ≡ refuse (refusal 12 0) lentPath
+  pub row-short : rowAsked ring 6 1 (drop 1 lentPath) ≡ refuse (refusal 11 0) (drop 1 lentPath)

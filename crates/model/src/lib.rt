@@ -49,6 +49,12 @@ pub enum ListAnswer {
     Refused(Refusal),
 }
 
+// The row behind a follow-on: the number of a link row, and the depth of the copy that it stands in.
+pub enum RowAnswer {
+    Row(u32, u32),
+    Refused(Refusal),
+}
+
 // The fewest follow-ons from one cue to another, or none.
 pub enum FewestAnswer {
     Steps(u32),
