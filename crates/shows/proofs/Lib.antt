@@ -13,6 +13,7 @@ pub mod Ranges
 pub mod BlockAt
 pub mod Locality
 pub mod Trails
+pub mod Tracing
 -- files
 pub mod Lines
 pub mod FlatRows
