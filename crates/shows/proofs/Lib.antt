@@ -14,6 +14,8 @@ pub mod BlockAt
 pub mod Locality
 pub mod Trails
 pub mod Tracing
+pub mod Choosing
+pub mod Origins
 -- files
 pub mod Lines
 pub mod FlatRows

@@ -22,7 +22,7 @@ unfolding tracedInto
 into-links p [] = refl
 into-links p (x ∷ xs) = ap (λ (E : List Link). x .link ∷ E) (into-links p xs)
 
-rows-links : (number : ℕ → ℕ) (r : ℕ) (ls : List Link) → map link-of (rowsTraced number r ls) ≡ map (renamed number) ls
+pub rows-links : (number : ℕ → ℕ) (r : ℕ) (ls : List Link) → map link-of (rowsTraced number r ls) ≡ map (renamed number) ls
 unfolding rowsTraced
 rows-links number r [] = refl
 rows-links number r (l ∷ ls) = ap (λ (E : List Link). renamed number l ∷ E) (rows-links number (suc r) ls)
