@@ -165,6 +165,7 @@ module _ {xs t : List ℕ} (g : Loaded xs t) (k : ℕ) (h : IsBlock xs k) where
       let p : b ≡ getD t (4 * k) 0 = y ∙ x ∙ (rw first refl) in
       let q : d ≡ getD t (4 * k + 1) 0 = w ∙ z in
       record {
+        opened = omega (arith, at .opening);
         order = omega (arith, at .opens);
         there = omega (arith, at .links, at .ends);
         few = omega (arith, at .links, at .ends, rows-few);

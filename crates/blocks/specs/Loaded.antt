@@ -7,6 +7,7 @@ use Rattle.model.specs.Limits.{maxRows}
 use Rattle.model.specs.Rows.{cell, rowCount}
 use Rattle.model.specs.Blocks.{blockAt, joinsOf, blocksOf}
 use Rattle.model.specs.Verdicts.{verdict}
+use Rattle.model.specs.Behind.{openingRow}
 use Rattle.model.specs.declared.Verdict.the-variants.{Accepted}
 use Rattle.shows.specs.WellFormed.{GoodUse, GoodLink}
 use Rattle.verdicts.specs.Index.{linkAt, linksFrom, useAt, usesFrom, Indexed}
@@ -27,8 +28,9 @@ IsRow xs r = r < rowCount xs
 abbrev pub usesBegin : List ℕ → ℕ → ℕ
 usesBegin t k = getD t (4 * k + 1) 0
 
--- The rows from first on, before end, are those of block k's links; of its uses.
+-- The rows from first on, before end, are those of block k's links; of its uses. Counted from 1, the row that opens the block is row first.
 pub record LinkRows (xs : List ℕ) (k first end : ℕ) : Type 0 where
+  pub opened : first ≡ openingRow xs k
   pub order : first ≤ end
   pub there : end ≤ rowCount xs
   pub few : end ≤ maxRows

@@ -19,8 +19,7 @@ use Rattle.verdicts.specs.Index.{indexSize, Indexed}
 use Rattle.verdicts.specs.Passing.{placed, rowsIn, judged, Fine, blocksTo, Scanned, IsChecked}
 use Rattle.verdicts.specs.declared.Scan.{Scan}
 use Rattle.verdicts.proofs.Known.{known, blocks-all}
-use Rattle.verdicts.proofs.Indexing.{indexed}
-use Rattle.verdicts.proofs.Openings.{ends-law, totals-law}
+use Rattle.verdicts.proofs.Openings.{indexed, ends-law, totals-law}
 
 -- Check 4.
 rows-fit : (xs : List ℕ) → (rowsIn xs ≡ 0 → checkLength xs ≡ refused 4 0) × ((rowsIn xs ≡ 0 → ⊥) → (checkLength xs ≡ Accepted) × (rowsIn xs ≡ rowCount xs))

@@ -7,10 +7,10 @@ use mathlib.Core.Bool.{true}
 use mathlib.Core.List.{List, [], _∷_, _++_, List·Memᴰ·head, Memᴰ·append-right}
 use lib.ListN.{length, getD, take}
 use Rattle.model.specs.Choice.{ifEq, ifLt}
-use Rattle.model.specs.Limits.{rowSize, maxOwn, maxBlocks, maxTotal}
-use Rattle.model.specs.Rows.{Row, cell, rowAt, rowsFrom, rowCount, rowsOf}
+use Rattle.model.specs.Limits.{rowSize, maxOwn, maxBlocks}
+use Rattle.model.specs.Rows.{Row, cell, rowAt}
 use Rattle.model.specs.Rules.{Seen, start, goesOn, mayFollow, fault, after}
-use Rattle.model.specs.Blocks.{Link, Use, Block, blockAt, joinsOf, addLink, addUse, addRow, addRows, total, blocksOf}
+use Rattle.model.specs.Blocks.{Link, Use, Block, joinsOf, addLink, addUse, addRow}
 use Rattle.shows.specs.WellFormed.{Good, more}
 use Rattle.basics.proofs.Choices.{eq-then, eq-else, lt-then, lt-else, passed, passed-lt}
 use Rattle.shows.proofs.AtBlock.{joins-hit, joins-skip, joins-beyond, joins-small}
@@ -19,10 +19,10 @@ use Rattle.shows.proofs.Passed.{Passed, faultless, Kind, opens, links, uses, ki
 use Rattle.shows.proofs.Tracks.{Tracks, tracks-step}
 use Rattle.rules.specs.Faults.{faultOf}
 use Rattle.rules.proofs.Model.{fault-law}
-use Rattle.verdicts.specs.Index.{linkAt, useAt, blockFrom, IndexedBlock, Indexed}
+use Rattle.verdicts.specs.Index.{linkAt, useAt, blockFrom}
 use Rattle.verdicts.specs.Passing.{putAt, notedOpen, notedUse, noted, joinsAt, manyOf, Many, seenTo, stateTo, tableTo, blocksTo, Fine}
-use Rattle.verdicts.proofs.Known.{KnownRows, known, after-before, blocks-all}
-use Rattle.verdicts.proofs.Tables.{Entry, TableFor, table-start, open-table, link-table, use-table, capped-fit}
+use Rattle.verdicts.proofs.Known.{KnownRows, known, after-before}
+use Rattle.verdicts.proofs.Tables.{TableFor, table-start, open-table, link-table, use-table}
 
 -- The joins of a block stay as they are when rows are added.
 joins-first : (b b′ : Block) (bs : List Block) (k : ℕ) → b .joins ≡ b′ .joins → joinsOf (b ∷ bs) k ≡ joinsOf (b′ ∷ bs) k
@@ -266,31 +266,3 @@ module _ (xs : List ℕ) (r : ℕ) (f : Fine xs r) where
   fault-is m x =
       rw (k .blocks, k .cues, k .kind)
       (fault-law (seenTo xs r) xs r (r - 1) (k .same) m (x .few) (λ q. x .same ∙ many-use q))
-
--- The index of all rows.
-pub indexed : (xs : List ℕ) → Fine xs (rowCount xs) → ((k : ℕ) → total (blocksOf xs) k ≤ maxTotal) → Indexed xs (tableTo xs (rowCount xs))
-unfolding blocksOf rowsOf
-indexed xs f small = record { size = T .size; at = λ k h. entry k (T .each k (rw bs at h)) }
-  where
-    n : ℕ
-    n = rowCount xs
-
-    bs : addRows [] (rowsFrom xs 0 n) ≡ blocksTo xs n
-    bs = blocks-all xs n
-
-    zero-more : n + 0 ≡ n
-    zero-more = omega arith
-
-    T : TableFor xs (blocksTo xs n) (tableTo xs n) n (blocksTo xs n) (seenTo xs n .before .kind)
-    T = rw zero-more at (tables xs 0 n f)
-
-    entry : (k : ℕ) → Entry xs (blocksTo xs n) (tableTo xs n) n k (blockAt (blocksTo xs n) k) (total (blocksTo xs n) k) → IndexedBlock xs (tableTo xs n) k
-    entry k e =
-        let x : 4 * k ≡ k * 4 = omega arith in
-        record {
-          opens = rw x (e .opens);
-          links = rw x (e .links);
-          ends = rw x (e .ends);
-          block = rw (x, bs) (e .block);
-          total = rw (x, bs) (e .total ∙ capped-fit _ (rw bs at (small k)));
-        }

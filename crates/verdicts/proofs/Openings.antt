@@ -1,4 +1,4 @@
--- The rows that open the blocks, in the model and in the table; and checks 9 and 10 by the table.
+-- The rows that open the blocks, in the model and in the table; the index of all rows; and checks 9 and 10 by the table.
 use Prim.Native.Nat.{ℕ, zero, suc, _+_, _*_, _-_, _≤_, _<_}
 use native.Mathlib.Omega.{arith}
 use native.Mathlib.Decide.{ℕ-discrete, decLe, decLt}
@@ -10,17 +10,18 @@ use lib.ListN.{length, getD, length-append, List·getD-append}
 use lib.Seq.{getD-append-seam}
 use Rattle.model.specs.Choice.{ifEq, ifLt}
 use Rattle.model.specs.Limits.{maxBlocks, maxRows, maxTotal}
-use Rattle.model.specs.Rows.{Row, cell, rowAt, rowsFrom}
+use Rattle.model.specs.Rows.{Row, cell, rowAt, rowsFrom, rowCount, rowsOf}
 use Rattle.model.specs.Rules.{fault}
-use Rattle.model.specs.Blocks.{Block, joinsOf, ownOf, total, addRow}
+use Rattle.model.specs.Blocks.{Block, blockAt, joinsOf, ownOf, total, addRow, addRows, blocksOf}
 use Rattle.model.specs.Verdicts.{refused, openingRows, checkBlocks, mayStand, totalFits}
+use Rattle.model.specs.Behind.{openingRow}
 use Rattle.model.specs.declared.Verdict.the-variants.{Accepted}
 use Rattle.basics.proofs.Choices.{eq-then, eq-else, lt-then, lt-else, true-then, true-else}
 use Rattle.shows.proofs.Accepted.{opening-length, other-length}
 use Rattle.shows.proofs.Passed.{faultless, Kind, opens, links, uses, kind-of}
-use Rattle.verdicts.specs.Index.{blockFrom}
+use Rattle.verdicts.specs.Index.{blockFrom, IndexedBlock, Indexed}
 use Rattle.verdicts.specs.Passing.{capped, notedOpen, notedUse, joinsAt, ownAt, standsAt, fitsAt, passesAt, rowNumber, placeFrom, placed, seenTo, tableTo, blocksTo, Fine}
-use Rattle.verdicts.proofs.Known.{KnownRows, known}
+use Rattle.verdicts.proofs.Known.{KnownRows, known, blocks-all}
 use Rattle.verdicts.proofs.Tables.{TableFor, open-first, open-other, put-other, capped-fit, capped-over}
 use Rattle.verdicts.proofs.Indexing.{tables, kept, noted-open, noted-link, noted-use}
 
@@ -154,6 +155,36 @@ firsts xs zero f = record { many = refl; each = λ k h. absurd (omega arith) }
 firsts xs (suc r) f =
     let g : Fine xs r = λ q h. f q (omega arith) in
     next-firsts xs r g (f r (omega arith)) (firsts xs r g)
+
+-- The index of all rows.
+pub indexed : (xs : List ℕ) → Fine xs (rowCount xs) → ((k : ℕ) → total (blocksOf xs) k ≤ maxTotal) → Indexed xs (tableTo xs (rowCount xs))
+unfolding blocksOf rowsOf openingRow
+indexed xs f small = record { size = T .size; at = λ k h. entry k (rw bs at h) }
+  where
+    n : ℕ
+    n = rowCount xs
+
+    bs : addRows [] (rowsFrom xs 0 n) ≡ blocksTo xs n
+    bs = blocks-all xs n
+
+    zero-more : n + 0 ≡ n
+    zero-more = omega arith
+
+    T : TableFor xs (blocksTo xs n) (tableTo xs n) n (blocksTo xs n) (seenTo xs n .before .kind)
+    T = rw zero-more at (tables xs 0 n f)
+
+    entry : (k : ℕ) → k < length (blocksTo xs n) → IndexedBlock xs (tableTo xs n) k
+    entry k h =
+        let e = T .each k h in
+        let x : 4 * k ≡ k * 4 = omega arith in
+        record {
+          opening = rw x (firsts xs n f .each k h);
+          opens = rw x (e .opens);
+          links = rw x (e .links);
+          ends = rw x (e .ends);
+          block = rw (x, bs) (e .block);
+          total = rw (x, bs) (e .total ∙ capped-fit _ (rw bs at (small k)));
+        }
 
 -- A check of all blocks, by the table.
 row-number : (r : ℕ) → r < maxRows → rowNumber r ≡ r + 1

@@ -6,6 +6,7 @@ use lib.ListN.{length, getD, take}
 use Rattle.model.specs.Limits.{maxBlocks}
 use Rattle.model.specs.Rows.{cell, rowAt, rowCount}
 use Rattle.model.specs.Blocks.{Link, Use, Block, blockAt, joinsOf, total, blocksOf}
+use Rattle.model.specs.Behind.{openingRow}
 
 -- The link of row r, and those of n rows from r on.
 unfoldable pub linkAt : List ℕ → ℕ → Link
@@ -32,8 +33,9 @@ blockFrom xs bs f u e =
 abbrev pub indexSize : ℕ
 indexSize = 4 * maxBlocks
 
--- The four numbers of block k.
+-- The four numbers of block k. The model counts rows from 1.
 pub record IndexedBlock (xs t : List ℕ) (k : ℕ) : Type 0 where
+  pub opening : openingRow xs k ≡ getD t (4 * k) 0 + 1
   pub opens : getD t (4 * k) 0 < getD t (4 * k + 1) 0
   pub links : getD t (4 * k + 1) 0 ≤ getD t (4 * k + 2) 0
   pub ends : getD t (4 * k + 2) 0 ≤ rowCount xs
