@@ -2,4 +2,5 @@
 pub mod Loaded
 pub mod Places
 pub mod Uses
+pub mod Meeting
 pub mod Along

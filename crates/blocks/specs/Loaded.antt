@@ -63,3 +63,9 @@ pub record UseRow (xs : List ℕ) (k r : ℕ) : Type 0 where
   pub good : GoodUse (blocksOf xs) (blockAt (blocksOf xs) k) (useAt xs (blocksOf xs) r)
   pub lower : useAt xs (blocksOf xs) r .block < k
   pub columns : (j : ℕ) → j < joinsOf (blocksOf xs) (useAt xs (blocksOf xs) r .block) → getD (useAt xs (blocksOf xs) r .at) j 0 ≡ columnAt xs r j
+
+-- Join i is the first one that meets cue c in the use of row r, or the number of its joins where none does.
+pub record IsJoinAt (xs : List ℕ) (r joins c i : ℕ) : Type 0 where
+  pub within : i ≤ joins
+  pub found : i < joins → columnAt xs r i ≡ c
+  pub before : (n : ℕ) → n < i → columnAt xs r n ≡ c → ⊥

@@ -2,7 +2,7 @@
 // their index by itself; each promise is an equation with the model's blocks.
 //
 // Of the show: `last`, `count`. Of a block: `own`, `joins`, `total`, `link_rows`, `use_rows`. Of a link's row: `from`, `to`, `label`. Of a
-// use's row: `used`, `column`. A `Place` is where a cue is, and `block_on` goes along the rows that lead there.
+// use's row: `used`, `column`, `join_at`. A `Place` is where a cue is, and `block_on` goes along the rows that lead there.
 use model::limits::ROW_SIZE;
 ghost use mathlib.Core.Path.{_≡_};
 ghost use Prim.Native.Nat.{_+_, _*_, _-_, _≤_, _<_};
@@ -11,7 +11,7 @@ ghost use Rattle.model.specs.Limits.{rowSize, maxJoins, maxOwn, maxBlocks, maxT
 ghost use Rattle.model.specs.Rows.{cell, rowCount};
 ghost use Rattle.model.specs.Blocks.{joinsOf, ownOf, total, blocksOf, lastBlock, count};
 ghost use Rattle.verdicts.specs.Index.{linkAt, useAt};
-ghost use Rattle.blocks.specs.Loaded.{Loaded, IsBlock, LinkRows, UseRows, IsRow, columnAt};
+ghost use Rattle.blocks.specs.Loaded.{Loaded, IsBlock, LinkRows, UseRows, IsRow, columnAt, IsJoinAt};
 ghost use Rattle.blocks.specs.Places.{blockOn, UsesTo};
 
 // The first value of a row that names a cue.
@@ -177,4 +177,19 @@ pub fn column(xs: &[u32], r: usize, j: usize) -> u32
     ensures { λ v. ⌜ v ≡ columnAt (now (xs .entry)) r j ⌝ }
 {
     value(xs, r, COLUMNS + j)
+}
+
+// The join of the used block that meets cue c in the use of row r, and the number of its joins if none does.
+pub fn join_at(xs: &[u32], r: usize, joins: usize, c: u32) -> usize
+    requires { ⌜ IsRow (now xs) r × (joins ≤ maxJoins) ⌝ }
+    ensures { λ i. ⌜ IsJoinAt (now (xs .entry)) r joins c i ⌝ }
+{
+    let mut i = 0;
+    while i < joins {
+        if column(xs, r, i) == c {
+            return i;
+        }
+        i += 1;
+    }
+    joins
 }

@@ -14,15 +14,15 @@ use Rattle.shows.specs.Copies.{Part, Copy, number, all-links, meets, copyOf, So
 use Rattle.shows.proofs.BlockAt.{links-at, ownOf-at, joinsOf-at, total-at}
 use Rattle.shows.proofs.Locality.{part-sound}
 use Rattle.verdicts.specs.Index.{useAt}
-use Rattle.blocks.specs.Loaded.{Loaded, UseRows, UseRow}
+use Rattle.blocks.specs.Loaded.{Loaded, UseRows, UseRow, IsJoinAt}
 use Rattle.blocks.proofs.Loaded.{loaded-show, used-block}
+use Rattle.blocks.proofs.Meeting.{use-many, use-arity, use-meets, use-apart}
 use Rattle.neighbours.specs.declared.Ask.{Ask}
 use Rattle.neighbours.specs.Picks.{wanted}
 use Rattle.neighbours.specs.Near.{KnownOwn, Done, RecordsReady}
-use Rattle.neighbours.specs.Records.{insideAt, bitsAt, recordAt, ownBit, IsJoinAt}
+use Rattle.neighbours.specs.Records.{insideAt, bitsAt, recordAt, ownBit}
 use Rattle.neighbours.proofs.Picked.{wanted-append, wanted-nil, wanted-yes, wanted-not, wanted-under, wanted-low}
 use Rattle.neighbours.proofs.Near.{wanted-part, wanted-apart, wanted-clear, join-number, met-at}
-use Rattle.neighbours.proofs.Marks.{use-many, use-arity, use-meets, use-apart}
 use Rattle.lists.specs.declared.Visit.{Visit}
 use Rattle.lists.specs.declared.Inner.{Inner}
 use Rattle.lists.specs.Pages.{Gives}
@@ -116,20 +116,20 @@ module _ (q : Ask) (xs : List ℕ) (y : Inner) (w : ℕ) (may : MayEnter q xs y 
         door-nil
         (λ base met sound here. wanted-apart q bs m (y .block) base met sound part here (y .cue)
         (omega (arith, may .low, may .high, ownOf-at bs (y .block), joinsOf-at bs (y .block)))
-        (λ a l z. use-apart xs (y .block) (y .row) (y .cue) j joins i o e n p a h l z))
+        (λ a l z. use-apart o e n p a h l z))
 
     pub door-clear : RecordsReady q bs m (y .block) (y .cue) → i < joins → (getD m (recordAt j i + insideAt) 0 ≡ 1 → ⊥) → Door q xs y w maxJoins
     door-clear tab h f =
         door-nil
         (λ base met sound here. wanted-clear q bs m (y .block) base met sound part here (y .cue) i tab
-        (omega (arith, use-arity xs (y .block) (y .row) (y .cue) j joins i o e n p))
-        (use-meets xs (y .block) (y .row) (y .cue) j joins i o e n p h) (rw e at f))
+        (omega (arith, use-arity o e n p))
+        (use-meets o e n p h) (rw e at f))
 
     pub door-open : i < joins → Door q xs y w i
     door-open h =
         record {
           shut = λ z. absurd (omega arith);
-          within = λ z. omega (arith, use-many xs (y .block) (y .row) (y .cue) j joins i o e n p);
+          within = λ z. omega (arith, use-many o e n p);
           meets = λ z. p .found h;
         }
 

@@ -8,6 +8,7 @@
 use blocks::INDEX;
 use blocks::Place;
 use blocks::column;
+use blocks::join_at;
 use blocks::joins;
 use blocks::last;
 use blocks::own;
@@ -25,7 +26,6 @@ use neighbours::INSIDE;
 use neighbours::JOINS;
 use neighbours::RECORD;
 use neighbours::bit;
-use neighbours::join_at;
 use neighbours::marks_of;
 ghost use mathlib.Core.Path.{_≡_};
 ghost use mathlib.Core.List.{[], _∷_};

@@ -13,13 +13,13 @@ use Rattle.model.specs.Blocks.{Use, Block, blockAt, joinsOf, ownOf, blocksOf}
 use Rattle.shows.proofs.BlockAt.{ownOf-at}
 use Rattle.basics.proofs.Choices.{lt-then, lt-else}
 use Rattle.verdicts.specs.Index.{linkAt, linksFrom, useAt, usesFrom}
-use Rattle.blocks.specs.Loaded.{LinkRows, UseRow, columnAt}
+use Rattle.blocks.specs.Loaded.{LinkRows, UseRow, columnAt, IsJoinAt}
 use Rattle.blocks.proofs.Loaded.{usesFrom-snoc}
-use Rattle.blocks.proofs.Uses.{useRow-apart}
+use Rattle.blocks.proofs.Meeting.{use-arity, use-column, use-meets, use-only, use-apart}
 use Rattle.neighbours.specs.declared.Ask.{Ask}
 use Rattle.neighbours.specs.Picks.{nearEnd, there, fits, IsLink, Picked}
 use Rattle.neighbours.specs.Near.{Near, by-link, by-use, IsColumn, ByRow, ByUse, ByUses, Quiet, UseMarked, UsesMarked, Marks}
-use Rattle.neighbours.specs.Records.{recordSize, insideAt, bitsAt, recordAt, bitAt, setBit, ownBit, markOf, On, HasMark, IsCue, Added, IsJoinAt}
+use Rattle.neighbours.specs.Records.{recordSize, insideAt, bitsAt, recordAt, bitAt, setBit, ownBit, markOf, On, HasMark, IsCue, Added}
 use Rattle.neighbours.proofs.Bits.{set-same, set-other, bit-none}
 
 -- The same marks, said otherwise.
@@ -251,28 +251,6 @@ module _ (xs : List ℕ) (q : Ask) (a own c r : ℕ) (s w v : List ℕ) where
   pub links-done : (e : ℕ) → a ≤ r → r ≤ e → e ≤ r → Added own (Picked q (linksFrom xs a (r - a)) c) s w → Added own (Picked q (linksFrom xs a (e - a)) c) s w
   links-done e h i j x = let z : e ≡ r = omega arith in rw z x
 
--- The join that meets a cue in the use of a row.
-pub record Sought (xs : List ℕ) (r c i : ℕ) : Type 0 where
-  pub before : (n : ℕ) → n < i → columnAt xs r n ≡ c → ⊥
-
-pub sought-begin : (xs : List ℕ) (r c : ℕ) → Sought xs r c 0
-sought-begin xs r c = record { before = λ n h e. absurd (omega arith) }
-
-pub sought-on : (xs : List ℕ) (r c i x : ℕ) → Sought xs r c i → x ≡ columnAt xs r i → (x ≡ c → ⊥) → Sought xs r c (i + 1)
-sought-on xs r c i x s e n = record { before = λ k h y. go k h y (ℕ-discrete k i) }
-  where
-    go : (k : ℕ) → k < i + 1 → columnAt xs r k ≡ c → Dec (k ≡ i) → ⊥
-    go k h y (yes q) = n (e ∙ (rw q at y))
-    go k h y (no m) = s .before k (omega arith) y
-
-pub joinAt-stop : (xs : List ℕ) (r joins c i x : ℕ) → Sought xs r c i → i < joins → x ≡ columnAt xs r i → x ≡ c → IsJoinAt xs r joins c i
-joinAt-stop xs r joins c i x s h e y = record { within = omega arith; found = λ l. sym e ∙ y; before = s .before }
-
-pub joinAt-done : (xs : List ℕ) (r joins c i : ℕ) → Sought xs r c i → i ≤ joins → joins ≤ i → IsJoinAt xs r joins c joins
-joinAt-done xs r joins c i s h l =
-    let e : i ≡ joins = omega arith in
-    record { within = omega arith; found = λ x. absurd (omega arith); before = rw e at (s .before) }
-
 -- A column of a use's row, and the columns up to one.
 module _ (xs s : List ℕ) (r j own : ℕ) where
   pub column-yes : (w : List ℕ) (flag d : ℕ) → flag ≡ 1 → d ≡ columnAt xs r j → Added own (IsCue d) s w → Added own (IsColumn xs r j flag) s w
@@ -309,25 +287,6 @@ module _ (xs : List ℕ) (k r c j joins i : ℕ) (o : UseRow xs k r) (y : j ≡ 
   abbrev u : Use
   u = useAt xs (blocksOf xs) r
 
-  pub use-many : joins ≡ joinsOf (blocksOf xs) (u .block)
-  use-many = n ∙ ap (joinsOf (blocksOf xs)) y
-
-  pub use-arity : length (u .at) ≡ joins
-  use-arity = o .good .arity ∙ sym use-many
-
-  use-column : (a : ℕ) → a < joins → getD (u .at) a 0 ≡ columnAt xs r a
-  use-column a h = o .columns a (omega (arith, use-many))
-
-  pub use-meets : i < joins → getD (u .at) i 0 ≡ c
-  use-meets h = use-column i h ∙ p .found h
-
-  -- No other join meets the cue, and none does where none was found.
-  pub use-only : (a : ℕ) → i < joins → a < length (u .at) → getD (u .at) a 0 ≡ c → a ≡ i
-  use-only a h l e = useRow-apart o a i l (omega (arith, use-arity)) (e ∙ sym (use-meets h))
-
-  pub use-apart : (a : ℕ) → joins ≤ i → a < length (u .at) → getD (u .at) a 0 ≡ c → ⊥
-  use-apart a h l e = p .before a (omega (arith, use-arity)) (sym (use-column a (omega (arith, use-arity))) ∙ e)
-
   -- What it marks.
   module _ (m : List ℕ) (own : ℕ) where
     use-yes : (s w : List ℕ) → i < joins → Added own (ByRow xs m r (recordAt j i) joins) s w → Added own (ByUse m u c) s w
@@ -338,20 +297,20 @@ module _ (xs : List ℕ) (k r c j joins i : ℕ) (o : UseRow xs k r) (y : j ≡ 
             record {
               i = i;
               j = b .j;
-              in-i = omega (arith, use-arity);
-              in-j = omega (arith, use-arity, b .in-j);
-              at-i = use-meets h;
-              at-j = use-column (b .j) (b .in-j) ∙ b .at-j;
+              in-i = omega (arith, use-arity o y n p);
+              in-j = omega (arith, use-arity o y n p, b .in-j);
+              at-i = use-meets o y n p h;
+              at-j = use-column o y n p (b .j) (b .in-j) ∙ b .at-j;
               flag = rw (← y) (b .flag);
             }
 
         from : (d : ℕ) → ByUse m u c d → ByRow xs m r (recordAt j i) joins d
         from d b =
-            let e : b .i ≡ i = use-only (b .i) h (b .in-i) (b .at-i) in
+            let e : b .i ≡ i = use-only o y n p (b .i) h (b .in-i) (b .at-i) in
             record {
               j = b .j;
-              in-j = omega (arith, use-arity, b .in-j);
-              at-j = sym (use-column (b .j) (omega (arith, use-arity, b .in-j))) ∙ b .at-j;
+              in-j = omega (arith, use-arity o y n p, b .in-j);
+              at-j = sym (use-column o y n p (b .j) (omega (arith, use-arity o y n p, b .in-j))) ∙ b .at-j;
               flag = rw (e, ← y) at (b .flag);
             }
 
@@ -367,9 +326,9 @@ module _ (xs : List ℕ) (k r c j joins i : ℕ) (o : UseRow xs k r) (y : j ≡ 
     use-quiet s w h b z =
         record {
           added = use-yes s w h b;
-          quiet = λ n. record {
+          quiet = λ _. record {
             at = λ a l q f.
-                let e : a ≡ i = use-only a h l q in
+                let e : a ≡ i = use-only o y n p a h l q in
                 z (rw (e, ← y) at f);
           };
         }
@@ -377,8 +336,8 @@ module _ (xs : List ℕ) (k r c j joins i : ℕ) (o : UseRow xs k r) (y : j ≡ 
     pub use-no : (s : List ℕ) → joins ≤ i → UseMarked own m u c s s
     use-no s h =
         record {
-          added = added-none s s refl (λ d k b. use-apart (b .i) h (b .in-i) (b .at-i));
-          quiet = λ n. record { at = λ a l q f. use-apart a h l q };
+          added = added-none s s refl (λ d k b. use-apart o y n p (b .i) h (b .in-i) (b .at-i));
+          quiet = λ _. record { at = λ a l q f. use-apart o y n p a h l q };
         }
 
 -- The uses of rows.

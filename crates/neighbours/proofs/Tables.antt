@@ -13,13 +13,14 @@ use Rattle.shows.proofs.AtBlock.{joins-small}
 use Rattle.shows.proofs.BlockAt.{ownOf-at}
 use Rattle.basics.proofs.Choices.{lt-then, lt-else}
 use Rattle.verdicts.specs.Index.{useAt, usesFrom, linksFrom}
-use Rattle.blocks.specs.Loaded.{Loaded, LinkRows, UseRows, UseRow}
+use Rattle.blocks.specs.Loaded.{Loaded, LinkRows, UseRows, UseRow, IsJoinAt}
 use Rattle.blocks.proofs.Loaded.{loaded-show, usesFrom-snoc}
+use Rattle.blocks.proofs.Meeting.{use-arity, use-only, use-apart}
 use Rattle.neighbours.specs.declared.Ask.{Ask}
 use Rattle.neighbours.specs.Near.{Flag, Near, ByUses, UseMarked, UsesMarked, KnownOwn, Exact, Done, DoneUse, DoneUses, Table, RecordsKept, Copied, Settled, UseStep, UsesStep, MarksStep, RecordMade}
-use Rattle.neighbours.specs.Records.{recordSize, blockSize, insideAt, bitsAt, recordAt, bitAt, ownBit, markOf, On, HasMark, Added, IsJoinAt}
+use Rattle.neighbours.specs.Records.{recordSize, blockSize, insideAt, bitsAt, recordAt, bitAt, ownBit, markOf, On, HasMark, Added}
 use Rattle.neighbours.specs.Picks.{Picked}
-use Rattle.neighbours.proofs.Marks.{added-like, uses-begin, uses-on, use-arity, use-only, use-apart, use-no, near-all}
+use Rattle.neighbours.proofs.Marks.{added-like, uses-begin, uses-on, use-no, near-all}
 use Rattle.neighbours.proofs.Near.{Right, knownOwn-near, exact-join, exact-same}
 
 -- The bytes of a record.
@@ -192,9 +193,9 @@ module _ (xs m w : List ℕ) (q : Ask) (k r own c j joins i : ℕ) (o : UseRow x
         table = made .table;
         kept = made .kept;
         done = record {
-          few = omega (arith, use-arity xs k r c j joins i o y n p);
+          few = omega (arith, use-arity o y n p);
           at = λ a l e.
-              let z : a ≡ i = use-only xs k r c j joins i o y n p a h l e in
+              let z : a ≡ i = use-only o y n p a h l e in
               rw (z, ← y) (made .done);
         };
       }
@@ -206,8 +207,8 @@ module _ (xs m w : List ℕ) (q : Ask) (k r own c j joins i : ℕ) (o : UseRow x
         table = tab;
         kept = kept-same m;
         done = record {
-          few = omega (arith, use-arity xs k r c j joins i o y n p);
-          at = λ a l e. absurd (use-apart xs k r c j joins i o y n p a h l e);
+          few = omega (arith, use-arity o y n p);
+          at = λ a l e. absurd (use-apart o y n p a h l e);
         };
       }
 

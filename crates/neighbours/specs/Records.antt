@@ -9,7 +9,6 @@ use lib.ListN.{length, getD}
 use lib.Bits.{bitOr}
 use Rattle.model.specs.Choice.{ifLt}
 use Rattle.model.specs.Limits.{maxJoins, maxOwn}
-use Rattle.blocks.specs.Loaded.{columnAt}
 
 -- Where in a record the flag for what is inside stands, and where the bits begin.
 abbrev pub insideAt : ℕ
@@ -72,10 +71,3 @@ pub record Added (own : ℕ) (P : ℕ → Type 0) (s w : List ℕ) : Type 0 wher
   pub coarse : Coarse own s → Coarse own w
   pub stays : getD s insideAt 0 ≡ 1 → getD w insideAt 0 ≡ 1
   pub at : (d : ℕ) → HasMark own d → On own w d ↔ (On own s d ⊎ P d)
-
--- Join i is the first one that meets cue c in the use of row r, or the number of its joins where
--- none does.
-pub record IsJoinAt (xs : List ℕ) (r joins c i : ℕ) : Type 0 where
-  pub within : i ≤ joins
-  pub found : i < joins → columnAt xs r i ≡ c
-  pub before : (n : ℕ) → n < i → columnAt xs r n ≡ c → ⊥

@@ -2,11 +2,12 @@
 // from the records of the blocks below.
 //
 // `marks_of` marks the cues that a cue of a block is linked to, and makes the records that this
-// takes; `join_at` is the join of a use that meets a cue, `bit` a bit of a record.
+// takes; `bit` is a bit of a record.
 use blocks::INDEX;
 use blocks::Rows;
 use blocks::column;
 use blocks::from;
+use blocks::join_at;
 use blocks::joins;
 use blocks::label;
 use blocks::link_rows;
@@ -27,7 +28,7 @@ ghost use Rattle.verdicts.specs.Index.{linksFrom, linkAt, useAt};
 ghost use Rattle.blocks.specs.Loaded.{Loaded, IsBlock, IsRow, UseRow};
 ghost use Rattle.neighbours.specs.Picks.{nearEnd, fits, IsLink, Picked};
 ghost use Rattle.neighbours.specs.Near.{IsColumn, ByRow, Copied, Settled, Table, RecordMade, UseStep, UsesStep, MarksStep};
-ghost use Rattle.neighbours.specs.Records.{recordSize, HasRecord, HasBlock, bitAt, setBit, IsCue, Added, IsJoinAt};
+ghost use Rattle.neighbours.specs.Records.{recordSize, HasRecord, HasBlock, bitAt, setBit, IsCue, Added};
 
 // The most joins of a block.
 pub const JOINS: usize = MAX_JOINS as usize;
@@ -144,22 +145,6 @@ fn mark_links(xs: &[u32], q: Ask, rows: Rows, own: u32, c: u32, s: &mut [u8; REC
         mark_link(xs, q, r, own, c, s);
         r += 1;
     }
-}
-
-// The join of the used block that meets cue c in the use of row r, and the number of its joins if
-// none does.
-pub fn join_at(xs: &[u32], r: usize, joins: usize, c: u32) -> usize
-    requires { ⌜ IsRow (now xs) r × (joins ≤ maxJoins) ⌝ }
-    ensures { λ i. ⌜ IsJoinAt (now (xs .entry)) r joins c i ⌝ }
-{
-    let mut i = 0;
-    while i < joins {
-        if column(xs, r, i) == c {
-            return i;
-        }
-        i += 1;
-    }
-    joins
 }
 
 // Marks the cue in a column of a use whose flag is set.

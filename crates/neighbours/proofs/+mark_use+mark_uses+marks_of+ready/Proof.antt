@@ -39,13 +39,13 @@ use Rattle.neighbours.proofs.+mark_use+mark_uses+marks_of+ready.Lts-mar
 use Rattle.neighbours.proofs.ready.Reads as ready
 use Rattle.neighbours.proofs.ready.Kinds as ready-kinds
 use Rattle.neighbours.proofs.+mark_use+mark_uses+marks_of+ready.Lts-ready as ready-lts
+use Rattle.blocks.proofs.join_at.Reads as join-at-reads
 use Rattle.blocks.proofs.joins.Reads as joins-reads
 use Rattle.blocks.proofs.link_rows.Reads as link-rows-reads
 use Rattle.blocks.proofs.own.Reads as own-reads
 use Rattle.blocks.proofs.use_rows.Reads as use-rows-reads
 use Rattle.blocks.proofs.used.Reads as used-reads
 use Rattle.neighbours.proofs.copy_record.Reads as copy-record-reads
-use Rattle.neighbours.proofs.join_at.Reads as join-at-reads
 use Rattle.neighbours.proofs.mark_links.Reads as mark-links-reads
 use Rattle.neighbours.proofs.mark_row.Reads as mark-row-reads
 use Rattle.neighbours.proofs.settled.Reads as settled-reads

@@ -1,9 +1,9 @@
 -- `join_at`: no join before i meets the cue.
 use borrow.Author.Needs.{needs}
 use Prim.Native.Nat.{_-_, _≤_}
-use Rattle.neighbours.proofs.Marks.{Sought, sought-begin, sought-on, joinAt-stop, joinAt-done}
-use Rattle.neighbours.proofs.join_at.Statement.{statement}
-use Rattle.neighbours.proofs.join_at.Tie as tie
+use Rattle.blocks.proofs.Meeting.{Sought, sought-begin, sought-on, joinAt-stop, joinAt-done}
+use Rattle.blocks.proofs.join_at.Statement.{statement}
+use Rattle.blocks.proofs.join_at.Tie as tie
 
 abbrev Inv-loop : tie.InvT-loop
 Inv-loop xs r joins c i₀ i = (i ≤ joins) × Sought xs r c i
