@@ -210,3 +210,23 @@ own-second p r y h = win-second _ (stepInto p y) (lexed-first depths _ _ _ h)
 pub own-rows : (r q : ℕ) → r ≤ q → winner (own-row r) (own-row q) ≡ own-row r
 unfolding better stepsWin
 own-rows r q l = win-first _ _ (lexed-same depths 0 0 _ refl ∙ le-ltb q r l)
+
+-- The winner's depth, by those of the two.
+pub level-second : (x y : Origin) → depthWins (length (y .path)) (length (x .path)) ≡ true → winner (Stands x) (Stands y) ≡ Stands y
+unfolding better
+level-second x y h = win-second x y (lexed-first depths _ _ _ h)
+
+depth-beats : (x y : Origin) → depthWins (length (x .path)) (length (y .path)) ≡ true → better y x ≡ false
+unfolding better
+depth-beats x y h = lexed-second depths _ _ _ h
+
+pub level-first : (x y : Origin) → depthWins (length (y .path)) (length (x .path)) ≡ false
+    → (o : Origin) × (winner (Stands x) (Stands y) ≡ Stands o) × (length (o .path) ≡ length (x .path))
+level-first x y h = go (depths .three (length (x .path)) (length (y .path))) (better y x) refl
+  where
+    go : Three depthWins (length (x .path)) (length (y .path)) → (t : Bool) → better y x ≡ t
+        → (o : Origin) × (winner (Stands x) (Stands y) ≡ Stands o) × (length (o .path) ≡ length (x .path))
+    go d false e = (x, win-first x y e, refl)
+    go (same l) true e = (y, win-second x y e, sym l)
+    go (first w) true e = absurd (not-both e (depth-beats x y w))
+    go (second w) true e = absurd (not-both w h)

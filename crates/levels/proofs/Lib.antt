@@ -1,0 +1,4 @@
+-- The laws of levels.
+pub mod Changes
+pub mod Best
+pub mod Lifting
