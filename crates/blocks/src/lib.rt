@@ -2,7 +2,8 @@
 // their index by itself; each promise is an equation with the model's blocks.
 //
 // Of the show: `last`, `count`. Of a block: `own`, `joins`, `total`, `link_rows`, `use_rows`. Of a link's row: `from`, `to`, `label`. Of a
-// use's row: `used`, `column`, `join_at`. A `Place` is where a cue is, and `block_on` goes along the rows that lead there.
+// use's row: `used`, `column`, `join_at`, `size_of`. A `Place` is where a cue is, and `block_on` goes along the rows that lead there.
+use model::limits::MAX_JOINS;
 use model::limits::ROW_SIZE;
 ghost use mathlib.Core.Path.{_≡_};
 ghost use Prim.Native.Nat.{_+_, _*_, _-_, _≤_, _<_};
@@ -11,8 +12,11 @@ ghost use Rattle.model.specs.Limits.{rowSize, maxJoins, maxOwn, maxBlocks, maxT
 ghost use Rattle.model.specs.Rows.{cell, rowCount};
 ghost use Rattle.model.specs.Blocks.{joinsOf, ownOf, total, blocksOf, lastBlock, count};
 ghost use Rattle.verdicts.specs.Index.{linkAt, useAt};
-ghost use Rattle.blocks.specs.Loaded.{Loaded, IsBlock, LinkRows, UseRows, IsRow, columnAt, IsJoinAt};
+ghost use Rattle.blocks.specs.Loaded.{Loaded, IsBlock, LinkRows, UseRows, IsRow, UseRow, columnAt, IsJoinAt};
 ghost use Rattle.blocks.specs.Places.{blockOn, UsesTo};
+
+// The most joins of a block.
+pub const JOINS: usize = MAX_JOINS as usize;
 
 // The first value of a row that names a cue.
 const COLUMNS: usize = 3;
@@ -192,4 +196,12 @@ pub fn join_at(xs: &[u32], r: usize, joins: usize, c: u32) -> usize
         i += 1;
     }
     joins
+}
+
+// The total of the block that the use of row r names.
+pub fn size_of(xs: &[u32], t: &[u32; INDEX], k: usize, r: usize) -> u32
+    requires { ⌜ Loaded (now xs) (now t) × UseRow (now xs) k r ⌝ }
+    ensures { λ n. ⌜ n ≡ total (blocksOf (now (xs .entry))) (useAt (now (xs .entry)) (blocksOf (now (xs .entry))) r .block) ⌝ }
+{
+    total(xs, t, used(xs, r))
 }

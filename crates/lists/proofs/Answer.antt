@@ -16,8 +16,8 @@ use Rattle.neighbours.specs.declared.Ask.{Ask}
 use Rattle.neighbours.specs.Picks.{there, Picked}
 use Rattle.neighbours.specs.Near.{Near, Marks, RecordsReady}
 use Rattle.neighbours.proofs.Tables.{mark-of-join}
-use Rattle.lists.specs.declared.Frame.{Frame}
-use Rattle.lists.specs.Copies.{metOf, framed, linksOf}
+use Rattle.copies.specs.declared.Frame.{Frame}
+use Rattle.copies.specs.Copies.{metOf, framed, linksOf}
 use Rattle.lists.specs.Walks.{MayVisit, Walked}
 use Rattle.lists.specs.Joins.{Met, MeetsJust, JoinsDone}
 use Rattle.lists.specs.Answer.{MayAnswer, Answered}

@@ -1,8 +1,6 @@
 -- The laws of lists.
 pub mod Filled
 pub mod Joins
-pub mod Bases
-pub mod Copies
 pub mod Walks
 pub mod Answer
 pub mod Whole

@@ -28,7 +28,7 @@ use Rattle.lists.specs.declared.Inner.{Inner}
 use Rattle.lists.specs.Pages.{Gives}
 use Rattle.lists.specs.Walks.{stepList, ownList, usedBy, MayVisit, MayEnter, Walked, UsesWalked, Entered, Door, UsesGoing}
 use Rattle.lists.proofs.Filled.{gives-nil, gives-full, gives-append}
-use Rattle.lists.proofs.Bases.{innerBase-begin, innerBase-on, innerBase-done, inner-part, inner-fits}
+use Rattle.copies.proofs.Bases.{innerBase-begin, innerBase-on, innerBase-done, inner-part, inner-fits}
 
 -- The own cues of a copy.
 module _ (q : Ask) (bs : List Block) (m : List ℕ) (at k base : ℕ) (met : List ℕ) (g : Sound (copyOf bs k base met)) (c : ℕ) (known : KnownOwn q bs m at k c) where

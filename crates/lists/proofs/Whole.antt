@@ -38,8 +38,8 @@ use Rattle.neighbours.specs.declared.Ask.{Ask}
 use Rattle.lists.specs.declared.Listed.{Listed}
 use Rattle.neighbours.specs.Picks.{nearEnd, there, fits, picks, Picked, wants, wanted}
 use Rattle.lists.specs.Pages.{Filled, Gives}
-use Rattle.lists.specs.declared.Frame.{Frame}
-use Rattle.lists.specs.Copies.{metOf, framed, linksOf, CopyAt}
+use Rattle.copies.specs.declared.Frame.{Frame}
+use Rattle.copies.specs.Copies.{metOf, framed, linksOf, CopyAt}
 use Rattle.lists.specs.Answer.{linkedCues, labelledCues, IsListed, MayAnswer, Answered}
 use Rattle.basics.proofs.Keeping.{keep-short, keep-same}
 use Rattle.neighbours.proofs.Picked.{both-ends, ends-here, picked, wanted-append, wanted-none, wanted-low, wanted-same}

@@ -11,11 +11,11 @@ use Rattle.model.specs.Unfolding.{showLinks}
 use Rattle.model.specs.Lists.{cuesAfter, isOut, isInto, overwrite}
 use Rattle.shows.specs.Copies.{number, Sound, Low}
 use Rattle.neighbours.specs.declared.Ask.{Ask}
-use Rattle.lists.specs.declared.Frame.{Frame}
+use Rattle.copies.specs.declared.Frame.{Frame}
 use Rattle.lists.specs.declared.Listed.{Listed}
 use Rattle.neighbours.specs.Picks.{wanted}
 use Rattle.lists.specs.Pages.{HasRoom, Gives}
-use Rattle.lists.specs.Copies.{framed, linksOf, IsCopy}
+use Rattle.copies.specs.Copies.{framed, linksOf, IsCopy}
 
 -- The blocks for which a short table is enough.
 abbrev pub lowBlocks : ℕ

@@ -16,7 +16,7 @@ use Rattle.neighbours.specs.Records.{ownBit}
 use Rattle.lists.specs.declared.Visit.{Visit}
 use Rattle.lists.specs.declared.Inner.{Inner}
 use Rattle.lists.specs.Pages.{HasRoom, Gives}
-use Rattle.lists.specs.Copies.{innerBase}
+use Rattle.copies.specs.Copies.{innerBase}
 
 -- A cue that is marked and high enough, and the own cues of a copy that are.
 unfoldable pub stepList : Ask → ℕ → ℕ → List ℕ

@@ -6,16 +6,17 @@
 // linked to it, and walk the copies inside in the order of their numbers; records of `neighbours` say
 // which of them have a cue to give.
 use blocks::INDEX;
+use blocks::JOINS;
 use blocks::Place;
-use blocks::column;
 use blocks::join_at;
 use blocks::joins;
-use blocks::last;
 use blocks::own;
-use blocks::total;
+use blocks::size_of;
 use blocks::use_rows;
 use blocks::used;
 use blocks::wide;
+use copies::Frame;
+use copies::descend;
 use model::limits::MAX_BLOCKS;
 use model::limits::MAX_LABEL;
 use model::limits::MAX_TOTAL;
@@ -23,7 +24,6 @@ use neighbours::Ask;
 use neighbours::BITS;
 use neighbours::BLOCK;
 use neighbours::INSIDE;
-use neighbours::JOINS;
 use neighbours::RECORD;
 use neighbours::bit;
 use neighbours::marks_of;
@@ -32,10 +32,9 @@ ghost use mathlib.Core.List.{[], _∷_};
 ghost use Prim.Native.Nat.{_+_, _*_, _-_, _≤_, _<_, _/_, min};
 ghost use lib.ListN.{length};
 ghost use Rattle.model.specs.Limits.{maxJoins, maxOwn, maxTotal};
-ghost use Rattle.model.specs.Unfolding.{cueAt, showLinks};
-ghost use Rattle.model.specs.Blocks.{ownOf, total, count, blocksOf};
-ghost use Rattle.verdicts.specs.Index.{useAt};
-ghost use Rattle.blocks.specs.Loaded.{Loaded, IsRow, UseRow};
+ghost use Rattle.model.specs.Unfolding.{showLinks};
+ghost use Rattle.model.specs.Blocks.{ownOf, count, blocksOf};
+ghost use Rattle.blocks.specs.Loaded.{Loaded, UseRow};
 ghost use Rattle.blocks.specs.Places.{Found};
 ghost use Rattle.neighbours.specs.Picks.{wanted};
 ghost use Rattle.neighbours.specs.Near.{KnownOwn, Table, RecordsReady};
@@ -43,7 +42,6 @@ ghost use Rattle.neighbours.specs.Records.{bitsAt, HasRecord, HasBlock};
 ghost use Rattle.lists.specs.Pages.{HasRoom, Gives};
 ghost use Rattle.lists.specs.Walks.{stepList, ownList, MayVisit, MayEnter, Walked, UsesWalked, Entered, Door};
 ghost use Rattle.lists.specs.Joins.{lesser, Next, JoinsDone};
-ghost use Rattle.lists.specs.Copies.{innerBase, MayStep, Stepped, ColumnsFit, MeetIs, CopyAt};
 ghost use Rattle.lists.specs.Answer.{lowBlocks, linkedCues, labelledCues, IsListed, MayAnswer, Answered};
 
 // A table of the records of all 128 blocks, and a short one of the blocks below LOW.
@@ -60,14 +58,6 @@ const MAX_TOTAL_64: usize = MAX_TOTAL as usize;
 pub struct Listed {
     pub written: u32,
     pub more: bool,
-}
-
-// A copy of a block in the show: its block, the number that its own cues follow, and the cues that
-// its joins meet.
-pub struct Frame {
-    pub block: usize,
-    pub base: u32,
-    pub met: [u32; JOINS],
 }
 
 // A copy that the walk comes to, whatever its joins meet: its block, the number that its own cues
@@ -170,14 +160,6 @@ fn give_block(
 }
 
 // ---- uses
-
-// The total of the block that the use of row r names.
-fn size_of(xs: &[u32], t: &[u32; INDEX], k: usize, r: usize) -> u32
-    requires { ⌜ Loaded (now xs) (now t) × UseRow (now xs) k r ⌝ }
-    ensures { λ n. ⌜ n ≡ total (blocksOf (now (xs .entry))) (useAt (now (xs .entry)) (blocksOf (now (xs .entry))) r .block) ⌝ }
-{
-    total(xs, t, used(xs, r))
-}
 
 // The join of the used block from which the walk goes on in the copy of a use, or 8.
 fn door(xs: &[u32], t: &[u32; INDEX], q: Ask, m: &[u8], y: Inner, w: usize) -> usize
@@ -319,90 +301,6 @@ fn give_joins(q: Ask, s: &[u8; RECORD], joins: usize, met: [u32; JOINS], page: &
         g = give(room, page, g, x);
         last = x;
     }
-}
-
-// ---- the way down
-
-// The number of cue c of a copy of a block with own own cues.
-fn cue_number(own: u32, z: Frame, c: u32) -> u32
-    requires { ⌜ (c ≤ own + maxJoins) × (z .base + own ≤ maxTotal) ⌝ }
-    ensures { λ v. ⌜ v ≡ cueAt own (z .base) (z .met) c ⌝ }
-{
-    if own < c {
-        let met = z.met;
-        let j = wide(c - own - 1);
-        return met[j];
-    }
-    z.base + c
-}
-
-// The cues that the joins of the use of row r meet, in a copy.
-fn meet(xs: &[u32], r: usize, joins: usize, own: u32, z: Frame) -> [u32; JOINS]
-    requires { ⌜ IsRow (now xs) r × (joins ≤ maxJoins) × (z .base + own ≤ maxTotal) × ColumnsFit (now xs) r joins own ⌝ }
-    ensures { λ out. ⌜ MeetIs (now (xs .entry)) r joins own z out ⌝ }
-{
-    let mut out: [u32; JOINS] = [0; JOINS];
-    let mut j = 0;
-    while j < joins {
-        let x = column(xs, r, j);
-        let y = cue_number(own, z, x);
-        out[j] = y;
-        j += 1;
-    }
-    out
-}
-
-// The number that the cues of the copy of the use of row r follow, in a copy.
-fn inner_base(xs: &[u32], t: &[u32; INDEX], z: Frame, r: usize) -> u32
-    requires { ⌜ Loaded (now xs) (now t) × MayStep (now xs) (now t) z r ⌝ }
-    ensures { λ b. ⌜ b ≡ innerBase (now (xs .entry)) (now (t .entry)) (z .block) (z .base) r ⌝ }
-{
-    let rows = use_rows(xs, t, z.block);
-    let mut b = z.base + own(xs, t, z.block);
-    let mut i = rows.first;
-    while i < r {
-        b += size_of(xs, t, z.block, i);
-        i += 1;
-    }
-    b
-}
-
-// One step down: into the copy of the use of row r.
-fn step(xs: &[u32], t: &[u32; INDEX], z: Frame, r: usize) -> Frame
-    requires { ⌜ Loaded (now xs) (now t) × MayStep (now xs) (now t) z r ⌝ }
-    ensures { λ y. ⌜ Stepped (now (xs .entry)) (now (t .entry)) z r y ⌝ }
-{
-    let own = own(xs, t, z.block);
-    let j = used(xs, r);
-    let joins = joins(xs, t, j);
-    let out = meet(xs, r, joins, own, z);
-    let b = inner_base(xs, t, z, r);
-    Frame {
-        block: j,
-        base: b,
-        met: out,
-    }
-}
-
-// The copy that owns the cue of a place: along the rows from the show, use by use.
-fn descend(xs: &[u32], t: &[u32; INDEX], place: Place, rows: &[u32]) -> Frame
-    requires { ⌜ Loaded (now xs) (now t) × Found (now xs) (now t) (now rows) place ⌝ }
-    ensures { λ z. ⌜ CopyAt (now (xs .entry)) (now (t .entry)) (now (rows .entry)) (place .depth) z ⌝ }
-{
-    let none: [u32; JOINS] = [0; JOINS];
-    let depth = place.depth;
-    let mut z = Frame {
-        block: last(xs, t),
-        base: 0,
-        met: none,
-    };
-    let mut l = 0;
-    while l < depth {
-        let r = wide(rows[l]);
-        z = step(xs, t, z, r);
-        l += 1;
-    }
-    z
 }
 
 // ---- the question

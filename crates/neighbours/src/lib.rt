@@ -4,6 +4,7 @@
 // `marks_of` marks the cues that a cue of a block is linked to, and makes the records that this
 // takes; `bit` is a bit of a record.
 use blocks::INDEX;
+use blocks::JOINS;
 use blocks::Rows;
 use blocks::column;
 use blocks::from;
@@ -16,7 +17,6 @@ use blocks::to;
 use blocks::use_rows;
 use blocks::used;
 use blocks::wide;
-use model::limits::MAX_JOINS;
 use model::limits::MAX_OWN;
 ghost use mathlib.Core.Path.{_≡_};
 ghost use Prim.Native.Nat.{_+_, _*_, _-_, _≤_, _<_};
@@ -29,9 +29,6 @@ ghost use Rattle.blocks.specs.Loaded.{Loaded, IsBlock, IsRow, UseRow};
 ghost use Rattle.neighbours.specs.Picks.{nearEnd, fits, IsLink, Picked};
 ghost use Rattle.neighbours.specs.Near.{IsColumn, ByRow, Copied, Settled, Table, RecordMade, UseStep, UsesStep, MarksStep};
 ghost use Rattle.neighbours.specs.Records.{recordSize, HasRecord, HasBlock, bitAt, setBit, IsCue, Added};
-
-// The most joins of a block.
-pub const JOINS: usize = MAX_JOINS as usize;
 
 // A record of marks: a flag for each join, then one for what is inside, then 32 bytes with a bit
 // for each own cue.

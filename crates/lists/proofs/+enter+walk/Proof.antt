@@ -30,11 +30,11 @@ use Rattle.lists.proofs.walk.Reads as walk
 use Rattle.lists.proofs.walk.Kinds as walk-kinds
 use Rattle.lists.proofs.+enter+walk.Lts-walk as walk-lts
 use Rattle.blocks.proofs.own.Reads as own-reads
+use Rattle.blocks.proofs.size_of.Reads as size-of-reads
 use Rattle.blocks.proofs.use_rows.Reads as use-rows-reads
 use Rattle.blocks.proofs.used.Reads as used-reads
 use Rattle.lists.proofs.door.Reads as door-reads
 use Rattle.lists.proofs.give_block.Reads as give-block-reads
-use Rattle.lists.proofs.size_of.Reads as size-of-reads
 use Rattle.lists.proofs.+enter+walk.{statement}
 use Rattle.lists.proofs.+enter+walk.Tie.{close}
 

@@ -14,7 +14,7 @@ use Rattle.verdicts.specs.Index.{useAt}
 use Rattle.blocks.specs.Loaded.{Loaded, usesBegin, UseRows}
 use Rattle.blocks.proofs.Loaded.{loaded-show}
 use Rattle.blocks.proofs.Uses.{useRows-length, useRows-at}
-use Rattle.lists.specs.Copies.{innerBase}
+use Rattle.copies.specs.Copies.{innerBase}
 
 sum-append : (f : ℕ → ℕ) (us ws : List Use) → sumOver f (us ++ ws) ≡ sumOver f us + sumOver f ws
 unfolding sumOver

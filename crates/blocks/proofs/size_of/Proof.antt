@@ -2,9 +2,9 @@
 use borrow.Author.Needs.{needs}
 use mathlib.Core.Path.{_∙_, ap}
 use Rattle.model.specs.Blocks.{total}
 use Rattle.blocks.proofs.Loaded.{used-block}
-use Rattle.lists.proofs.size_of.Statement.{statement}
-use Rattle.lists.proofs.size_of.Tie as tie
+use Rattle.blocks.proofs.size_of.Statement.{statement}
+use Rattle.blocks.proofs.size_of.Tie as tie
 
 total-requires : tie.Need-total-requires
 total-requires c κs = let pre = c .before .before .pre in (pre .0, used-block _ (pre .1) (c .used .ensures .0))

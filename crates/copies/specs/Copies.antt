@@ -10,7 +10,7 @@ use Rattle.shows.specs.Copies.{Copy, copyOf, show-copy, after}
 use Rattle.verdicts.specs.Index.{useAt}
 use Rattle.blocks.specs.Loaded.{IsBlock, usesBegin, columnAt}
 use Rattle.blocks.specs.Places.{blockOn, Takes, Along}
-use Rattle.lists.specs.declared.Frame.{Frame}
+use Rattle.copies.specs.declared.Frame.{Frame}
 
 -- What the joins of a copy meet, the copy as theory has it, and its links.
 abbrev pub metOf : List Block → Frame → List ℕ

@@ -3,10 +3,10 @@ use borrow.Author.Needs.{needs}
 use Prim.Native.Nat.{_-_, _≤_}
 use native.Mathlib.Omega.{arith}
 use mathlib.Core.Path.{refl}
-use Rattle.lists.specs.Copies.{CopyAt}
-use Rattle.lists.proofs.Copies.{copyAt-begin, mayStep-on, copyAt-on, copyAt-done}
-use Rattle.lists.proofs.descend.Statement.{statement}
-use Rattle.lists.proofs.descend.Tie as tie
+use Rattle.copies.specs.Copies.{CopyAt}
+use Rattle.copies.proofs.Copies.{copyAt-begin, mayStep-on, copyAt-on, copyAt-done}
+use Rattle.copies.proofs.descend.Statement.{statement}
+use Rattle.copies.proofs.descend.Tie as tie
 
 abbrev Inv-loop : tie.InvT-loop
 Inv-loop xs t rows depth z₀ l₀ z l = (l ≤ depth) × CopyAt xs t rows l z

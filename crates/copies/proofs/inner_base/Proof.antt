@@ -3,11 +3,11 @@ use borrow.Author.Needs.{needs}
 use Prim.Native.Nat.{_-_, _≤_}
 use native.Mathlib.Omega.{arith}
 use mathlib.Core.Path.{_≡_}
-use Rattle.lists.specs.Copies.{innerBase}
-use Rattle.lists.proofs.Bases.{innerBase-begin}
-use Rattle.lists.proofs.Copies.{step-small, innerBase-row, innerBase-fits, innerBase-next, innerBase-last}
-use Rattle.lists.proofs.inner_base.Statement.{statement}
-use Rattle.lists.proofs.inner_base.Tie as tie
+use Rattle.copies.specs.Copies.{innerBase}
+use Rattle.copies.proofs.Bases.{innerBase-begin}
+use Rattle.copies.proofs.Copies.{step-small, innerBase-row, innerBase-fits, innerBase-next, innerBase-last}
+use Rattle.copies.proofs.inner_base.Statement.{statement}
+use Rattle.copies.proofs.inner_base.Tie as tie
 
 abbrev Inv-loop : tie.InvT-loop
 Inv-loop xs t z r b₀ i₀ b i = (i₀ ≤ i) × (i ≤ r) × (b ≡ innerBase xs t (z .block) (z .base) i)

@@ -1,9 +1,9 @@
 -- `step`: the copy of the use of a row.
 use borrow.Author.Needs.{needs}
 use Rattle.blocks.proofs.Loaded.{used-block}
-use Rattle.lists.proofs.Copies.{step-row, step-small, columnsFit, stepped}
-use Rattle.lists.proofs.step.Statement.{statement}
-use Rattle.lists.proofs.step.Tie as tie
+use Rattle.copies.proofs.Copies.{step-row, step-small, columnsFit, stepped}
+use Rattle.copies.proofs.step.Statement.{statement}
+use Rattle.copies.proofs.step.Tie as tie
 
 used-requires : tie.Need-used-requires
 used-requires c κs = let pre = c .before .before .pre in step-row (pre .0) _ _ (pre .1) .there

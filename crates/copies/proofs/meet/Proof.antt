@@ -1,10 +1,10 @@
 -- `meet`: the loop reads one column more each turn.
 use borrow.Author.Needs.{needs}
 use Prim.Native.Nat.{_-_, _≤_}
-use Rattle.lists.specs.Copies.{MeetIs}
-use Rattle.lists.proofs.Copies.{meetIs-begin, meetIs-on, meetIs-done, columnsFit-at}
-use Rattle.lists.proofs.meet.Statement.{statement}
-use Rattle.lists.proofs.meet.Tie as tie
+use Rattle.copies.specs.Copies.{MeetIs}
+use Rattle.copies.proofs.Copies.{meetIs-begin, meetIs-on, meetIs-done, columnsFit-at}
+use Rattle.copies.proofs.meet.Statement.{statement}
+use Rattle.copies.proofs.meet.Tie as tie
 
 abbrev Inv-loop : tie.InvT-loop
 Inv-loop xs r joins own z out₀ j₀ out j = (j ≤ joins) × MeetIs xs r j own z out

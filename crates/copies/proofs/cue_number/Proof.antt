@@ -1,8 +1,8 @@
 -- `cue_number`: the number of an own cue or of a join.
 use borrow.Author.Needs.{needs}
-use Rattle.lists.proofs.Copies.{cue-join, cue-own}
-use Rattle.lists.proofs.cue_number.Statement.{statement}
-use Rattle.lists.proofs.cue_number.Tie as tie
+use Rattle.copies.proofs.Copies.{cue-join, cue-own}
+use Rattle.copies.proofs.cue_number.Statement.{statement}
+use Rattle.copies.proofs.cue_number.Tie as tie
 
 returns : tie.Need-returns
 returns c = search (cue-join, needs)

@@ -23,9 +23,9 @@ use Rattle.blocks.specs.Places.{blockOn, Takes, Along, Found}
 use Rattle.blocks.proofs.Loaded.{loaded-show, use-row, used-block}
 use Rattle.blocks.proofs.Uses.{useRows-length, uses-of, useRow-cue}
 use Rattle.blocks.proofs.Along.{along-take}
-use Rattle.lists.specs.declared.Frame.{Frame}
-use Rattle.lists.specs.Copies.{framed, innerBase, MayStep, Stepped, ColumnsFit, MeetIs, CopyAt}
-use Rattle.lists.proofs.Bases.{noUse, use-here, innerBase-on, inner-fits}
+use Rattle.copies.specs.declared.Frame.{Frame}
+use Rattle.copies.specs.Copies.{framed, innerBase, MayStep, Stepped, ColumnsFit, MeetIs, CopyAt}
+use Rattle.copies.proofs.Bases.{noUse, use-here, innerBase-on, inner-fits}
 
 -- The number of a cue, by the first numbers that joins meet.
 pub cue-own : (own base : ℕ) (met : List ℕ) (c : ℕ) → c ≤ own → base + c ≡ cueAt own base met c

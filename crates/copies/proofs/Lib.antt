@@ -1,0 +1,3 @@
+-- The laws of copies.
+pub mod Bases
+pub mod Copies

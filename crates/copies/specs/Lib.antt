@@ -1,0 +1,2 @@
+-- Copies as the code holds them.
+pub mod Copies
