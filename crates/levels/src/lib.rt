@@ -3,6 +3,7 @@
 //
 // `levels` makes the table for the blocks below one; `wins` says which of two levels is better.
 use blocks::INDEX;
+use blocks::JOINS;
 use blocks::column;
 use blocks::from;
 use blocks::joins;
@@ -13,7 +14,6 @@ use blocks::use_rows;
 use blocks::used;
 use blocks::wide;
 use model::limits::MAX_BLOCKS;
-use model::limits::MAX_JOINS;
 ghost use mathlib.Core.Path.{_≡_};
 ghost use Prim.Native.Nat.{_+_, _<_};
 ghost use lib.ListN.{replicate};
@@ -21,9 +21,6 @@ ghost use Rattle.model.specs.Behind.{depthWins};
 ghost use Rattle.blocks.specs.Loaded.{Loaded, IsBlock};
 ghost use Rattle.levels.specs.Levels.{betterLevel, tableSize};
 ghost use Rattle.levels.specs.Tables.{Levels, Fresh, Changed, putLevel, HasPairs, usedJoins, MayLift, linksPut, usesLift, useLift, joinLift, pairLift};
-
-// The most joins of a block.
-pub const JOINS: usize = MAX_JOINS as usize;
 
 // A level for each two joins of a block, and of all blocks.
 pub const PAIRS: usize = JOINS * JOINS;

@@ -22,16 +22,16 @@ use Rattle.shows.proofs.Tracing.{link-of, rows-links, own-traced, parts
 use Rattle.shows.proofs.Choosing.{into, own-row, own-rows, best-append, best-into}
 
 -- A link from s to t.
-abbrev Joins : ℕ → ℕ → Link → Type 0
+abbrev pub Joins : ℕ → ℕ → Link → Type 0
 Joins s t l = (l .from ≡ s) × (l .to ≡ t)
 
 module _ (s t : ℕ) where
   -- One traced link more: it joins s to t, or it does not.
-  origins-hit : (x : Traced) (xs : List Traced) → Joins s t (x .link) → origins s t (x ∷ xs) ≡ x .origin ∷ origins s t xs
+  pub origins-hit : (x : Traced) (xs : List Traced) → Joins s t (x .link) → origins s t (x ∷ xs) ≡ x .origin ∷ origins s t xs
   unfolding origins
   origins-hit x xs h = eq-then (x .link .from) s _ _ (h .0) ∙ eq-then (x .link .to) t _ _ (h .1)
 
-  origins-skip : (x : Traced) (xs : List Traced) → (Joins s t (x .link) → ⊥) → origins s t (x ∷ xs) ≡ origins s t xs
+  pub origins-skip : (x : Traced) (xs : List Traced) → (Joins s t (x .link) → ⊥) → origins s t (x ∷ xs) ≡ origins s t xs
   unfolding origins
   origins-skip x xs n = go (ℕ-discrete (x .link .from) s) (ℕ-discrete (x .link .to) t)
     where
@@ -41,7 +41,7 @@ module _ (s t : ℕ) where
       go (yes a) (no b) = eq-then (x .link .from) s _ _ a ∙ eq-else (x .link .to) t _ _ b
       go (no a) d = eq-else (x .link .from) s _ _ a
 
-  joins? : (l : Link) → Dec (Joins s t l)
+  pub joins? : (l : Link) → Dec (Joins s t l)
   joins? l = go (ℕ-discrete (l .from) s) (ℕ-discrete (l .to) t)
     where
       go : Dec (l .from ≡ s) → Dec (l .to ≡ t) → Dec (Joins s t l)
