@@ -55,7 +55,7 @@ position-is at c i d h e =
     distinct-apart at d (positionOf at c) i l h (position-found at c l ∙ sym e)
 
 -- Levels follow the winner, and a step makes them one more.
-none-left : (n : ℕ) → betterLevel n 0 ≡ n
+pub none-left : (n : ℕ) → betterLevel n 0 ≡ n
 unfolding betterLevel
 none-left n = eq-then 0 0 n _ refl
 

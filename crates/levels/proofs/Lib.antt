@@ -2,3 +2,5 @@
 pub mod Changes
 pub mod Best
 pub mod Lifting
+pub mod Deep
+pub mod Making

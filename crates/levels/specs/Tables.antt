@@ -62,6 +62,7 @@ usedJoins xs r = joinsOf (blocksOf xs) (useAt xs (blocksOf xs) r .block)
 pub record MayLift (xs m : List ℕ) (k r : ℕ) : Type 0 where
   pub row : UseRow xs k r
   pub room : HasPairs m k
+  pub few : usedJoins xs r ≤ maxJoins
   pub small : (i j : ℕ) → i < usedJoins xs r → j < usedJoins xs r → levelAt m (useAt xs (blocksOf xs) r .block) i j ≤ maxBlocks
 
 -- What the links of block k make of a level; what its uses do, and one use, that of row r.

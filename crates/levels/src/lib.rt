@@ -17,9 +17,10 @@ use model::limits::MAX_BLOCKS;
 ghost use mathlib.Core.Path.{_≡_};
 ghost use Prim.Native.Nat.{_+_, _<_};
 ghost use lib.ListN.{replicate};
+ghost use Rattle.model.specs.Limits.{maxJoins};
 ghost use Rattle.model.specs.Behind.{depthWins};
 ghost use Rattle.blocks.specs.Loaded.{Loaded, IsBlock};
-ghost use Rattle.levels.specs.Levels.{betterLevel, tableSize};
+ghost use Rattle.levels.specs.Levels.{betterLevel, tableSize, levelAt};
 ghost use Rattle.levels.specs.Tables.{Levels, Fresh, Changed, putLevel, HasPairs, usedJoins, MayLift, linksPut, usesLift, useLift, joinLift, pairLift};
 
 // A level for each two joins of a block, and of all blocks.
@@ -48,6 +49,14 @@ fn better(a: u8, b: u8) -> u8
         return b;
     }
     a
+}
+
+// The level from join i to join j of block k.
+pub fn level(m: &[u8], k: usize, i: usize, j: usize) -> u8
+    requires { ⌜ HasPairs (now m) k × (i < maxJoins) × (j < maxJoins) ⌝ }
+    ensures { λ n. ⌜ n ≡ levelAt (now (m .entry)) k i j ⌝ }
+{
+    m[PAIRS * k + JOINS * i + j]
 }
 
 // Puts in level n from cue a to cue b of block k, which has own own cues, if both are joins.
@@ -92,7 +101,7 @@ fn lift_pair(xs: &[u32], m: &mut [u8], k: usize, own: u32, r: usize, i: usize, j
     requires { ⌜ MayLift (now xs) (now m) k r × (i < usedJoins (now xs) r) × (j < usedJoins (now xs) r) ⌝ }
     ensures { λ _. ⌜ Changed k own (pairLift (now (xs .entry)) (now (m .entry)) r i j) (now (m .entry)) (now (m .exit)) ⌝ }
 {
-    let n = m[PAIRS * used(xs, r) + JOINS * i + j];
+    let n = level(m, used(xs, r), i, j);
     if 0 < n {
         put(m, k, own, column(xs, r, i), column(xs, r, j), n + 1);
     }

@@ -50,14 +50,14 @@ module _ (opening : ℕ → ℕ) where
   all-traced k z = own-traced k z ++ parts-traced z
 
   module _ (b : Block) (earlier : List Block) where
-    traced-hit : (k base : ℕ) (met : List ℕ) → eqb k (length earlier) ≡ true
+    pub traced-hit : (k base : ℕ) (met : List ℕ) → eqb k (length earlier) ≡ true
         → traced opening (b ∷ earlier) k base met
         ≡ rowsTraced (cueAt (b .own) base met) (suc (opening k)) (b .links)
         ++ usesTraced (total earlier) (traced opening earlier) (cueAt (b .own) base met) 1 (base + b .own) (b .uses)
     unfolding traced
     traced-hit k base met e = rw (e, traced)
 
-    traced-skip : (k base : ℕ) (met : List ℕ) → eqb k (length earlier) ≡ false
+    pub traced-skip : (k base : ℕ) (met : List ℕ) → eqb k (length earlier) ≡ false
         → traced opening (b ∷ earlier) k base met ≡ traced opening earlier k base met
     unfolding traced
     traced-skip k base met e = rw (e, traced)
