@@ -1,2 +1,3 @@
 -- Copies as the code holds them.
 pub mod Copies
+pub mod ByRows

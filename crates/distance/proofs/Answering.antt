@@ -28,8 +28,9 @@ use Rattle.blocks.specs.declared.Place.{Place}
 use Rattle.blocks.proofs.Loaded.{loaded-show}
 use Rattle.relax.specs.Edges.{numbers}
 use Rattle.distance.specs.Summaries.{HasSummaries}
-use Rattle.distance.specs.Copies.{stepOn, copyOn, TellsWhole, Common, Sunk}
-use Rattle.distance.proofs.Copies.{copy-suc, levels, here, here-sound, step-bounds, next-is, own-bounds, cue-is, cue-numbered, block-same, copy-same, parts-apart}
+use Rattle.copies.specs.ByRows.{stepOn, copyOn}
+use Rattle.distance.specs.Copies.{TellsWhole, Common, Sunk}
+use Rattle.copies.proofs.ByRows.{copy-suc, levels, here, here-sound, step-bounds, next-is, own-bounds, cue-is, cue-numbered, block-same, copy-same, parts-apart}
 
 take-short : (n : ℕ) (w : List ℕ) → length (take n w) ≤ length w
 take-short zero w = omega arith

@@ -4,7 +4,6 @@ pub mod Starts
 pub mod Settled
 pub mod Summaries
 pub mod Area
-pub mod Copies
 pub mod Telling
 pub mod Ways
 pub mod Answering

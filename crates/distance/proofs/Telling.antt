@@ -27,7 +27,7 @@ use Rattle.distance.specs.Starts.{AtJoins, passed}
 use Rattle.distance.specs.Summaries.{HasSummaries}
 use Rattle.distance.specs.Copies.{TellsInside, TellsWhole, keptAt, TellsJoins, Source, inner, here, FromKept}
 use Rattle.distance.proofs.Settled.{labels, spread-estimates}
-use Rattle.distance.proofs.Copies.{top-sound}
+use Rattle.copies.proofs.ByRows.{top-sound}
 
 module _ {xs t work : List ℕ} (r : HasSummaries xs t work) where
   abbrev bs : List Block

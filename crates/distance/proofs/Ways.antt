@@ -25,8 +25,9 @@ use Rattle.estimates.proofs.Starts.{started-same, started-merged}
 use Rattle.relax.specs.Edges.{BlockEdge, cueCount, SettledOver, Only, SpreadIn}
 use Rattle.distance.specs.Starts.{RowKept, JoinsKept}
 use Rattle.distance.specs.Summaries.{HasSummaries}
-use Rattle.distance.specs.Copies.{copyOn, TellsInside, TellsWhole, TellsJoins, KeptFrom, Risen, Source, Sunk, FromKept, FromAbove}
-use Rattle.distance.proofs.Copies.{block-suc, top-sound, Level, levels, here, part-on, is-part, part-use-is, next-is, own-bounds, cue-is, numbered-up, cue-numbered}
+use Rattle.copies.specs.ByRows.{copyOn}
+use Rattle.distance.specs.Copies.{TellsInside, TellsWhole, TellsJoins, KeptFrom, Risen, Source, Sunk, FromKept, FromAbove}
+use Rattle.copies.proofs.ByRows.{block-suc, top-sound, Level, levels, here, part-on, is-part, part-use-is, next-is, own-bounds, cue-is, numbered-up, cue-numbered}
 use Rattle.distance.proofs.Telling.{start-told, rise-told, sink-told, source-own, source-part}
 
 -- What was kept for a level stays as other levels are kept.

@@ -1,5 +1,4 @@
--- Copies by the rows of uses that lead to them, and what estimates tell of distances there. Level 0
--- is the show, and row l leads from level l to level l + 1.
+-- What estimates tell of distances in the copies that rows of uses lead to.
 use Prim.Native.Nat.{ℕ, zero, suc, _+_, _*_, _-_, _≤_, _<_}
 use mathlib.Core.Path.{_≡_}
 use mathlib.Core.Logic.{_≢_}
@@ -16,15 +15,8 @@ use Rattle.blocks.specs.Loaded.{usesBegin}
 use Rattle.blocks.specs.Places.{blockOn}
 use Rattle.blocks.specs.declared.Place.{Place}
 use Rattle.estimates.specs.Starts.{Beginnings, Cell}
+use Rattle.copies.specs.ByRows.{copyOn}
 use Rattle.distance.specs.Starts.{AtJoins, passed}
-
--- Which use of its block the row at level l is, from 1; and the copy at level l.
-abbrev pub stepOn : List ℕ → List ℕ → List ℕ → ℕ → ℕ
-stepOn xs t rows l = getD rows l 0 + 1 - usesBegin t (blockOn xs rows l)
-
-unfoldable pub copyOn : List ℕ → List ℕ → List ℕ → ℕ → Copy
-copyOn xs t rows zero = show-copy (blocksOf xs)
-copyOn xs t rows (suc l) = part-copy (copyOn xs t rows l) (part-at (copyOn xs t rows l) (stepOn xs t rows l))
 
 -- Estimates of copy y tell the distances from s inside the copy; in the whole show.
 abbrev pub TellsInside : Copy → ℕ → List ℕ → Type 0

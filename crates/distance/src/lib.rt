@@ -37,7 +37,8 @@ ghost use Rattle.estimates.specs.Starts.{Started, Merged, estimatesSize};
 ghost use Rattle.relax.specs.Edges.{cueCount, SpreadIn};
 ghost use Rattle.distance.specs.Starts.{JoinsAt, RowKept, JoinsKept};
 ghost use Rattle.distance.specs.Summaries.{partOf, RowsFilled, Below, PartFilled, HasSummaries};
-ghost use Rattle.distance.specs.Copies.{FromKept, FromAbove, copyOn, TellsWhole, keptSize, Risen, Source, Common, Sunk};
+ghost use Rattle.copies.specs.ByRows.{copyOn};
+ghost use Rattle.distance.specs.Copies.{FromKept, FromAbove, TellsWhole, keptSize, Risen, Source, Common, Sunk};
 
 // Estimates kept on the way up: eight for each level.
 const KEPT: usize = SUMMARY_WIDTH * MAX_BLOCKS as usize;

@@ -20,7 +20,8 @@ use Rattle.shows.specs.Copies.{Part, partsFrom, Copy, number, meets, copyOf, So
 use Rattle.shows.proofs.Ranges.{cueAt-join, partsFrom-use, part-use}
 use Rattle.shows.proofs.BlockAt.{ownOf-at, lower-at}
 use Rattle.shows.proofs.Locality.{number-apart, part-sound}
-use Rattle.shows.proofs.Choosing.{into, own-row, winner-none, winner-assoc, best-append, best-into, depth-step, level-first, level-second}
+use Rattle.shows.specs.Origins.{into, own-row}
+use Rattle.shows.proofs.Choosing.{winner-none, winner-assoc, best-append, best-into, depth-step, level-first, level-second}
 use Rattle.shows.proofs.Origins.{Joins, joins?, origins-hit, origins-skip, uses-next, copy-origins, part-unmet, own-origins, parts-origins, part-origins}
 use Rattle.levels.specs.Levels.{level, betterLevel, oneMore, originsIn, positionOf, levelAt, linkLevel, linksLevel, useLevel, usesLevel}
 use Rattle.levels.specs.Tables.{joinCue, Levels}

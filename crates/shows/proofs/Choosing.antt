@@ -12,6 +12,7 @@ use borrow.Author.Tests.{lt-ltb, le-ltb, ltb-true, ltb-false}
 use Rattle.model.specs.Choice.{ifLt, ifTrue}
 use Rattle.model.specs.Behind.{Origin, stepInto, depthWins, stepsWin, better, Behind, Stands, Missing, winner, best}
 use Rattle.basics.proofs.Choices.{true-then, true-else}
+use Rattle.shows.specs.Origins.{into, own-row}
 
 -- A test of two numbers that puts all numbers in order, and what a step does to them both.
 data Three (wins : ℕ → ℕ → Bool) (a b : ℕ) : Type 0 where
@@ -146,10 +147,6 @@ best-append [] ys = refl
 best-append (x ∷ xs) ys = ap (winner (Stands x)) (best-append xs ys) ∙ sym (winner-assoc (Stands x) (best xs) (best ys))
 
 -- A step in front of a path, and in front of all of some.
-unfoldable pub into : ℕ → Behind → Behind
-into p (Stands o) = Stands (stepInto p o)
-into p Missing = Missing
-
 better-step : (p : ℕ) (x y : Origin) → better (stepInto p x) (stepInto p y) ≡ better x y
 unfolding better stepInto stepsWin ifLt ifTrue
 better-step p x y =
@@ -190,9 +187,6 @@ into-second p q x y h =
     (lexed-first depths _ _ _ (depth-step (length (y .path)) (length (x .path)) ∙ h))
 
 -- And of a copy's own row and one below, the own row, unless the other's depth wins.
-abbrev pub own-row : ℕ → Behind
-own-row r = Stands (record { path = []; row = r })
-
 pub own-first : (p r : ℕ) (y : Origin) → depthWins (suc (length (y .path))) 0 ≡ false → winner (own-row r) (into p (Stands y)) ≡ own-row r
 unfolding into better stepInto
 own-first p r y h = win-first _ (stepInto p y) (worse (depths .three (suc (length (y .path))) 0))

@@ -19,7 +19,6 @@ use Rattle.shows.proofs.Ranges.{Within, inner, join, partsFrom-range, I
 use Rattle.shows.proofs.Locality.{part-own, not-inside, number-apart, part-total}
 use Rattle.shows.proofs.Trails.{part-at-part}
 use Rattle.shows.proofs.Tracing.{link-of, rows-links, own-traced, parts-traced, traced-at, traced-links}
-use Rattle.shows.proofs.Choosing.{into, own-row, own-rows, best-append, best-into}
 
 -- A link from s to t.
 abbrev pub Joins : ℕ → ℕ → Link → Type 0

@@ -5,3 +5,4 @@ pub mod Copies
 pub mod Numbering
 pub mod Lists
 pub mod Files
+pub mod Origins

@@ -8,7 +8,7 @@ use lib.ListN.{length}
 use Rattle.blocks.specs.Places.{Found}
 use Rattle.blocks.specs.declared.Place.{Place}
 use Rattle.distance.specs.Copies.{Risen}
-use Rattle.distance.proofs.Copies.{place-block, own-known, rows-to}
+use Rattle.copies.proofs.ByRows.{place-block, own-known, rows-to}
 use Rattle.distance.proofs.Ways.{risen-start, risen-on}
 use Rattle.distance.proofs.climb.Statement.{statement}
 use Rattle.distance.proofs.climb.Tie as tie

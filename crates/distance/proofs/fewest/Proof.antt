@@ -2,7 +2,7 @@
 use borrow.Author.Needs.{needs}
 use native.Mathlib.Omega.{arith}
 use mathlib.Core.Path.{refl}
-use Rattle.distance.proofs.Copies.{own-few}
+use Rattle.copies.proofs.ByRows.{own-few}
 use Rattle.distance.proofs.Answering.{hasSummaries, answered}
 use Rattle.distance.proofs.fewest.Statement.{statement}
 use Rattle.distance.proofs.fewest.Tie as tie

@@ -2,7 +2,7 @@
 use borrow.Author.Needs.{needs}
 use native.Mathlib.Omega.{arith}
 use Rattle.distance.proofs.Starts.{source-inner, source-here}
-use Rattle.distance.proofs.Copies.{rows-to, own-few}
+use Rattle.copies.proofs.ByRows.{rows-to, own-few}
 use Rattle.distance.proofs.put_source.Statement.{statement}
 use Rattle.distance.proofs.put_source.Tie as tie
 

@@ -5,7 +5,7 @@ use native.Mathlib.Omega.{arith}
 use mathlib.Core.Path.{_≡_}
 use lib.ListN.{length}
 use Rattle.distance.specs.Copies.{Sunk}
-use Rattle.distance.proofs.Copies.{rows-to}
+use Rattle.copies.proofs.ByRows.{rows-to}
 use Rattle.distance.proofs.Ways.{sunk-on}
 use Rattle.distance.proofs.sink_alone.Statement.{statement}
 use Rattle.distance.proofs.sink_alone.Tie as tie

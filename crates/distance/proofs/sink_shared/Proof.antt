@@ -5,8 +5,9 @@ use borrow.Author.Needs.{needs}
 use native.Mathlib.Omega.{arith}
 use mathlib.Core.Path.{_≡_}
 use lib.ListN.{length}
-use Rattle.distance.specs.Copies.{copyOn, TellsWhole}
-use Rattle.distance.proofs.Copies.{rows-to}
+use Rattle.copies.specs.ByRows.{copyOn}
+use Rattle.distance.specs.Copies.{TellsWhole}
+use Rattle.copies.proofs.ByRows.{rows-to}
 use Rattle.distance.proofs.Ways.{whole-first, shared-on}
 use Rattle.distance.proofs.sink_shared.Statement.{statement}
 use Rattle.distance.proofs.sink_shared.Tie as tie

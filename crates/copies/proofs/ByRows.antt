@@ -7,6 +7,7 @@ use mathlib.Core.Path.{_≡_, refl, sym, _∙_, ap}
 use mathlib.Core.List.{List, [], _∷_}
 use lib.ListN.{length, getD, take}
 use lib.Seq.{take-suc, take-length}
+use Rattle.model.specs.Limits.{maxOwn}
 use Rattle.model.specs.Blocks.{Use, Block, blockAt, ownOf, sumOver, total, lastBlock, blocksOf}
 use Rattle.shows.specs.Copies.{Part, Copy, number, meets, copyOf, Sound, IsPart, InCopy, part-copy, show-copy, nthUse, part-at, after, Steps, ends, goes}
 use Rattle.shows.proofs.Ranges.{part-use, cueAt-own}
@@ -19,8 +20,7 @@ use Rattle.blocks.specs.Places.{blockOn, UsesTo, Takes, Found}
 use Rattle.blocks.specs.declared.Place.{Place}
 use Rattle.blocks.proofs.Loaded.{usesFrom-length, usesFrom-at, loaded-show, use-rows, own-few as block-own-few}
 use Rattle.blocks.proofs.Places.{uses-fewer}
-use Rattle.estimates.specs.Starts.{estimatesSize}
-use Rattle.distance.specs.Copies.{stepOn, copyOn}
+use Rattle.copies.specs.ByRows.{stepOn, copyOn}
 
 -- Each step of a path is a use of the copy that it goes on from.
 steps-at : (z : Copy) (path : List ℕ) → Steps z path → (l : ℕ) → l < length path
@@ -178,7 +178,7 @@ module _ {xs t : List ℕ} (g : Loaded xs t) where
         ap (λ (z : Copy). z .block .own) (levels (q .depth) h .is) in
         rw (f .block, ownOf-at bs (blockOn xs rows (q .depth))) (omega (arith, own-bounds))
 
-    pub own-few : q .own < estimatesSize
+    pub own-few : q .own ≤ maxOwn
     own-few = omega (arith, own-known, block-own-few g (q .block) place-block)
 
     pub rows-to : (l : ℕ) → l ≤ q .depth → UsesTo xs rows l

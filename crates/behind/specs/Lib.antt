@@ -1,0 +1,3 @@
+-- What the contracts of this crate are stated with.
+pub mod Leads
+pub mod Ways
