@@ -16,6 +16,7 @@ pub mod Trails
 pub mod Tracing
 pub mod Choosing
 pub mod Origins
+pub mod TracedByPath
 -- files
 pub mod Lines
 pub mod FlatRows
