@@ -6,7 +6,7 @@ use mathlib.Core.Bool.{Bool, true, false}
 use mathlib.Core.List.{List, [], _∷_}
 use lib.ListN.{length, getD}
 use Rattle.model.specs.Verdicts.{refusal}
-use Rattle.model.specs.Answers.{Returned, given, returned, flag, ofRead, ofWrite, ofCount, ofLocate, ofNumber, ofList, ofFewest}
+use Rattle.model.specs.Answers.{Returned, given, returned, flag, ofRead, ofWrite, ofCount, ofLocate, ofNumber, ofList, ofRow, ofFewest}
 use Rattle.model.specs.declared.Refusal.{Refusal}
 use Rattle.model.specs.declared.ReadAnswer.{ReadAnswer}
 use Rattle.model.specs.declared.ReadAnswer.the-variants.{Read, Refused as Unread}
@@ -20,6 +20,8 @@ use Rattle.model.specs.declared.NumberAnswer.{NumberAnswer}
 use Rattle.model.specs.declared.NumberAnswer.the-variants.{Number, Refused as Unnumbered}
 use Rattle.model.specs.declared.ListAnswer.{ListAnswer}
 use Rattle.model.specs.declared.ListAnswer.the-variants.{Page, Refused as Unlisted}
+use Rattle.model.specs.declared.RowAnswer.{RowAnswer}
+use Rattle.model.specs.declared.RowAnswer.the-variants.{Row, Refused as Untraced}
 use Rattle.model.specs.declared.FewestAnswer.{FewestAnswer}
 use Rattle.model.specs.declared.FewestAnswer.the-variants.{Steps, None, Refused as Unsearched}
 
@@ -109,6 +111,19 @@ pub unlisted-is : (r : ListAnswer) (q : Refusal) → ofList r ≡ returned q →
 unfolding ofList
 unlisted-is (Page a b) q e = absurd (no-values _ q (omega arith) e)
 unlisted-is (Unlisted p) q e = ap Unlisted (same-refusal p q e)
+
+pub row-is : (r : RowAnswer) (row depth : ℕ) → ofRow r ≡ given (row ∷ depth ∷ []) → r ≡ Row row depth
+unfolding ofRow
+row-is (Row a b) row depth e =
+    let p : a ≡ row = same-value _ _ e 0 in
+    let q : b ≡ depth = same-value _ _ e 1 in
+    cc
+row-is (Untraced p) row depth e = absurd (no-values _ p (omega arith) (sym e))
+
+pub untraced-is : (r : RowAnswer) (q : Refusal) → ofRow r ≡ returned q → r ≡ Untraced q
+unfolding ofRow
+untraced-is (Row a b) q e = absurd (no-values _ q (omega arith) e)
+untraced-is (Untraced p) q e = ap Untraced (same-refusal p q e)
 
 pub unsearched-is : (r : FewestAnswer) (q : Refusal) → ofFewest r ≡ returned q → r ≡ Unsearched q
 unfolding ofFewest

@@ -10,7 +10,7 @@ use lib.ListN.{length}
 use Rattle.model.specs.Rules.{isCue}
 use Rattle.model.specs.Blocks.{Block, count, blocksOf}
 use Rattle.model.specs.Verdicts.{refusal, verdict}
-use Rattle.model.specs.Answers.{Returned, given, returned, ofWrite, ofCount, ofLocate, ofNumber, ofList, ofFewest}
+use Rattle.model.specs.Answers.{Returned, given, returned, ofWrite, ofCount, ofLocate, ofNumber, ofList, ofRow, ofFewest}
 use Rattle.model.specs.Questions.{
   Outcome,
   outcome,
@@ -32,9 +32,13 @@ use Rattle.model.specs.Questions.{
   listIn,
   outAsked,
   inAsked,
+  rowFound,
+  rowIn,
+  rowAsked,
   fewestIn,
   fewestAsked,
 }
+use Rattle.model.specs.Behind.{Behind, Stands, Missing, behind}
 use Rattle.model.specs.declared.Verdict.{Verdict}
 use Rattle.model.specs.declared.Verdict.the-variants.{Accepted, Refused}
 use Rattle.model.specs.declared.WriteAnswer.{WriteAnswer}
@@ -42,9 +46,10 @@ use Rattle.model.specs.declared.CountAnswer.{CountAnswer}
 use Rattle.model.specs.declared.LocateAnswer.{LocateAnswer}
 use Rattle.model.specs.declared.NumberAnswer.{NumberAnswer}
 use Rattle.model.specs.declared.ListAnswer.{ListAnswer}
+use Rattle.model.specs.declared.RowAnswer.{RowAnswer}
 use Rattle.model.specs.declared.FewestAnswer.{FewestAnswer}
 use Rattle.basics.proofs.Choices.{lt-then, lt-else, eq-then, eq-else, true-then, true-else}
-use Rattle.demands.specs.Asking.{AsksWrite, AsksCount, AsksLocate, AsksNumber, AsksOut, AsksIn, AsksFewest}
+use Rattle.demands.specs.Asking.{AsksWrite, AsksCount, AsksLocate, AsksNumber, AsksOut, AsksIn, AsksRow, AsksFewest}
 use Rattle.demands.specs.Acceptance.{ChecksRows}
 use Rattle.demands.proofs.Acceptance.{checks-rows}
 
@@ -116,6 +121,18 @@ out-checks xs v n page after r e = outcome-checks xs page after (ofList r) _ e (
 pub in-checks : (xs : List ℕ) (v n : ℕ) (page after : List ℕ) (r : ListAnswer) → AsksIn xs v n page r after → ChecksRows xs (ofList r)
 unfolding inAsked
 in-checks xs v n page after r e = outcome-checks xs page after (ofList r) _ e (list-outside xs _ v n page)
+
+-- 14 is from 11 on too.
+row-outside : (b : Behind) (lent : List ℕ) → Outside (rowFound b lent .answer .number)
+unfolding rowFound answer refuse returned refusal
+row-outside (Stands o) lent = given-outside _
+row-outside Missing lent = inr (omega arith)
+
+pub row-checks : (xs : List ℕ) (s t : ℕ) (lent after : List ℕ) (r : RowAnswer) → AsksRow xs s t lent r after → ChecksRows xs (ofRow r)
+unfolding rowAsked rowIn
+row-checks xs s t lent after r e =
+    outcome-checks xs lent after (ofRow r) _ e
+    (room-outside _ lent _ (cue-outside (blocksOf xs) s lent _ (cue-outside (blocksOf xs) t lent _ (row-outside (behind xs s t) lent))))
 
 pub fewest-checks : (xs : List ℕ) (s t : ℕ) (work after : List ℕ) (r : FewestAnswer) → AsksFewest xs s t work r after → ChecksRows xs (ofFewest r)
 unfolding fewestAsked fewestIn answer

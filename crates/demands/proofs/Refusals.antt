@@ -1,5 +1,5 @@
 -- The questions that write a lent list refuse with 11 and 12 exactly where that is due, and a refusal leaves the list as it was. What a question
--- answers is one of four: the rows are unlawful, the list is too short, a cue is none of the show's, or there are values.
+-- answers is one of five: the rows are unlawful, the list is too short, a cue is none of the show's, there is a later refusal, or there are values.
 use Prim.Native.Nat.{ℕ, _≤_, _<_}
 use native.Mathlib.Omega.{arith}
 use native.Mathlib.Decide.{ℕ-discrete, decLt}
@@ -10,11 +10,12 @@ use mathlib.Core.List.{List}
 use lib.ListN.{length}
 use Rattle.model.specs.Rules.{isCue}
 use Rattle.model.specs.Blocks.{blocksOf, count}
+use Rattle.model.specs.Behind.{Behind, Stands, Missing, behind}
 use Rattle.model.specs.Chains.{Distance, Far, Unreachable}
 use Rattle.model.specs.Verdicts.{refusal, verdict}
-use Rattle.model.specs.Answers.{Returned, given, returned, ofLocate, ofList, ofFewest}
+use Rattle.model.specs.Answers.{Returned, given, returned, ofLocate, ofList, ofRow, ofFewest}
 use Rattle.model.specs.Questions.{Outcome, outcome, refuse, answer, onAccepted, withRoom, withCue}
-use Rattle.model.specs.Questions.{located, locateIn, locateAsked, listed, listIn, outAsked, inAsked, distanceValues, fewestIn, fewestAsked}
+use Rattle.model.specs.Questions.{located, locateIn, locateAsked, listed, listIn, outAsked, inAsked, rowFound, rowIn, rowAsked, distanceValues, fewestIn, fewestAsked}
 use Rattle.model.specs.declared.Refusal.{Refusal}
 use Rattle.model.specs.declared.Verdict.{Verdict}
 use Rattle.model.specs.declared.Verdict.the-variants.{Accepted, Refused}
@@ -22,15 +23,17 @@ use Rattle.model.specs.declared.LocateAnswer.{LocateAnswer}
 use Rattle.model.specs.declared.LocateAnswer.the-variants.{Refused as Unlocated}
 use Rattle.model.specs.declared.ListAnswer.{ListAnswer}
 use Rattle.model.specs.declared.ListAnswer.the-variants.{Refused as Unlisted}
+use Rattle.model.specs.declared.RowAnswer.{RowAnswer}
+use Rattle.model.specs.declared.RowAnswer.the-variants.{Refused as Untraced}
 use Rattle.model.specs.declared.FewestAnswer.{FewestAnswer}
 use Rattle.model.specs.declared.FewestAnswer.the-variants.{Refused as Unsearched}
 use Rattle.basics.proofs.Choices.{lt-then, lt-else, true-else}
-use Rattle.demands.specs.Asking.{AsksLocate, AsksOut, AsksIn, AsksFewest}
+use Rattle.demands.specs.Asking.{AsksLocate, AsksOut, AsksIn, AsksRow, AsksFewest}
 use Rattle.demands.specs.Acceptance.{Lawful}
-use Rattle.demands.specs.Refusals.{NoCue, LocateRefuses, ListRefuses, FewestRefuses}
+use Rattle.demands.specs.Refusals.{NoCue, LocateRefuses, ListRefuses, RowRefuses, FewestRefuses}
 use Rattle.demands.proofs.Stages.{numbers}
 use Rattle.demands.proofs.Acceptance.{accepted-exactly, refused-is}
-use Rattle.demands.proofs.Answers.{no-values, unlocated-is, unlisted-is, unsearched-is}
+use Rattle.demands.proofs.Answers.{no-values, unlocated-is, unlisted-is, untraced-is, unsearched-is}
 use Rattle.demands.proofs.Outcomes.{on-yes, has-room, has-cue}
 
 -- Whether a cue is one of the show's,
@@ -55,18 +58,27 @@ module _ (xs : List ℕ) (n : ℕ) (lent : List ℕ) (o : Outcome) where
       let b : count (blocksOf xs) < n → ⊥ = λ h. k (inr h) in
       has-cue (blocksOf xs) n lent o (omega arith) (omega arith)
 
--- What a question comes to, the rows and the room apart: something wrong with its cues and 12, or values.
+-- What a question comes to, the rows and the room apart: something wrong with its cues and 12, a refusal behind 12, or values.
 data Comes (lent : List ℕ) (wrong : Type 0) (o : Outcome) : Type 0 where
   refuses : wrong → o ≡ refuse (refusal 12 0) lent → Comes lent wrong o
+  refuses-later : (wrong → ⊥) → (q : Refusal) → 12 < q .number → o ≡ refuse q lent → Comes lent wrong o
   answers : (wrong → ⊥) → (vs after : List ℕ) → 1 ≤ length vs → o ≡ answer vs after → Comes lent wrong o
 
--- One cue; and one more.
-one-cue : (xs : List ℕ) (n : ℕ) (lent vs after : List ℕ) → 1 ≤ length vs → Comes lent (NoCue xs n) (withCue (blocksOf xs) n lent (answer vs after))
-one-cue xs n lent vs after h = go (cue-known xs n)
+-- One cue, and values or a later refusal; and one cue more.
+with-cue : (xs : List ℕ) (n : ℕ) (lent : List ℕ) (o : Outcome)
+    → ((NoCue xs n → ⊥) → withCue (blocksOf xs) n lent o ≡ o → Comes lent (NoCue xs n) (withCue (blocksOf xs) n lent o))
+    → Comes lent (NoCue xs n) (withCue (blocksOf xs) n lent o)
+with-cue xs n lent o f = go (cue-known xs n)
   where
-    go : Dec (NoCue xs n) → Comes lent (NoCue xs n) (withCue (blocksOf xs) n lent (answer vs after))
-    go (yes k) = refuses k (lacks-cue xs n lent _ k)
-    go (no k) = answers k vs after h (holds-cue xs n lent _ k)
+    go : Dec (NoCue xs n) → Comes lent (NoCue xs n) (withCue (blocksOf xs) n lent o)
+    go (yes k) = refuses k (lacks-cue xs n lent o k)
+    go (no k) = f k (holds-cue xs n lent o k)
+
+one-cue : (xs : List ℕ) (n : ℕ) (lent vs after : List ℕ) → 1 ≤ length vs → Comes lent (NoCue xs n) (withCue (blocksOf xs) n lent (answer vs after))
+one-cue xs n lent vs after h = with-cue xs n lent _ (λ k e. answers k vs after h e)
+
+cue-later : (xs : List ℕ) (n : ℕ) (lent : List ℕ) (q : Refusal) → 12 < q .number → Comes lent (NoCue xs n) (withCue (blocksOf xs) n lent (refuse q lent))
+cue-later xs n lent q h = with-cue xs n lent _ (λ k e. refuses-later k q h e)
 
 cue-more : (xs : List ℕ) (n : ℕ) (lent : List ℕ) (wrong : Type 0) (o : Outcome) → Comes lent wrong o
     → Comes lent (NoCue xs n ⊎ wrong) (withCue (blocksOf xs) n lent o)
@@ -75,6 +87,7 @@ cue-more xs n lent wrong o c = go (cue-known xs n) c
     go : Dec (NoCue xs n) → Comes lent wrong o → Comes lent (NoCue xs n ⊎ wrong) (withCue (blocksOf xs) n lent o)
     go (yes k) c = refuses (inl k) (lacks-cue xs n lent o k)
     go (no k) (refuses w e) = refuses (inr w) (holds-cue xs n lent o k ∙ e)
+    go (no k) (refuses-later w q h e) = refuses-later (⊎-elim k w) q h (holds-cue xs n lent o k ∙ e)
     go (no k) (answers w vs after h e) = answers (⊎-elim k w) vs after h (holds-cue xs n lent o k ∙ e)
 
 -- Refused rows are not lawful, and their number is neither 11 nor 12.
@@ -95,6 +108,7 @@ module _ (xs lent after : List ℕ) (need : ℕ) (wrong : Type 0) where
     unlawful : (Lawful xs → ⊥) → a .number ≤ 10 → after ≡ lent → Case a
     short : Lawful xs → length lent < need → a ≡ returned (refusal 11 0) → after ≡ lent → Case a
     uncued : Lawful xs → need ≤ length lent → wrong → a ≡ returned (refusal 12 0) → after ≡ lent → Case a
+    later : Lawful xs → need ≤ length lent → (wrong → ⊥) → (q : Refusal) → 12 < q .number → a ≡ returned q → after ≡ lent → Case a
     answered : Lawful xs → need ≤ length lent → (wrong → ⊥) → (vs : List ℕ) → 1 ≤ length vs → a ≡ given vs → Case a
 
   case-of : (a : Returned) (o : Outcome) → outcome a after ≡ onAccepted (verdict xs) (λ f. refuse f lent) (withRoom need lent o)
@@ -104,6 +118,7 @@ module _ (xs lent after : List ℕ) (need : ℕ) (wrong : Type 0) where
     where
       cue : Lawful xs → need ≤ length lent → outcome a after ≡ o → Comes lent wrong o → Case a
       cue l h e (refuses w p) = let (r, k) = said a after _ (e ∙ p) in uncued l h w r k
+      cue l h e (refuses-later w q m p) = let (r, k) = said a after _ (e ∙ p) in later l h w q m r k
       cue l h e (answers w vs z v p) = answered l h w vs v (said a after _ (e ∙ p) .0)
 
       room : Lawful xs → outcome a after ≡ withRoom need lent o → Dec (length lent < need) → Case a
@@ -142,30 +157,35 @@ module _ (xs lent after : List ℕ) (need : ℕ) (wrong : Type 0) where
       room n (unlawful l m k) = absurd (omega arith)
       room n (short l h s k) = (l, h)
       room n (uncued l h w s k) = absurd (omega (arith, number-is s))
+      room n (later l h w q m s k) = absurd (omega (arith, number-is s))
       room n (answered l h w vs v s) = absurd (omega (arith, number-is s))
 
       cue : of r .number ≡ 12 → Case (of r) → Lawful xs × (need ≤ length lent) × wrong
       cue n (unlawful l m k) = absurd (omega arith)
       cue n (short l h s k) = absurd (omega (arith, number-is s))
       cue n (uncued l h w s k) = (l, h, w)
+      cue n (later l h w q m s k) = absurd (omega (arith, number-is s))
       cue n (answered l h w vs v s) = absurd (omega (arith, number-is s))
 
       no-room : Lawful xs → length lent < need → Case (of r) → of r ≡ returned (refusal 11 0)
       no-room l h (unlawful n m k) = absurd (n l)
       no-room l h (short m k s z) = s
       no-room l h (uncued m k w s z) = absurd (omega arith)
+      no-room l h (later m k w q n s z) = absurd (omega arith)
       no-room l h (answered m k w vs v s) = absurd (omega arith)
 
       no-cue : Lawful xs → need ≤ length lent → wrong → Case (of r) → of r ≡ returned (refusal 12 0)
       no-cue l h w (unlawful n m k) = absurd (n l)
       no-cue l h w (short m k s z) = absurd (omega arith)
       no-cue l h w (uncued m k u s z) = s
+      no-cue l h w (later m k u q n s z) = absurd (u w)
       no-cue l h w (answered m k u vs v s) = absurd (u w)
 
       kept : (q : Refusal) → of r ≡ returned q → Case (of r) → after ≡ lent
       kept q s (unlawful l n k) = k
       kept q s (short l h t k) = k
       kept q s (uncued l h w t k) = k
+      kept q s (later l h w p m t k) = k
       kept q s (answered l h w vs v t) = absurd (no-values vs q v (sym t ∙ s))
 
 -- Locate: 127 places, and one cue.
@@ -195,6 +215,19 @@ out-refuses xs v n page after r e = list-refuses xs _ v n page after r e
 pub in-refuses : (xs : List ℕ) (v n : ℕ) (page after : List ℕ) (r : ListAnswer) → AsksIn xs v n page r after → ListRefuses xs v page r after
 unfolding inAsked
 in-refuses xs v n page after r e = list-refuses xs _ v n page after r e
+
+-- Row: 127 places, and two cues; 14 is a later refusal.
+row-comes : (xs : List ℕ) (t : ℕ) (lent : List ℕ) (b : Behind) → Comes lent (NoCue xs t) (withCue (blocksOf xs) t lent (rowFound b lent))
+unfolding rowFound refusal
+row-comes xs t lent (Stands o) = one-cue xs t lent _ _ (omega arith)
+row-comes xs t lent Missing = cue-later xs t lent _ (omega arith)
+
+pub row-refuses : (xs : List ℕ) (s t : ℕ) (lent after : List ℕ) (r : RowAnswer) → AsksRow xs s t lent r after → RowRefuses xs s t lent r after
+unfolding ofRow rowAsked rowIn
+row-refuses xs s t lent after r e =
+    let c = cue-more xs s lent _ _ (row-comes xs t lent (behind xs s t)) in
+    let k = asked xs lent after 127 _ ofRow Untraced (λ q. refl) r (untraced-is r) _ e c in
+    record { no-room = k .no-room; no-cue = k .no-cue; unchanged = k .unchanged }
 
 -- Fewest: 16,384 places, and two cues.
 distance-told : (d : Distance) → 1 ≤ length (distanceValues d)

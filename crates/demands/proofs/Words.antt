@@ -9,7 +9,7 @@ use Rattle.model.specs.Text.{names, ends}
 use Rattle.model.specs.Rows.{Row, cell, rowAt, rowsFrom, rowCount, rowsOf}
 use Rattle.model.specs.Blocks.{lastBlock}
 use Rattle.model.specs.Verdicts.{refusal}
-use Rattle.model.specs.Answers.{returned, given, flag, ofRead, ofWrite, ofCount, ofLocate, ofNumber, ofList, ofFewest}
+use Rattle.model.specs.Answers.{returned, given, flag, ofRead, ofWrite, ofCount, ofLocate, ofNumber, ofList, ofRow, ofFewest}
 use Rattle.basics.proofs.Members.{range-length, range-at}
 use Rattle.basics.specs.Members.{Each}
 use Rattle.basics.specs.Values.{Digit, shown, SpellsValue}
@@ -126,7 +126,7 @@ unfolding lastBlock
 lists = record { range-many = range-length; range-are = range-at; last = λ b earlier. omega arith }
 
 answers : AnswerWords
-unfolding refusal returned given flag ofRead ofWrite ofCount ofLocate ofNumber ofList ofFewest
+unfolding refusal returned given flag ofRead ofWrite ofCount ofLocate ofNumber ofList ofRow ofFewest
 answers =
     record {
       refusal-is = λ n p. (refl, refl);
@@ -144,6 +144,8 @@ answers =
       page = λ written. (refl, refl, refl);
       page-more = λ written. (refl, refl, refl);
       unlisted = λ q. refl;
+      row-behind = λ row depth. (refl, refl, refl);
+      untraced = λ q. refl;
       steps = λ n. (refl, refl, refl);
       no-chain = (refl, refl, refl);
       unsearched = λ q. refl;

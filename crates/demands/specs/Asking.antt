@@ -3,14 +3,15 @@
 use Prim.Native.Nat.{ℕ}
 use mathlib.Core.Path.{_≡_}
 use mathlib.Core.List.{List}
-use Rattle.model.specs.Answers.{ofRead, ofWrite, ofCount, ofLocate, ofNumber, ofList, ofFewest}
-use Rattle.model.specs.Questions.{outcome, readAsked, writeAsked, countAsked, locateAsked, numberAsked, outAsked, inAsked, fewestAsked}
+use Rattle.model.specs.Answers.{ofRead, ofWrite, ofCount, ofLocate, ofNumber, ofList, ofRow, ofFewest}
+use Rattle.model.specs.Questions.{outcome, readAsked, writeAsked, countAsked, locateAsked, numberAsked, outAsked, inAsked, rowAsked, fewestAsked}
 use Rattle.model.specs.declared.ReadAnswer.{ReadAnswer}
 use Rattle.model.specs.declared.WriteAnswer.{WriteAnswer}
 use Rattle.model.specs.declared.CountAnswer.{CountAnswer}
 use Rattle.model.specs.declared.LocateAnswer.{LocateAnswer}
 use Rattle.model.specs.declared.NumberAnswer.{NumberAnswer}
 use Rattle.model.specs.declared.ListAnswer.{ListAnswer}
+use Rattle.model.specs.declared.RowAnswer.{RowAnswer}
 use Rattle.model.specs.declared.FewestAnswer.{FewestAnswer}
 
 -- read: a file, and the lent output before and afterwards; write: rows, and the same.
@@ -37,6 +38,10 @@ AsksOut xs v n page r after = outcome (ofList r) after ≡ outAsked xs v n page
 
 abbrev pub AsksIn : List ℕ → ℕ → ℕ → List ℕ → ListAnswer → List ℕ → Type 0
 AsksIn xs v n page r after = outcome (ofList r) after ≡ inAsked xs v n page
+
+-- row: rows, two cues, and the lent list before and afterwards.
+abbrev pub AsksRow : List ℕ → ℕ → ℕ → List ℕ → RowAnswer → List ℕ → Type 0
+AsksRow xs s t lent r after = outcome (ofRow r) after ≡ rowAsked xs s t lent
 
 -- fewest: rows, two cues, and the work area before and afterwards.
 abbrev pub AsksFewest : List ℕ → ℕ → ℕ → List ℕ → FewestAnswer → List ℕ → Type 0

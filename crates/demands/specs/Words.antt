@@ -12,7 +12,7 @@ use Rattle.model.specs.Rows.{rowCount, rowsOf}
 use Rattle.model.specs.Blocks.{Block, lastBlock}
 use Rattle.model.specs.Verdicts.{refusal}
 use Rattle.model.specs.Lists.{range}
-use Rattle.model.specs.Answers.{Returned, returned, ofRead, ofWrite, ofCount, ofLocate, ofNumber, ofList, ofFewest}
+use Rattle.model.specs.Answers.{Returned, returned, ofRead, ofWrite, ofCount, ofLocate, ofNumber, ofList, ofRow, ofFewest}
 use Rattle.model.specs.declared.Refusal.{Refusal}
 use Rattle.model.specs.declared.ReadAnswer.the-variants.{Read, Refused as Unread}
 use Rattle.model.specs.declared.WriteAnswer.the-variants.{Written, Refused as Unwritten}
@@ -20,6 +20,7 @@ use Rattle.model.specs.declared.CountAnswer.the-variants.{Cues, Refused as Unco
 use Rattle.model.specs.declared.LocateAnswer.the-variants.{Found, Refused as Unlocated}
 use Rattle.model.specs.declared.NumberAnswer.the-variants.{Number, Refused as Unnumbered}
 use Rattle.model.specs.declared.ListAnswer.the-variants.{Page, Refused as Unlisted}
+use Rattle.model.specs.declared.RowAnswer.the-variants.{Row, Refused as Untraced}
 use Rattle.model.specs.declared.FewestAnswer.the-variants.{Steps, None, Refused as Unsearched}
 use Rattle.basics.specs.Members.{Each}
 use Rattle.basics.specs.Values.{SpellsValue}
@@ -104,6 +105,8 @@ pub record AnswerWords : Type 0 where
   pub page : (written : ℕ) → IsReturned (ofList (Page written false)) 0 0 (written ∷ 0 ∷ [])
   pub page-more : (written : ℕ) → IsReturned (ofList (Page written true)) 0 0 (written ∷ 1 ∷ [])
   pub unlisted : (q : Refusal) → ofList (Unlisted q) ≡ returned q
+  pub row-behind : (row depth : ℕ) → IsReturned (ofRow (Row row depth)) 0 0 (row ∷ depth ∷ [])
+  pub untraced : (q : Refusal) → ofRow (Untraced q) ≡ returned q
   pub steps : (n : ℕ) → IsReturned (ofFewest (Steps n)) 0 0 (1 ∷ n ∷ [])
   pub no-chain : IsReturned (ofFewest None) 0 0 (0 ∷ 0 ∷ [])
   pub unsearched : (q : Refusal) → ofFewest (Unsearched q) ≡ returned q
