@@ -18,6 +18,7 @@ pub mod BlockByBlock
 pub mod Together
 pub mod Acceptance
 pub mod Blocks
+pub mod LinkRows
 pub mod Checking
 pub mod Refusals
 pub mod Words

@@ -31,11 +31,11 @@ block-beyond [] k h = refl
 block-beyond (b ∷ earlier) k h = block-skip b earlier k (λ e. omega arith) ∙ block-beyond earlier k (omega arith)
 
 -- One thing if a row is of kind n and of block k, else another.
-abbrev picked : {A : Type 0} → Row → ℕ → ℕ → A → A → A
+abbrev pub picked : {A : Type 0} → Row → ℕ → ℕ → A → A → A
 picked w n k x y = ifEq (w .kind) n (ifEq (w .block) k x y) y
 
 module _ {A : Type 0} (w : Row) (n k : ℕ) (x y : A) where
-  this-row : w .kind ≡ n → w .block ≡ k → picked w n k x y ≡ x
+  pub this-row : w .kind ≡ n → w .block ≡ k → picked w n k x y ≡ x
   this-row e h = eq-then (w .kind) n _ _ e ∙ eq-then (w .block) k _ _ h
 
   other-kind : w .kind ≢ n → picked w n k x y ≡ y
@@ -46,6 +46,13 @@ module _ {A : Type 0} (w : Row) (n k : ℕ) (x y : A) where
     where
       go : Dec (w .kind ≡ n) → picked w n k x y ≡ y
       go (yes e) = eq-then (w .kind) n _ _ e ∙ eq-else (w .block) k _ _ m
+      go (no z) = other-kind z
+
+  pub not-this : ((w .kind ≡ n) × (w .block ≡ k) → ⊥) → picked w n k x y ≡ y
+  not-this m = go (ℕ-discrete (w .kind) n)
+    where
+      go : Dec (w .kind ≡ n) → picked w n k x y ≡ y
+      go (yes e) = other-block (λ h. m (e, h))
       go (no z) = other-kind z
 
 -- A part of the blocks: what a block has of it, the kind of its rows, what each of them gives, and what block k has of it among some rows.
