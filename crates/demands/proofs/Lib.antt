@@ -44,3 +44,5 @@ pub mod Numbers
 pub mod Rising
 pub mod Pages
 pub mod Lists
+-- the row behind a follow-on
+pub mod Winning

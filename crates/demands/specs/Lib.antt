@@ -10,3 +10,4 @@ pub mod Refusals
 pub mod Replacement
 pub mod Numbers
 pub mod Lists
+pub mod RowBehind
