@@ -46,3 +46,4 @@ pub mod Pages
 pub mod Lists
 -- the row behind a follow-on
 pub mod Winning
+pub mod RowBehind

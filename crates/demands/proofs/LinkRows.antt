@@ -18,7 +18,7 @@ use Rattle.demands.specs.Acceptance.{nthRow, IsRow, column, Opens, Links
 use Rattle.demands.specs.Blocks.{linksIn}
 use Rattle.demands.proofs.Openings.{OpenedBefore, Comes, opening, link, later-use, from-place, opened-next}
 use Rattle.demands.proofs.Stages.{by-rows}
-use Rattle.demands.proofs.PartsOfRows.{picked, this-row, not-this}
+use Rattle.demands.proofs.PartsOfRows.{picked, both-then, both-else}
 
 -- The link of a link row.
 abbrev pub rowLink : Row → Link
@@ -52,11 +52,11 @@ module _ (xs : List ℕ) (place : (q : ℕ) → IsRow xs q → InPlace xs q) (f 
 
   run-this : (j p : ℕ) (w : Row) (ws : List Row) → LinkOf j w → Run j (suc p) ws (suc p) → Run j p (w ∷ ws) p
   unfolding linkRows linksIn rowsTraced
-  run-this j p w ws (k, b) h = rw (this-row w 1 j (trace [] p (renamed f (rowLink w)) ∷ linkRows j (suc p) ws) _ k b, this-row w 1 j (rowLink w ∷ linksIn j ws) _ k b) (ap (λ (E : List Traced). trace [] p (renamed f (rowLink w)) ∷ E) h)
+  run-this j p w ws (k, b) h = rw (both-then (w .kind) 1 (w .block) j (trace [] p (renamed f (rowLink w)) ∷ linkRows j (suc p) ws) _ k b, both-then (w .kind) 1 (w .block) j (rowLink w ∷ linksIn j ws) _ k b) (ap (λ (E : List Traced). trace [] p (renamed f (rowLink w)) ∷ E) h)
 
   run-other : (j p : ℕ) (w : Row) (ws : List Row) (r : ℕ) → (LinkOf j w → ⊥) → Run j (suc p) ws r → Run j p (w ∷ ws) r
   unfolding linkRows linksIn
-  run-other j p w ws r n h = not-this w 1 j _ _ n ∙ h ∙ ap (rowsTraced f r) (sym (not-this w 1 j _ _ n))
+  run-other j p w ws r n h = both-else (w .kind) 1 (w .block) j _ _ n ∙ h ∙ ap (rowsTraced f r) (sym (both-else (w .kind) 1 (w .block) j _ _ n))
 
   -- The rows from row p on, where k blocks are opened before it: those of a block that is over; of the last opened; and of one that is still to open.
   record From (p : ℕ) (ws : List Row) : Type 0 where
@@ -153,9 +153,9 @@ module _ (xs : List ℕ) (place : (q : ℕ) → IsRow xs q → InPlace xs q) (f 
         here (k, b) (inr n) = below n
 
         go : Dec (nthRow xs p .kind ≡ 1) → Dec (nthRow xs p .block ≡ j) → IsLinkRow
-        go (yes k) (yes b) = here (k, b) (List·Memᴰ·cases-cons (rw (this-row w 1 j _ (linkRows j (suc p) ws) k b) at m))
-        go (yes k) (no b) = below (rw (not-this w 1 j _ (linkRows j (suc p) ws) (λ h. b (h .1))) at m)
-        go (no k) d = below (rw (not-this w 1 j _ (linkRows j (suc p) ws) (λ h. k (h .0))) at m)
+        go (yes k) (yes b) = here (k, b) (List·Memᴰ·cases-cons (rw (both-then (w .kind) 1 (w .block) j _ (linkRows j (suc p) ws) k b) at m))
+        go (yes k) (no b) = below (rw (both-else (w .kind) 1 (w .block) j _ (linkRows j (suc p) ws) (λ h. b (h .1))) at m)
+        go (no k) d = below (rw (both-else (w .kind) 1 (w .block) j _ (linkRows j (suc p) ws) (λ h. k (h .0))) at m)
 
     none-found : (p : ℕ) → Found p []
     unfolding linkRows
@@ -173,13 +173,13 @@ module _ (xs : List ℕ) (place : (q : ℕ) → IsRow xs q → InPlace xs q) (f 
         w = nthRow xs p
 
         skip : p < r → Dec (nthRow xs p .kind ≡ 1) → Dec (nthRow xs p .block ≡ j) → List·Memᴰ (trace [] r l) (linkRows j p (nthRow xs p ∷ ws))
-        skip a (yes q) (yes b) = rw (this-row w 1 j _ (linkRows j (suc p) ws) q b) (List·Memᴰ·tail (below a k))
-        skip a (yes q) (no b) = rw (not-this w 1 j _ (linkRows j (suc p) ws) (λ h. b (h .1))) (below a k)
-        skip a (no q) d = rw (not-this w 1 j _ (linkRows j (suc p) ws) (λ h. q (h .0))) (below a k)
+        skip a (yes q) (yes b) = rw (both-then (w .kind) 1 (w .block) j _ (linkRows j (suc p) ws) q b) (List·Memᴰ·tail (below a k))
+        skip a (yes q) (no b) = rw (both-else (w .kind) 1 (w .block) j _ (linkRows j (suc p) ws) (λ h. b (h .1))) (below a k)
+        skip a (no q) d = rw (both-else (w .kind) 1 (w .block) j _ (linkRows j (suc p) ws) (λ h. q (h .0))) (below a k)
 
         go : Dec (r ≡ p) → List·Memᴰ (trace [] r l) (linkRows j p (nthRow xs p ∷ ws))
         go (yes z) =
-            rw (this-row w 1 j _ (linkRows j (suc p) ws) (rw z at (k .links)) (rw z at (k .block)))
+            rw (both-then (w .kind) 1 (w .block) j _ (linkRows j (suc p) ws) (rw z at (k .links)) (rw z at (k .block)))
             (List·Memᴰ·head (ap₂ (trace []) z (k .link ∙ ap (λ (n : ℕ). renamed f (rowLink (nthRow xs n))) z)))
         go (no z) = skip (omega arith) (ℕ-discrete (nthRow xs p .kind) 1) (ℕ-discrete (nthRow xs p .block) j)
 

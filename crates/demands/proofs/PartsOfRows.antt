@@ -30,30 +30,31 @@ unfolding blockAt
 block-beyond [] k h = refl
 block-beyond (b ∷ earlier) k h = block-skip b earlier k (λ e. omega arith) ∙ block-beyond earlier k (omega arith)
 
--- One thing if a row is of kind n and of block k, else another.
+-- One thing if two numbers are what they should be, else another.
+module _ {A : Type 0} (a m b n : ℕ) (x y : A) where
+  pub both-then : a ≡ m → b ≡ n → ifEq a m (ifEq b n x y) y ≡ x
+  both-then e h = eq-then a m _ _ e ∙ eq-then b n _ _ h
+
+  pub both-else : ((a ≡ m) × (b ≡ n) → ⊥) → ifEq a m (ifEq b n x y) y ≡ y
+  both-else z = go (ℕ-discrete a m)
+    where
+      go : Dec (a ≡ m) → ifEq a m (ifEq b n x y) y ≡ y
+      go (yes e) = eq-then a m _ _ e ∙ eq-else b n _ _ (λ h. z (e, h))
+      go (no k) = eq-else a m _ _ k
+
+-- A row is of kind n and of block k.
 abbrev pub picked : {A : Type 0} → Row → ℕ → ℕ → A → A → A
 picked w n k x y = ifEq (w .kind) n (ifEq (w .block) k x y) y
 
 module _ {A : Type 0} (w : Row) (n k : ℕ) (x y : A) where
-  pub this-row : w .kind ≡ n → w .block ≡ k → picked w n k x y ≡ x
-  this-row e h = eq-then (w .kind) n _ _ e ∙ eq-then (w .block) k _ _ h
+  this-row : w .kind ≡ n → w .block ≡ k → picked w n k x y ≡ x
+  this-row e h = both-then (w .kind) n (w .block) k x y e h
 
   other-kind : w .kind ≢ n → picked w n k x y ≡ y
-  other-kind m = eq-else (w .kind) n _ _ m
+  other-kind m = both-else (w .kind) n (w .block) k x y (λ h. m (h .0))
 
   other-block : w .block ≢ k → picked w n k x y ≡ y
-  other-block m = go (ℕ-discrete (w .kind) n)
-    where
-      go : Dec (w .kind ≡ n) → picked w n k x y ≡ y
-      go (yes e) = eq-then (w .kind) n _ _ e ∙ eq-else (w .block) k _ _ m
-      go (no z) = other-kind z
-
-  pub not-this : ((w .kind ≡ n) × (w .block ≡ k) → ⊥) → picked w n k x y ≡ y
-  not-this m = go (ℕ-discrete (w .kind) n)
-    where
-      go : Dec (w .kind ≡ n) → picked w n k x y ≡ y
-      go (yes e) = other-block (λ h. m (e, h))
-      go (no z) = other-kind z
+  other-block m = both-else (w .kind) n (w .block) k x y (λ h. m (h .1))
 
 -- A part of the blocks: what a block has of it, the kind of its rows, what each of them gives, and what block k has of it among some rows.
 pub record Part (A : Type 0) : Type 0 where
