@@ -24,8 +24,8 @@ use Rattle.demands.proofs.Acceptance.{accepted-exactly}
 use Rattle.demands.proofs.Words.{words}
 use Rattle.demands.proofs.Ring.{ring-accepted}
 use Rattle.demands.proofs.Blocks.{are-blocks}
-use Rattle.demands.proofs.Refusals.{locate-refuses, out-refuses, in-refuses, fewest-refuses}
-use Rattle.demands.proofs.Checking.{write-checks, count-checks, locate-checks, number-checks, out-checks, in-checks, fewest-checks}
+use Rattle.demands.proofs.Refusals.{locate-refuses, out-refuses, in-refuses, row-refuses, fewest-refuses}
+use Rattle.demands.proofs.Checking.{write-checks, count-checks, locate-checks, number-checks, out-checks, in-checks, row-checks, fewest-checks}
 use Rattle.demands.proofs.Reading.{is-read}
 use Rattle.demands.proofs.Writing.{is-written}
 use Rattle.demands.proofs.Padding.{padded-file}
@@ -33,6 +33,7 @@ use Rattle.demands.proofs.RoundTrips.{writes-back, reads-back, reads-again}
 use Rattle.demands.proofs.Replacement.{unfolds}
 use Rattle.demands.proofs.Numbers.{is-count, is-number, is-located}
 use Rattle.demands.proofs.Lists.{list-out, list-in, pages-out, pages-in}
+use Rattle.demands.proofs.RowBehind.{is-row-behind}
 use Rattle.show.specs.Demand.{RightAgainstUnfolding, Demand2, unfolded, IsFewest}
 use Rattle.answers.proofs.Outcomes.{on-yes, has-room, has-cue, cue-test}
 
@@ -49,6 +50,7 @@ right xs v =
       lists-in = λ w n page after r. list-in xs w n page after r v;
       pages-out = λ w n many cues more. pages-out xs w n many cues more v;
       pages-in = λ w n many cues more. pages-in xs w n many cues more v;
+      rows-behind = λ s t lent after r low high low′ high′ room. is-row-behind xs v s t lent after r room low high low′ high′;
     }
 
 pub demand-2 : Demand2
@@ -65,9 +67,10 @@ demand-2 =
             checks-number = number-checks;
             checks-out = out-checks;
             checks-in = in-checks;
+            checks-row = row-checks;
             checks-fewest = fewest-checks;
           };
-      refusals = record { locate = locate-refuses; list-out = out-refuses; list-in = in-refuses; fewest = fewest-refuses };
+      refusals = record { locate = locate-refuses; list-out = out-refuses; list-in = in-refuses; row = row-refuses; fewest = fewest-refuses };
       a-show = accepted-exactly ring .0 ring-accepted;
       a-padded-file = padded-file;
       round-trips =

@@ -10,7 +10,7 @@ use Rattle.model.specs.Limits.{rowSize, maxDepth}
 use Rattle.model.specs.Blocks.{Link, blocksOf, count}
 use Rattle.model.specs.Unfolding.{showLinks}
 use Rattle.model.specs.Chains.{Chain, followed}
-use Rattle.model.specs.Answers.{ofWrite, ofCount, ofLocate, ofNumber, ofList, ofFewest}
+use Rattle.model.specs.Answers.{ofWrite, ofCount, ofLocate, ofNumber, ofList, ofRow, ofFewest}
 use Rattle.model.specs.Ring.{ring, opening, paddedFile}
 use Rattle.model.specs.declared.ReadAnswer.{ReadAnswer}
 use Rattle.model.specs.declared.ReadAnswer.the-variants.{Read}
@@ -20,20 +20,22 @@ use Rattle.model.specs.declared.CountAnswer.{CountAnswer}
 use Rattle.model.specs.declared.LocateAnswer.{LocateAnswer}
 use Rattle.model.specs.declared.NumberAnswer.{NumberAnswer}
 use Rattle.model.specs.declared.ListAnswer.{ListAnswer}
+use Rattle.model.specs.declared.RowAnswer.{RowAnswer}
 use Rattle.model.specs.declared.FewestAnswer.{FewestAnswer}
 use Rattle.model.specs.declared.FewestAnswer.the-variants.{Steps, None}
 use Rattle.distances.specs.Demand.{NoChain}
-use Rattle.demands.specs.Asking.{AsksRead, AsksWrite, AsksCount, AsksLocate, AsksNumber, AsksOut, AsksIn, AsksFewest}
+use Rattle.demands.specs.Asking.{AsksRead, AsksWrite, AsksCount, AsksLocate, AsksNumber, AsksOut, AsksIn, AsksRow, AsksFewest}
 use Rattle.demands.specs.Acceptance.{Lawful, ChecksRows}
 use Rattle.demands.specs.Words.{Words}
 use Rattle.demands.specs.Blocks.{AreBlocks}
-use Rattle.demands.specs.Refusals.{LocateRefuses, ListRefuses, FewestRefuses}
+use Rattle.demands.specs.Refusals.{LocateRefuses, ListRefuses, RowRefuses, FewestRefuses}
 use Rattle.shows.specs.Files.{SpellsFile}
 use Rattle.demands.specs.Files.{IsRead, IsWritten, Unpadded}
 use Rattle.demands.specs.RoundTrips.{WritesBack, ReadsBack, ReadsAgain}
 use Rattle.demands.specs.Replacement.{Unfolds}
 use Rattle.demands.specs.Numbers.{IsCount, IsLocated, IsNumber}
 use Rattle.demands.specs.Lists.{LinkedOut, LinkedIn, IsList, Pages, ArePages}
+use Rattle.demands.specs.RowBehind.{IsRowBehind}
 
 -- Demand 2.
 
@@ -48,13 +50,16 @@ pub record AcceptanceExact : Type 0 where
   pub checks-number : (xs path : List ℕ) (c : ℕ) (r : NumberAnswer) → AsksNumber xs path c r → ChecksRows xs (ofNumber r)
   pub checks-out : (xs : List ℕ) (v n : ℕ) (page after : List ℕ) (r : ListAnswer) → AsksOut xs v n page r after → ChecksRows xs (ofList r)
   pub checks-in : (xs : List ℕ) (v n : ℕ) (page after : List ℕ) (r : ListAnswer) → AsksIn xs v n page r after → ChecksRows xs (ofList r)
+  pub checks-row : (xs : List ℕ) (s t : ℕ) (lent after : List ℕ) (r : RowAnswer) → AsksRow xs s t lent r after → ChecksRows xs (ofRow r)
   pub checks-fewest : (xs : List ℕ) (s t : ℕ) (work after : List ℕ) (r : FewestAnswer) → AsksFewest xs s t work r after → ChecksRows xs (ofFewest r)
 
--- So are refusals 11 and 12, and a refusal leaves the lent list as it was. (For read and write that stands above; 13, which number alone gives, is in `IsNumber`.)
+-- So are refusals 11 and 12, and a refusal leaves the lent list as it was. (For read and write that stands above; 13, which number alone gives, is in `IsNumber`,
+-- and 14, which row alone gives, in `IsRowBehind`.)
 pub record RefusalsExact : Type 0 where
   pub locate : (xs : List ℕ) (n : ℕ) (lent after : List ℕ) (r : LocateAnswer) → AsksLocate xs n lent r after → LocateRefuses xs n lent r after
   pub list-out : (xs : List ℕ) (v n : ℕ) (page after : List ℕ) (r : ListAnswer) → AsksOut xs v n page r after → ListRefuses xs v page r after
   pub list-in : (xs : List ℕ) (v n : ℕ) (page after : List ℕ) (r : ListAnswer) → AsksIn xs v n page r after → ListRefuses xs v page r after
+  pub row : (xs : List ℕ) (s t : ℕ) (lent after : List ℕ) (r : RowAnswer) → AsksRow xs s t lent r after → RowRefuses xs s t lent r after
   pub fewest : (xs : List ℕ) (s t : ℕ) (work after : List ℕ) (r : FewestAnswer) → AsksFewest xs s t work r after → FewestRefuses xs s t work r after
 
 -- Round trips are exact, of what the buffers hold: read, then write what was left; write, then read what was left; and read, write and read again
@@ -71,8 +76,8 @@ pub record RoundTripsExact : Type 0 where
       → (r : ReadAnswer) (out″ after″ : List ℕ) → AsksRead (take bytes after′) out″ r after″ → rows * rowSize ≤ length out″
       → ReadsAgain (Read rows blocks cues) (take (rows * rowSize) after) r out″ after″
 
--- Of rows that keep the rules: the blocks are those of the rows; numbers, paths and lists are right against the unfolding of the blocks, which
--- single steps in any order lead to.
+-- Of rows that keep the rules: the blocks are those of the rows; numbers, paths and lists, and the rows behind follow-ons, are right against the unfolding of
+-- the blocks, which single steps in any order lead to.
 pub record RightAgainstUnfolding (xs : List ℕ) : Type 0 where
   pub blocks : AreBlocks xs (blocksOf xs)
   pub unfolding-steps : Unfolds (blocksOf xs)
@@ -88,6 +93,8 @@ pub record RightAgainstUnfolding (xs : List ℕ) : Type 0 where
       → ArePages (LinkedOut xs v) n many cues more
   pub pages-in : (v n many : ℕ) (cues : List ℕ) (more : Bool) → 1 ≤ v → v ≤ count (blocksOf xs) → Pages (AsksIn xs v) n many cues more
       → ArePages (LinkedIn xs v) n many cues more
+  pub rows-behind : (s t : ℕ) (lent after : List ℕ) (r : RowAnswer) → 1 ≤ s → s ≤ count (blocksOf xs) → 1 ≤ t → t ≤ count (blocksOf xs)
+      → maxDepth ≤ length lent → AsksRow xs s t lent r after → IsRowBehind xs s t lent r after
 
 -- All of it; the words mean what they say, there is a show, and there is a padded file of one.
 pub record Demand2 : Type 0 where
