@@ -1,7 +1,7 @@
 -- The ring show by computation: its rows are accepted and stand for these blocks; a run of single steps, the second of two uses before the first; and
--- what the demands on unfolding and numbers say of it. Nothing here rests on a law, so a definition that does not meet these demands is
+-- what the demands on unfolding, numbers and the rows behind follow-ons say of it, and of a show with several links between two cues. Nothing here rests on a law, so a definition that does not meet these demands is
 -- refused here by itself.
-use Prim.Native.Nat.{ℕ, suc, _<_}
+use Prim.Native.Nat.{ℕ, suc, _≤_, _<_}
 use native.Mathlib.Omega.{arith}
 use mathlib.Core.Path.{_≡_, refl}
 use mathlib.Core.Bool.{Bool, true, false}
@@ -16,9 +16,14 @@ use Rattle.model.specs.declared.Verdict.the-variants.{Accepted}
 use Rattle.model.specs.Unfolding.{cueAt, renamed, usesLinks, links, showLinks}
 use Rattle.model.specs.Paths.{ownNumber, usesNumber, copyNumber, numberIn, nowhere, stepThen, usesPlace, placeIn}
 use Rattle.model.specs.Lists.{range}
+use Rattle.model.specs.Behind.{Origin, Stands, Missing, stepInto, tracedInto, rowsTraced, usesTraced, traced, openingRow, showTraced, origins, depthWins, stepsWin, better, winner, best, behind}
 use Rattle.model.specs.Ring.{ring, opening}
+use Rattle.shows.specs.Copies.{nthUse, after as copy-after, ends, goes}
+use Rattle.shows.specs.Numbering.{usedBy, blockAfter}
 use Rattle.demands.specs.Replacement.{Node, Edge, Standing, Graph, ownNodes, nodesOf, nth, edge, standing, Step, stay, then, begin, Ended, nodeNumber, nodeAt, byNumbers}
 use Rattle.demands.specs.Numbers.{node, Before, own-order, own-first, use-order, same-use}
+use Rattle.demands.specs.Acceptance.{here}
+use Rattle.demands.specs.RowBehind.{StandsAs, Wins, by-depth, by-step, by-row}
 
 -- How often a thing stands in a list, and that two lists have each thing as often.
 module _ {A : Type 0} (same : A → A → Bool) where
@@ -167,3 +172,57 @@ in-order = let h : 1 < 2 = omega arith in (own-order h, own-first, same-use refl
 ring-order : rises (map (nodeNumber bs) (a ∷ b ∷ c ∷ d ∷ e ∷ [])) ≡ true
 unfolding rises nodeNumber ifLt ifEq sumOver total lastBlock ownNumber usesNumber copyNumber numberIn
 ring-order = refl
+
+-- Row 2 stands as the follow-on from cue 4 to cue 2 in the copy of block 0 that the first use of the show's first use is,
+pub ring-stands : StandsAs ring 4 2 (1 ∷ 1 ∷ []) 2
+unfolding ifLt ifEq cell rowAt rowsFrom rowCount rowsOf noBlock blockAt joinsOf addLink addUse addRow addRows blocksOf sumOver total lastBlock cueAt nthUse copy-after usedBy blockAfter
+ring-stands =
+    let l : 1 ≤ 1 = omega arith in
+    let m : 1 ≤ 2 = omega arith in
+    let n : 2 ≤ 9 = omega arith in
+    record {
+      steps = goes l l (goes l m ends);
+      is = (m, n);
+      links = refl;
+      block = refl;
+      from = refl;
+      to = refl;
+    }
+
+-- and it is the row behind that follow-on, as these are behind the others; there is none behind one that the ring lacks.
+abbrev at-path : List ℕ → ℕ → Origin
+at-path path row = record { path = path; row = row }
+
+ring-rows : (behind ring 4 2 ≡ Stands (at-path (1 ∷ 1 ∷ []) 2))
+    × (behind ring 2 1 ≡ Stands (at-path [] 8))
+    × (behind ring 3 4 ≡ Stands (at-path (1 ∷ 1 ∷ []) 3))
+    × (behind ring 5 3 ≡ Stands (at-path (1 ∷ 2 ∷ []) 2))
+    × (behind ring 1 5 ≡ Stands (at-path (1 ∷ 2 ∷ []) 3))
+    × (behind ring 2 4 ≡ Missing)
+unfolding ifLt ifEq ifTrue cell rowAt rowsFrom rowCount rowsOf noBlock blockAt joinsOf addLink addUse addRow addRows blocksOf sumOver total lastBlock cueAt renamed openingRows stepInto tracedInto rowsTraced usesTraced traced openingRow showTraced origins depthWins stepsWin better winner best behind
+ring-rows = (refl, refl, refl, refl, refl, refl)
+
+-- A show in which several links join two cues: block 0 has two joins, no own cue, and two links from the first join to the second; the show has a link from
+-- its cue 2 to its cue 1, uses block 0 from 1 to 2 twice, and from 2 to 1.
+abbrev several : List ℕ
+several =
+    0 ∷ 0 ∷ 2 ∷ 0 ∷ 0 ∷ 0 ∷ 0 ∷ 0 ∷ 0 ∷ 0 ∷ 0
+    ∷ 0 ∷ 1 ∷ 1 ∷ 1 ∷ 2 ∷ 0 ∷ 0 ∷ 0 ∷ 0 ∷ 0 ∷ 0
+    ∷ 0 ∷ 1 ∷ 2 ∷ 1 ∷ 2 ∷ 0 ∷ 0 ∷ 0 ∷ 0 ∷ 0 ∷ 0
+    ∷ 1 ∷ 0 ∷ 0 ∷ 2 ∷ 0 ∷ 0 ∷ 0 ∷ 0 ∷ 0 ∷ 0 ∷ 0
+    ∷ 1 ∷ 1 ∷ 1 ∷ 2 ∷ 1 ∷ 0 ∷ 0 ∷ 0 ∷ 0 ∷ 0 ∷ 0
+    ∷ 1 ∷ 2 ∷ 0 ∷ 1 ∷ 2 ∷ 0 ∷ 0 ∷ 0 ∷ 0 ∷ 0 ∷ 0
+    ∷ 1 ∷ 2 ∷ 0 ∷ 1 ∷ 2 ∷ 0 ∷ 0 ∷ 0 ∷ 0 ∷ 0 ∷ 0
+    ∷ 1 ∷ 2 ∷ 0 ∷ 2 ∷ 1 ∷ 0 ∷ 0 ∷ 0 ∷ 0 ∷ 0 ∷ 0 ∷ []
+
+several-accepted : verdict several ≡ Accepted
+unfolding ifLt ifEq ifTrue cell rowAt rowsFrom rowCount rowsOf start cuesIn mayOpen goesOn mayFollow columnsUsed named every isCue isZero labelFits ownFits inRange differs distinct isBelow linkKey useKey inOrder fault after noBlock blockAt joinsOf ownOf addLink addUse addRow addRows blocksOf sumOver total refusal refused andThen checkLength checkRows openingRows checkBlocks mayStand totalFits verdict
+several-accepted = refl
+
+-- From 1 to 2 the first of the two uses wins, and in it the smaller row; from 2 to 1 the show's own link, whose path is shorter.
+several-rows : (behind several 1 2 ≡ Stands (at-path (1 ∷ []) 2)) × (behind several 2 1 ≡ Stands (at-path [] 5))
+unfolding ifLt ifEq ifTrue cell rowAt rowsFrom rowCount rowsOf noBlock blockAt joinsOf addLink addUse addRow addRows blocksOf sumOver total lastBlock cueAt renamed openingRows stepInto tracedInto rowsTraced usesTraced traced openingRow showTraced origins depthWins stepsWin better winner best behind
+several-rows = (refl, refl)
+
+several-wins : Wins (1 ∷ []) 2 (2 ∷ []) 2 × Wins (1 ∷ []) 2 (1 ∷ []) 3 × Wins [] 5 (3 ∷ []) 2
+several-wins = let h : 1 < 2 = omega arith in (by-step refl (here h), by-row refl (omega arith), by-depth (omega arith))

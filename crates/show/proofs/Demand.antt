@@ -22,7 +22,7 @@ use Rattle.shows.proofs.Accepted.{accepted-show}
 use Rattle.distances.proofs.Fewest.{show-shortest}
 use Rattle.demands.proofs.Acceptance.{accepted-exactly}
 use Rattle.demands.proofs.Words.{words}
-use Rattle.demands.proofs.Ring.{ring-accepted}
+use Rattle.demands.proofs.Ring.{ring-accepted, ring-stands}
 use Rattle.demands.proofs.Blocks.{are-blocks}
 use Rattle.demands.proofs.Refusals.{locate-refuses, out-refuses, in-refuses, row-refuses, fewest-refuses}
 use Rattle.demands.proofs.Checking.{write-checks, count-checks, locate-checks, number-checks, out-checks, in-checks, row-checks, fewest-checks}
@@ -73,6 +73,7 @@ demand-2 =
       refusals = record { locate = locate-refuses; list-out = out-refuses; list-in = in-refuses; row = row-refuses; fewest = fewest-refuses };
       a-show = accepted-exactly ring .0 ring-accepted;
       a-padded-file = padded-file;
+      a-row-behind = ring-stands;
       round-trips =
           record {
             write-back = λ file out after rows blocks cues e. writes-back file out after (Read rows blocks cues) rows blocks cues e refl;

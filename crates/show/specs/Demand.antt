@@ -4,7 +4,7 @@
 use Prim.Native.Nat.{ℕ, _*_, _≤_}
 use mathlib.Core.Path.{_≡_}
 use mathlib.Core.Bool.{Bool}
-use mathlib.Core.List.{List}
+use mathlib.Core.List.{List, [], _∷_}
 use lib.ListN.{length, take}
 use Rattle.model.specs.Limits.{rowSize, maxDepth}
 use Rattle.model.specs.Blocks.{Link, blocksOf, count}
@@ -35,7 +35,7 @@ use Rattle.demands.specs.RoundTrips.{WritesBack, ReadsBack, ReadsAgain}
 use Rattle.demands.specs.Replacement.{Unfolds}
 use Rattle.demands.specs.Numbers.{IsCount, IsLocated, IsNumber}
 use Rattle.demands.specs.Lists.{LinkedOut, LinkedIn, IsList, Pages, ArePages}
-use Rattle.demands.specs.RowBehind.{IsRowBehind}
+use Rattle.demands.specs.RowBehind.{StandsAs, IsRowBehind}
 
 -- Demand 2.
 
@@ -96,13 +96,14 @@ pub record RightAgainstUnfolding (xs : List ℕ) : Type 0 where
   pub rows-behind : (s t : ℕ) (lent after : List ℕ) (r : RowAnswer) → 1 ≤ s → s ≤ count (blocksOf xs) → 1 ≤ t → t ≤ count (blocksOf xs)
       → maxDepth ≤ length lent → AsksRow xs s t lent r after → IsRowBehind xs s t lent r after
 
--- All of it; the words mean what they say, there is a show, and there is a padded file of one.
+-- All of it; the words mean what they say, there is a show, a padded file of one, and a row behind a follow-on.
 pub record Demand2 : Type 0 where
   pub words : Words
   pub acceptance : AcceptanceExact
   pub refusals : RefusalsExact
   pub a-show : Lawful ring
   pub a-padded-file : SpellsFile paddedFile (opening 1) × Lawful (opening 1) × (Unpadded paddedFile → ⊥)
+  pub a-row-behind : StandsAs ring 4 2 (1 ∷ 1 ∷ []) 2
   pub round-trips : RoundTripsExact
   pub right : (xs : List ℕ) → Lawful xs → RightAgainstUnfolding xs
 
