@@ -74,7 +74,7 @@ distinct-columns n xs m =
     (rw (less-one i, less-one j) at (h (suc i) (suc j) (omega arith) (omega arith) (omega arith))))
 
 -- How one list comes before another.
-pub below-cases : {k l : ℕ} {ks ls : List ℕ} → Below (k ∷ ks) (l ∷ ls) → (k < l) ⊎ ((k ≡ l) × Below ks ls)
+below-cases : {k l : ℕ} {ks ls : List ℕ} → Below (k ∷ ks) (l ∷ ls) → (k < l) ⊎ ((k ≡ l) × Below ks ls)
 below-cases (here h) = inl h
 below-cases (later e b) = inr (e, b)
 

@@ -18,7 +18,6 @@ pub mod BlockByBlock
 pub mod Together
 pub mod Acceptance
 pub mod Blocks
-pub mod LinkRows
 pub mod Checking
 pub mod Refusals
 pub mod Words
@@ -45,5 +44,6 @@ pub mod Rising
 pub mod Pages
 pub mod Lists
 -- the row behind a follow-on
+pub mod LinkRows
 pub mod Winning
 pub mod RowBehind

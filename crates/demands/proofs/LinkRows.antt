@@ -1,10 +1,10 @@
 -- The link rows of a block stand one behind another from the row behind its opening on, so a link with its origin in a copy is one of the block's link rows.
-use Prim.Native.Nat.{ℕ, suc, _+_, _-_, _≤_, _<_}
+use Prim.Native.Nat.{ℕ, suc, _-_, _≤_, _<_}
 use native.Mathlib.Omega.{arith}
 use native.Mathlib.Decide.{ℕ-discrete, decLt}
 use native.Mathlib.Nat.{sub-zero}
 use mathlib.Core.Path.{_≡_, refl, sym, _∙_, ap, ap₂}
-use mathlib.Core.Logic.{_⊎_, inl, inr, _≢_}
+use mathlib.Core.Logic.{_⊎_, inl, inr}
 use mathlib.Core.List.{List, [], _∷_, List·Memᴰ, List·Memᴰ·head, List·Memᴰ·tail, List·Memᴰ·cases-cons, List·Memᴰ·not-nil}
 use lib.ListN.{getD}
 use Rattle.model.specs.Rows.{Row, rowCount, rowsOf}
@@ -14,18 +14,29 @@ use Rattle.model.specs.Unfolding.{renamed}
 use Rattle.model.specs.Behind.{Traced, rowsTraced, openingRow}
 use Rattle.basics.proofs.Choices.{eq-then, eq-else}
 use Rattle.shows.proofs.TracedByPath.{trace}
-use Rattle.demands.specs.Acceptance.{nthRow, IsRow, column, Opens, Links, Uses, Follows, next-block, next-link, next-use, InPlace}
+use Rattle.demands.specs.Acceptance.{nthRow, IsRow, column, Links, Uses, Follows, next-block, next-link, next-use, InPlace}
 use Rattle.demands.specs.Blocks.{linksIn}
 use Rattle.demands.proofs.Openings.{OpenedBefore, Comes, opening, link, later-use, from-place, opened-next}
 use Rattle.demands.proofs.Stages.{by-rows}
-use Rattle.demands.proofs.PartsOfRows.{picked, both-then, both-else}
+use Rattle.demands.proofs.PartsOfRows.{both-known, both-then, both-else, picked}
 
 -- The link of a link row.
 abbrev pub rowLink : Row → Link
 rowLink w = record { from = column w 1; to = column w 2; label = w .label }
 
+-- A link row of block j: one thing if a row is one, else another.
 abbrev LinkOf : ℕ → Row → Type 0
 LinkOf j w = Links w × (w .block ≡ j)
+
+link-known : (j : ℕ) (w : Row) → Dec (LinkOf j w)
+link-known j w = both-known (w .kind) 1 (w .block) j
+
+module _ {A : Type 0} (j : ℕ) (w : Row) (x y : A) where
+  link-then : LinkOf j w → picked w 1 j x y ≡ x
+  link-then (k, b) = both-then (w .kind) 1 (w .block) j x y k b
+
+  link-else : (LinkOf j w → ⊥) → picked w 1 j x y ≡ y
+  link-else n = both-else (w .kind) 1 (w .block) j x y n
 
 -- Behind row v no link of block j can come.
 abbrev Over : ℕ → Row → Type 0
@@ -52,11 +63,12 @@ module _ (xs : List ℕ) (place : (q : ℕ) → IsRow xs q → InPlace xs q) (f 
 
   run-this : (j p : ℕ) (w : Row) (ws : List Row) → LinkOf j w → Run j (suc p) ws (suc p) → Run j p (w ∷ ws) p
   unfolding linkRows linksIn rowsTraced
-  run-this j p w ws (k, b) h = rw (both-then (w .kind) 1 (w .block) j (trace [] p (renamed f (rowLink w)) ∷ linkRows j (suc p) ws) _ k b, both-then (w .kind) 1 (w .block) j (rowLink w ∷ linksIn j ws) _ k b) (ap (λ (E : List Traced). trace [] p (renamed f (rowLink w)) ∷ E) h)
+  run-this j p w ws l h =
+      link-then j w _ _ l ∙ ap (λ (E : List Traced). trace [] p (renamed f (rowLink w)) ∷ E) h ∙ ap (rowsTraced f p) (sym (link-then j w _ _ l))
 
   run-other : (j p : ℕ) (w : Row) (ws : List Row) (r : ℕ) → (LinkOf j w → ⊥) → Run j (suc p) ws r → Run j p (w ∷ ws) r
   unfolding linkRows linksIn
-  run-other j p w ws r n h = both-else (w .kind) 1 (w .block) j _ _ n ∙ h ∙ ap (rowsTraced f r) (sym (both-else (w .kind) 1 (w .block) j _ _ n))
+  run-other j p w ws r n h = link-else j w _ _ n ∙ h ∙ ap (rowsTraced f r) (sym (link-else j w _ _ n))
 
   -- The rows from row p on, where k blocks are opened before it: those of a block that is over; of the last opened; and of one that is still to open.
   record From (p : ℕ) (ws : List Row) : Type 0 where
@@ -100,7 +112,8 @@ module _ (xs : List ℕ) (place : (q : ℕ) → IsRow xs q → InPlace xs q) (f 
 
     first-later : (k : ℕ) (j : ℕ) → k ≤ j → Comes xs p k → Run j p (w ∷ ws) (suc (getD (openingRows p (w ∷ ws)) (j - k) 0))
     unfolding openingRows
-    first-later k j h (opening q e) = rw (eq-then (w .kind) 0 (p ∷ openingRows (suc p) ws) _ q) (run-other j p w ws _ (λ l. omega arith) (go (ℕ-discrete j k)))
+    first-later k j h (opening q e) =
+        rw (eq-then (w .kind) 0 (p ∷ openingRows (suc p) ws) _ q) (run-other j p w ws _ (λ l. omega arith) (go (ℕ-discrete j k)))
       where
         go : Dec (j ≡ k) → Run j (suc p) ws (suc (getD (p ∷ openingRows (suc p) ws) (j - k) 0))
         go (yes a) = let z : j - k ≡ 0 = omega arith in rw z (below .now (suc k) (opened (suc k) (omega arith)) j (omega arith))
@@ -140,22 +153,21 @@ module _ (xs : List ℕ) (place : (q : ℕ) → IsRow xs q → InPlace xs q) (f 
 
     found-first : (p : ℕ) (ws : List Row) → IsRow xs p → Found (suc p) ws → Found p (nthRow xs p ∷ ws)
     unfolding linkRows
-    found-first p ws i below m = go (ℕ-discrete (w .kind) 1) (ℕ-discrete (w .block) j)
+    found-first p ws i below m = go (link-known j w)
       where
         w : Row
         w = nthRow xs p
 
-        here : LinkOf j (nthRow xs p) → (trace [] r l ≡ trace [] p (renamed f (rowLink (nthRow xs p)))) ⊎ List·Memᴰ (trace [] r l) (linkRows j (suc p) ws)
-            → IsLinkRow
+        here : LinkOf j (nthRow xs p)
+            → (trace [] r l ≡ trace [] p (renamed f (rowLink (nthRow xs p)))) ⊎ List·Memᴰ (trace [] r l) (linkRows j (suc p) ws) → IsLinkRow
         here (k, b) (inl e) =
             let z : r ≡ p = ap (λ (x : Traced). x .origin .row) e in
             record { is = rw z i; links = rw z k; block = rw z b; link = rw z (ap (λ (x : Traced). x .link) e) }
         here (k, b) (inr n) = below n
 
-        go : Dec (nthRow xs p .kind ≡ 1) → Dec (nthRow xs p .block ≡ j) → IsLinkRow
-        go (yes k) (yes b) = here (k, b) (List·Memᴰ·cases-cons (rw (both-then (w .kind) 1 (w .block) j _ (linkRows j (suc p) ws) k b) at m))
-        go (yes k) (no b) = below (rw (both-else (w .kind) 1 (w .block) j _ (linkRows j (suc p) ws) (λ h. b (h .1))) at m)
-        go (no k) d = below (rw (both-else (w .kind) 1 (w .block) j _ (linkRows j (suc p) ws) (λ h. k (h .0))) at m)
+        go : Dec (LinkOf j (nthRow xs p)) → IsLinkRow
+        go (yes k) = here k (List·Memᴰ·cases-cons (rw (link-then j w _ (linkRows j (suc p) ws) k) at m))
+        go (no k) = below (rw (link-else j w _ (linkRows j (suc p) ws) k) at m)
 
     none-found : (p : ℕ) → Found p []
     unfolding linkRows
@@ -172,16 +184,15 @@ module _ (xs : List ℕ) (place : (q : ℕ) → IsRow xs q → InPlace xs q) (f 
         w : Row
         w = nthRow xs p
 
-        skip : p < r → Dec (nthRow xs p .kind ≡ 1) → Dec (nthRow xs p .block ≡ j) → List·Memᴰ (trace [] r l) (linkRows j p (nthRow xs p ∷ ws))
-        skip a (yes q) (yes b) = rw (both-then (w .kind) 1 (w .block) j _ (linkRows j (suc p) ws) q b) (List·Memᴰ·tail (below a k))
-        skip a (yes q) (no b) = rw (both-else (w .kind) 1 (w .block) j _ (linkRows j (suc p) ws) (λ h. b (h .1))) (below a k)
-        skip a (no q) d = rw (both-else (w .kind) 1 (w .block) j _ (linkRows j (suc p) ws) (λ h. q (h .0))) (below a k)
+        skip : p < r → Dec (LinkOf j (nthRow xs p)) → List·Memᴰ (trace [] r l) (linkRows j p (nthRow xs p ∷ ws))
+        skip a (yes q) = rw (link-then j w _ (linkRows j (suc p) ws) q) (List·Memᴰ·tail (below a k))
+        skip a (no q) = rw (link-else j w _ (linkRows j (suc p) ws) q) (below a k)
 
         go : Dec (r ≡ p) → List·Memᴰ (trace [] r l) (linkRows j p (nthRow xs p ∷ ws))
         go (yes z) =
-            rw (both-then (w .kind) 1 (w .block) j _ (linkRows j (suc p) ws) (rw z at (k .links)) (rw z at (k .block)))
+            rw (link-then j w _ (linkRows j (suc p) ws) (rw z at (k .links), rw z at (k .block)))
             (List·Memᴰ·head (ap₂ (trace []) z (k .link ∙ ap (λ (n : ℕ). renamed f (rowLink (nthRow xs n))) z)))
-        go (no z) = skip (omega arith) (ℕ-discrete (nthRow xs p .kind) 1) (ℕ-discrete (nthRow xs p .block) j)
+        go (no z) = skip (omega arith) (link-known j w)
 
     none-held : Held (suc (rowCount xs)) []
     none-held h k = absurd (omega (arith, k .is))

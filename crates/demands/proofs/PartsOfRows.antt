@@ -30,7 +30,15 @@ unfolding blockAt
 block-beyond [] k h = refl
 block-beyond (b ∷ earlier) k h = block-skip b earlier k (λ e. omega arith) ∙ block-beyond earlier k (omega arith)
 
--- One thing if two numbers are what they should be, else another.
+-- Whether two numbers are what they should be; and one thing if they are, else another.
+pub both-known : (a m b n : ℕ) → Dec ((a ≡ m) × (b ≡ n))
+both-known a m b n = go (ℕ-discrete a m) (ℕ-discrete b n)
+  where
+    go : Dec (a ≡ m) → Dec (b ≡ n) → Dec ((a ≡ m) × (b ≡ n))
+    go (yes e) (yes h) = yes (e, h)
+    go (yes e) (no k) = no (λ h. k (h .1))
+    go (no k) d = no (λ h. k (h .0))
+
 module _ {A : Type 0} (a m b n : ℕ) (x y : A) where
   pub both-then : a ≡ m → b ≡ n → ifEq a m (ifEq b n x y) y ≡ x
   both-then e h = eq-then a m _ _ e ∙ eq-then b n _ _ h

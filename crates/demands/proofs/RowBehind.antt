@@ -2,10 +2,9 @@
 -- the best of them is given.
 use Prim.Native.Nat.{ℕ, _≤_, _<_}
 use native.Mathlib.Omega.{arith}
-use native.Mathlib.Decide.{ℕ-discrete}
 use mathlib.Core.Path.{_≡_, refl, sym, _∙_, ap, ap₂}
 use mathlib.Core.Logic.{_⊎_, inl, inr, _↔_}
-use mathlib.Core.List.{List, [], _∷_, map, List·Memᴰ, List·Memᴰ·head, List·Memᴰ·tail, List·Memᴰ·cases-cons, List·Memᴰ·not-nil}
+use mathlib.Core.List.{List, [], _∷_, List·Memᴰ, List·Memᴰ·head, List·Memᴰ·tail, List·Memᴰ·cases-cons, List·Memᴰ·not-nil}
 use lib.ListN.{length}
 use Rattle.model.specs.Limits.{maxDepth}
 use Rattle.model.specs.Rows.{rowsOf}
@@ -36,8 +35,8 @@ use Rattle.demands.proofs.Buffers.{leaves}
 use Rattle.demands.proofs.Outcomes.{on-yes, has-room, has-cue}
 use Rattle.demands.proofs.Acceptance.{accepted-exactly}
 use Rattle.demands.proofs.Blocks.{are-blocks}
-use Rattle.demands.proofs.PartsOfRows.{both-then, both-else}
-use Rattle.demands.proofs.LinkRows.{rowLink, IsLinkRow, is-link-row, link-row-is}
+use Rattle.demands.proofs.PartsOfRows.{both-known, both-then, both-else}
+use Rattle.demands.proofs.LinkRows.{rowLink, is-link-row, link-row-is}
 use Rattle.demands.proofs.Winning.{Beats, wins-both, BestOf, no-best, the-best, best-of}
 
 -- The origins of the links from s to t, among links with their origins.
@@ -46,12 +45,7 @@ module _ (s t : ℕ) where
   Joins l = (l .from ≡ s) × (l .to ≡ t)
 
   joins-known : (l : Link) → Dec (Joins l)
-  joins-known l = go (ℕ-discrete (l .from) s) (ℕ-discrete (l .to) t)
-    where
-      go : Dec (l .from ≡ s) → Dec (l .to ≡ t) → Dec (Joins l)
-      go (yes a) (yes b) = yes (a, b)
-      go (yes a) (no b) = no (λ h. b (h .1))
-      go (no a) d = no (λ h. a (h .0))
+  joins-known l = both-known (l .from) s (l .to) t
 
   -- One that joins them, and one that doesn't.
   module _ (y : Traced) (ys : List Traced) where

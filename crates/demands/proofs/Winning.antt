@@ -15,7 +15,6 @@ use Rattle.basics.proofs.Choices.{lt-then, lt-else, true-then, true-else}
 use Rattle.demands.specs.Acceptance.{Below, here, later}
 use Rattle.demands.specs.RowBehind.{DepthWins, Wins, by-depth, by-step, by-row}
 use Rattle.demands.proofs.Tests.{Says, never, in-words, decided}
-use Rattle.demands.proofs.Columns.{below-cases}
 
 -- What is decided by a test.
 abbrev Decided : Bool → Type 0 → Type 0

@@ -24,12 +24,12 @@ copyAt xs path = after (show-copy (blocksOf xs)) path
 
 -- "The row given must stand in the unfolded show as a link from s to t": a row, and the path of the copy that it stands in.
 pub record StandsAs (xs : List ℕ) (s t : ℕ) (path : List ℕ) (row : ℕ) : Type 0 where
-  -- Each step of the path is a use; the row is a link row of the block that it leads to a copy of;
+  -- Each step of the path is a use, and the row is a link row of the block that the path leads to;
   pub steps : Steps (show-copy (blocksOf xs)) path
   pub is : IsRow xs row
   pub links : Links (nthRow xs row)
   pub block : nthRow xs row .block ≡ blockAfter (blocksOf xs) (lastBlock (blocksOf xs)) path
-  -- and the cues a and b that the row names have the numbers s and t in this copy.
+  -- the cues a and b that the row names have the numbers s and t in the copy there.
   pub from : number (copyAt xs path) (column (nthRow xs row) 1) ≡ s
   pub to : number (copyAt xs path) (column (nthRow xs row) 2) ≡ t
 
@@ -69,7 +69,7 @@ pub record IsRowBehind (xs : List ℕ) (s t : ℕ) (lent : List ℕ) (r : RowAns
   pub stand : (label : ℕ)
       → List·Memᴰ (link s t label) (showLinks (blocksOf xs))
       ↔ ((path : List ℕ) × (row : ℕ) × StandsAs xs s t path row × (nthRow xs row .label ≡ label))
-  -- A row is given exactly if there is such a link; it is this one.
+  -- A row is given exactly if there is such a link, and then it is the one that wins.
   pub exactly : ((row depth : ℕ) × (r ≡ Row row depth)) ↔ Leads (showLinks (blocksOf xs)) s t
   pub given : (row depth : ℕ) → r ≡ Row row depth → IsGiven xs s t lent row depth after
   -- "14, place 0, where no link from s to t exists". (That a refusal leaves the list as it was: `Refusals.RowRefuses`.)
