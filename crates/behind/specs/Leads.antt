@@ -12,7 +12,7 @@ use Rattle.shows.specs.WellFormed.{Cue}
 use Rattle.shows.specs.Copies.{number, copyOf, Sound}
 use Rattle.shows.specs.Origins.{into}
 use Rattle.verdicts.specs.Index.{useAt, usesFrom}
-use Rattle.blocks.specs.Loaded.{IsBlock, usesBegin, UseRow}
+use Rattle.blocks.specs.Loaded.{IsBlock, usesBegin, UseRows, UseRow}
 use Rattle.copies.specs.Copies.{innerBase}
 use Rattle.levels.specs.Tables.{IsLevel, joinCue, Levels, usedJoins}
 use Rattle.behind.specs.declared.Pair.{Pair}
@@ -42,10 +42,13 @@ pub record MayLead (xs m : List ℕ) (c : Pair) : Type 0 where
   pub from : Cue (blockAt (blocksOf xs) (c .block)) (c .from)
   pub to : Cue (blockAt (blocksOf xs) (c .block)) (c .to)
 
--- Row r is one of the block's uses.
+-- Row r is one of those of block k's uses.
 pub record UsesRow (xs t : List ℕ) (k r : ℕ) : Type 0 where
-  pub row : UseRow xs k r
-  pub begin : usesBegin t k ≤ r
+  pub first : ℕ
+  pub end : ℕ
+  pub rows : UseRows xs t k first end
+  pub low : first ≤ r
+  pub high : r < end
 
 -- The use of a lead: its row stands before row r, its joins meet the two cues, and its level is that of the best link between these joins.
 pub record Led (xs t : List ℕ) (c : Pair) (r : ℕ) (b : Lead) : Type 0 where

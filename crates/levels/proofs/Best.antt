@@ -97,6 +97,15 @@ level-if a b p q = go (eqb a b)
     go true = refl
     go false = refl
 
+-- A join of a part has the number of the cue that it meets.
+pub join-meets : (z : Copy) (q : Part) (i : ℕ) → i < length (q .of .at)
+    → number (part-copy z q) (joinCue (ownOf (z .blocks) (q .of .block)) i) ≡ number z (getD (q .of .at) i 0)
+join-meets z q i h =
+    let own : ℕ = blockAt (z .blocks) (q .of .block) .own in
+    let e : joinCue own i - own - 1 ≡ i = omega arith in
+    rw (ownOf-at (z .blocks) (q .of .block))
+    (cueAt-join own (q .base) (meets z q) (joinCue own i) (omega arith) ∙ ap (λ (w : ℕ). getD (meets z q) w 0) e ∙ getD-map-in (number z) (q .of .at) i h)
+
 -- Of a sound copy.
 module _ (xs : List ℕ) (k base : ℕ) (met : List ℕ) (g : Sound (copyOf (blocksOf xs) k base met)) (x y : ℕ)
     (cx : Cue (blockAt (blocksOf xs) k) x) (cy : Cue (blockAt (blocksOf xs) k) y) where
@@ -166,17 +175,9 @@ module _ (xs : List ℕ) (k base : ℕ) (met : List ℕ) (g : Sound (copyOf (blo
       ∙ ap (linksLevel ls x y) (level-winner a (here r l) ∙ ap (betterLevel (level a)) (level-here r l))
 
   -- The joins of a part that meet x and y.
-  join-number : (q : Part) → IsPart z q → (c : ℕ) → positionOf (q .of .at) c < length (q .of .at)
+  join-number : (q : Part) (c : ℕ) → positionOf (q .of .at) c < length (q .of .at)
       → number (part-copy z q) (joinCue (ownOf bs (q .of .block)) (positionOf (q .of .at) c)) ≡ number z c
-  join-number q i c h =
-      let n : ℕ = positionOf (q .of .at) c in
-      let own : ℕ = blockAt bs (q .of .block) .own in
-      let e : joinCue own n - own - 1 ≡ n = omega arith in
-      rw (ownOf-at bs (q .of .block))
-      (cueAt-join own (q .base) (meets z q) (joinCue own n) (omega arith)
-      ∙ ap (λ (w : ℕ). getD (meets z q) w 0) e
-      ∙ getD-map-in (number z) (q .of .at) n h
-      ∙ ap (number z) (position-found (q .of .at) c h))
+  join-number q c h = join-meets z q (positionOf (q .of .at) c) h ∙ ap (number z) (position-found (q .of .at) c h)
 
   use-both : (m : List ℕ) (u : Use) → positionOf (u .at) x < length (u .at) → positionOf (u .at) y < length (u .at)
       → useLevel m u x y ≡ oneMore (levelAt m (u .block) (positionOf (u .at) x) (positionOf (u .at) y))
@@ -201,7 +202,7 @@ module _ (xs : List ℕ) (k base : ℕ) (met : List ℕ) (g : Sound (copyOf (blo
           let arity : length (u .at) ≡ joinsOf bs (u .block) = part-use (g .fit) q i .arity in
           let lev = right .at (u .block) (positionOf (u .at) x) (positionOf (u .at) y) low (omega arith) (omega arith) .at (q .base) (meets z q) (part-sound g q i) in
           level-into p (best (part-origins opening bs k base met g s t q))
-          ∙ ap oneMore (sym (rw (join-number q i x h, join-number q i y l) at lev))
+          ∙ ap oneMore (sym (rw (join-number q x h, join-number q y l) at lev))
           ∙ sym (use-both m u h l)
       go (yes h) (no l) =
           none (part-unmet opening bs k base met g s t q i y cy (λ j. l (position-named (u .at) y j)) (inr refl))

@@ -1,56 +1,55 @@
+-- `best_use`: the loop tries one use more each turn.
 use borrow.Author.Needs.{needs}
+use Prim.Native.Nat.{_-_, _≤_}
 use native.Mathlib.Omega.{arith}
+use mathlib.Core.Path.{refl}
+use Rattle.behind.specs.Leads.{LeadsTo}
+use Rattle.behind.proofs.Leading.{uses-row, lead-begin, lead-on, lead-done}
 use Rattle.behind.proofs.best_use.Statement.{statement}
 use Rattle.behind.proofs.best_use.Tie as tie
-use Rattle.behind.proofs.best_use.Reads as reads
-use Rattle.behind.proofs.best_use.Lts as lts
-use Rattle.behind.proofs.try_use.Reads as try-use-reads
-use Rattle.blocks.proofs.use_rows.Reads as use-rows-reads
 
 abbrev Inv-loop : tie.InvT-loop
-Inv-loop xs t m c rows lead₀ r₀ lead r = ?
+Inv-loop xs t m c rows lead₀ r₀ lead r = (rows .first ≤ r) × (r ≤ rows .end) × LeadsTo xs t c (rows .first) (rows .end) r lead
 
 abbrev μ-loop : tie.MeasureT-loop
-μ-loop xs t m c rows lead₀ r₀ lead r = ?
+μ-loop xs t m c rows lead₀ r₀ lead r = rows .end - r
 
--- src/lib.rt:140:9
 use-rows-requires : tie.Need-use-rows-requires Inv-loop μ-loop
-use-rows-requires c κs = search needs
+use-rows-requires c κs =
+    let pre = c .before .before .pre in
+    (pre .0, pre .1 .block)
 
--- src/lib.rt:148:5
 loop-holds : tie.Need-loop-holds Inv-loop μ-loop
-loop-holds c = search needs
+loop-holds c =
+    let pre = c .before .before .before .pre in
+    (omega arith, omega (arith, c .use-rows .ensures .order), lead-begin (pre .0) _ (c .use-rows .ensures) _ refl)
 
--- src/lib.rt:149:9
 try-use-requires : tie.Need-try-use-requires Inv-loop μ-loop
-try-use-requires c κs = search needs
+try-use-requires c κs =
+    let at-loop = c .before .before in
+    let at-rows = at-loop .before in
+    let pre = at-rows .before .before .before .pre in
+    let inv = at-loop .loop .inv in
+    (pre .0, pre .1, uses-row (at-rows .use-rows .ensures) _ (inv .0) (c .if1 .taken), inv .2 .lead)
 
--- src/lib.rt:150:9
-add-r : tie.Need-add-r Inv-loop μ-loop
-add-r c = search needs
-
--- src/lib.rt:148:5
-loop-less : tie.Need-loop-less Inv-loop μ-loop
-loop-less c = search needs
-
--- src/lib.rt:148:5
 loop-again : tie.Need-loop-again Inv-loop μ-loop
-loop-again c = search needs
+loop-again c =
+    let test = c .before in
+    let at-loop = test .before .before in
+    let at-rows = at-loop .before in
+    let pre = at-rows .before .before .before .pre in
+    let inv = at-loop .loop .inv in
+    (omega arith, omega arith, lead-on (pre .0) _ (at-rows .use-rows .ensures) _ _ _ (inv .2) (inv .0) (test .if1 .taken) (c .try-use .ensures))
 
--- src/lib.rt:136:1
 returns : tie.Need-returns Inv-loop μ-loop
-returns c = search needs
+returns c =
+    let at-loop = c .before .before in
+    let at-rows = at-loop .before in
+    let pre = at-rows .before .before .before .pre in
+    lead-done (pre .0) _ (at-rows .use-rows .ensures) _ _ (at-loop .loop .inv .2) (c .if1 .left)
 
 pub best-use-spec : {M : Type 1} → statement M
 best-use-spec =
     tie.close
-    (tie.spec
-    Inv-loop
-    μ-loop
-    use-rows-requires
-    loop-holds
-    try-use-requires
-    add-r
-    loop-less
-    loop-again
+    (tie.spec Inv-loop μ-loop use-rows-requires loop-holds try-use-requires (λ c. search needs) (λ c. search needs) loop-again
     returns)

@@ -1,66 +1,89 @@
+-- `try_use`: the use meets both cues and its level is better, or the lead stays.
 use borrow.Author.Needs.{needs}
 use native.Mathlib.Omega.{arith}
+use borrow.Author.Tests.{not-true, not-false}
+use Rattle.blocks.proofs.Loaded.{loaded-show, used-block}
+use Rattle.behind.proofs.Trying.{uses-use, unmet-from, unmet-to, tried-better, tried-worse}
 use Rattle.behind.proofs.try_use.Statement.{statement}
 use Rattle.behind.proofs.try_use.Tie as tie
-use Rattle.behind.proofs.try_use.Reads as reads
-use Rattle.behind.proofs.try_use.Lts as lts
-use Rattle.behind.proofs.beats.Reads as beats-reads
-use Rattle.blocks.proofs.join_at.Reads as join-at-reads
-use Rattle.blocks.proofs.joins.Reads as joins-reads
-use Rattle.blocks.proofs.used.Reads as used-reads
-use Rattle.levels.proofs.level.Reads as level-reads
 
--- src/lib.rt:113:9
 used-requires : tie.Need-used-requires
-used-requires c κs = search needs
+used-requires c κs =
+    let pre = c .before .before .pre in
+    uses-use (pre .0) (pre .1 .block) (pre .2) .there
 
--- src/lib.rt:114:9
 joins-requires : tie.Need-joins-requires
-joins-requires c κs = search needs
+joins-requires c κs =
+    let pre = c .before .before .before .pre in
+    (pre .0, used-block _ (uses-use (pre .0) (pre .1 .block) (pre .2)) (c .used .ensures .0))
 
--- src/lib.rt:115:9
 join-at-requires : tie.Need-join-at-requires
-join-at-requires c κs = search needs
+join-at-requires c κs =
+    let pre = c .before .before .before .before .pre in
+    (uses-use (pre .0) (pre .1 .block) (pre .2) .there, c .joins .ensures .1)
 
--- src/lib.rt:117:9
 returns : tie.Need-returns
-returns c = search needs
+returns c =
+    let first = c .before in
+    let many = first .before in
+    let named = many .before in
+    let pre = named .before .before .before .pre in
+    unmet-from (pre .0) _ (pre .1) _ (pre .2) _ (pre .3) _ _ _ (named .used .ensures .0) (many .joins .ensures .0) (first .join-at .ensures) (c .if1 .taken)
 
--- src/lib.rt:119:9
 join-at-requires-2 : tie.Need-join-at-requires-2
-join-at-requires-2 c κs = search needs
+join-at-requires-2 c κs =
+    let many = c .before .before in
+    let pre = many .before .before .before .before .pre in
+    (uses-use (pre .0) (pre .1 .block) (pre .2) .there, many .joins .ensures .1)
 
--- src/lib.rt:121:9
 returns-2 : tie.Need-returns-2
-returns-2 c = search needs
+returns-2 c =
+    let second = c .before in
+    let many = second .before .before .before in
+    let named = many .before in
+    let pre = named .before .before .before .pre in
+    unmet-to (pre .0) _ (pre .1) _ (pre .2) _ (pre .3) _ _ _ (named .used .ensures .0) (many .joins .ensures .0) (second .join-at2 .ensures) (c .if2 .taken)
 
--- src/lib.rt:123:9
 level-requires : tie.Need-level-requires
-level-requires c κs = search needs
+level-requires c κs =
+    let second = c .before in
+    let many = second .before .before .before in
+    let named = many .before in
+    let pre = named .before .before .before .pre in
+    let row = uses-use (pre .0) (pre .1 .block) (pre .2) in (
+      omega (arith, pre .1 .levels .long, row .lower, row .block, loaded-show (pre .0) .blocks, named .used .ensures .0),
+      omega (arith, second .before .if1 .left, many .joins .ensures .1),
+      omega (arith, c .if2 .left, many .joins .ensures .1),
+    )
 
--- src/lib.rt:124:8
-beats-requires : tie.Need-beats-requires
-beats-requires c κs = search needs
-
--- src/lib.rt:125:9
 returns-3 : tie.Need-returns-3
-returns-3 c = search needs
+returns-3 c =
+    let at-level = c .before .before in
+    let test = at-level .before in
+    let second = test .before in
+    let other = second .before in
+    let first = other .before in
+    let many = first .before in
+    let named = many .before in
+    let pre = named .before .before .before .pre in
+    tried-better (pre .0) _ (pre .1) _ (pre .2) _ (pre .3) _ _ _ _ _ (named .used .ensures .0) (many .joins .ensures .0) (first .join-at .ensures)
+    (second .join-at2 .ensures) (other .if1 .left) (test .if2 .left) (at-level .level .ensures) _ (c .before .beats .ensures) (c .if3 .taken)
 
--- src/lib.rt:109:1
 returns-4 : tie.Need-returns-4
-returns-4 c = search needs
+returns-4 c =
+    let at-level = c .before .before in
+    let test = at-level .before in
+    let second = test .before in
+    let other = second .before in
+    let first = other .before in
+    let many = first .before in
+    let named = many .before in
+    let pre = named .before .before .before .pre in
+    tried-worse (pre .0) _ (pre .1) _ (pre .2) _ (pre .3) _ _ _ _ _ (named .used .ensures .0) (many .joins .ensures .0) (first .join-at .ensures)
+    (second .join-at2 .ensures) (other .if1 .left) (test .if2 .left) (at-level .level .ensures) _ (c .before .beats .ensures) (c .if3 .left)
 
 pub try-use-spec : {M : Type 1} → statement M
 try-use-spec =
     tie.close
-    (tie.spec
-    used-requires
-    joins-requires
-    join-at-requires
-    returns
-    join-at-requires-2
-    returns-2
-    level-requires
-    beats-requires
-    returns-3
-    returns-4)
+    (tie.spec used-requires joins-requires join-at-requires returns join-at-requires-2 returns-2 level-requires
+    (λ c κs. search needs) returns-3 returns-4)
