@@ -1,3 +1,4 @@
 -- The laws of the row behind a follow-on.
+pub mod Seeing
 pub mod Trying
 pub mod Leading
