@@ -2,3 +2,4 @@
 pub mod Seeing
 pub mod Trying
 pub mod Leading
+pub mod Walking

@@ -37,7 +37,7 @@ unfolding level
 level-none Missing e = refl
 level-none (Stands o) e = absurd (omega arith)
 
-level-some : (b : Behind) (n : ℕ) → n ≡ level b → n ≢ 0 → (o : Origin) × (b ≡ Stands o) × (n ≡ suc (length (o .path)))
+pub level-some : (b : Behind) (n : ℕ) → n ≡ level b → n ≢ 0 → (o : Origin) × (b ≡ Stands o) × (n ≡ suc (length (o .path)))
 unfolding level
 level-some Missing n e h = absurd (h e)
 level-some (Stands o) n e h = (o, refl, e)
@@ -46,7 +46,7 @@ level-some (Stands o) n e h = (o, refl, e)
 abbrev rowPart : List ℕ → List ℕ → ℕ → ℕ → ℕ → Part
 rowPart xs t k base r = record { of = useAt xs (blocksOf xs) r; base = innerBase xs t k base r }
 
-row-part : {xs t : List ℕ} {k r : ℕ} → Loaded xs t → (u : UsesRow xs t k r) (base : ℕ) (met : List ℕ) → IsPart (copyOf (blocksOf xs) k base met) (rowPart xs t k base r)
+pub row-part : {xs t : List ℕ} {k r : ℕ} → Loaded xs t → (u : UsesRow xs t k r) (base : ℕ) (met : List ℕ) → IsPart (copyOf (blocksOf xs) k base met) (rowPart xs t k base r)
 row-part {xs} {t} {k} {r} g u base met = inner-part g k base (u .rows) r (u .low) (u .high) met
 
 pub uses-use : {xs t : List ℕ} {k r : ℕ} → Loaded xs t → IsBlock xs k → UsesRow xs t k r → UseRow xs k r
@@ -70,16 +70,16 @@ module _ {xs t m : List ℕ} (g : Loaded xs t) (c : Pair) (may : MayLead xs m c)
         let p = l .at (q .base) (meets (z base met) q) (part-sound s q (row-part g u base met)) in
         rw (join-meets (z base met) q i (omega arith), join-meets (z base met) q j (omega arith), ei, ej) at p
 
-  led-level : (r : ℕ) (b : Lead) → Led xs t c r b → (base : ℕ) (met : List ℕ) → Sound (z base met) → b .level ≡ level (partBest xs t c base met (b .row))
+  pub led-level : (r : ℕ) (b : Lead) → Led xs t c r b → (base : ℕ) (met : List ℕ) → Sound (z base met) → b .level ≡ level (partBest xs t c base met (b .row))
   led-level r b l base met s =
       part-level (b .row) (b .from) (b .to) (b .level) (l .row) (l .from-join) (l .to-join) (l .from-cue) (l .to-cue) (l .level) base met s
 
   -- Where the lead's level is none, and where it is not.
-  led-none : (b : Lead) (base : ℕ) (met : List ℕ) → b .level ≡ 0 → ledTo xs t c base met b ≡ Missing
+  pub led-none : (b : Lead) (base : ℕ) (met : List ℕ) → b .level ≡ 0 → ledTo xs t c base met b ≡ Missing
   unfolding ledTo
   led-none b base met e = eq-then (b .level) 0 _ _ e
 
-  led-some : (b : Lead) (base : ℕ) (met : List ℕ) → b .level ≢ 0
+  pub led-some : (b : Lead) (base : ℕ) (met : List ℕ) → b .level ≢ 0
       → ledTo xs t c base met b ≡ into (stepOf t (c .block) (b .row)) (partBest xs t c base met (b .row))
   unfolding ledTo
   led-some b base met n = eq-else (b .level) 0 _ _ n

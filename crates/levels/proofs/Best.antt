@@ -134,10 +134,10 @@ module _ (xs : List ℕ) (k base : ℕ) (met : List ℕ) (g : Sound (copyOf (blo
   links-joins l e f = (ap (number z) e, ap (number z) f)
 
   -- The origin of the first link, if it is one from x to y.
-  unfoldable here : ℕ → Link → Behind
+  unfoldable pub here : ℕ → Link → Behind
   here r l = ifEq (l .from) x (ifEq (l .to) y (own-row r) Missing) Missing
 
-  own-next : (r : ℕ) (l : Link) (ls : List Link) → GoodLink (z .block) l
+  pub own-next : (r : ℕ) (l : Link) (ls : List Link) → GoodLink (z .block) l
       → best (origins s t (rowsTraced (number z) r (l ∷ ls))) ≡ winner (here r l) (best (origins s t (rowsTraced (number z) (suc r) ls)))
   unfolding rowsTraced best here winner
   own-next r l ls ok = go (ℕ-discrete (l .from) x) (ℕ-discrete (l .to) y)

@@ -106,7 +106,7 @@ best-few s t n (x ∷ xs) h = go (joins? s t (x .link)) (best-few s t n xs (λ y
         (better-few (suc n) (suc (length (x .origin .path))) (level (best (origins s t xs))) (omega (arith, h x (List·Memᴰ·head refl))) below)
     go (no j) below = rw (origins-skip s t x xs j) below
 
-level-small : (xs : List ℕ) → Good (blocksOf xs) → (k x y n : ℕ) → IsLevel xs k x y n → n ≤ suc k
+pub level-small : (xs : List ℕ) → Good (blocksOf xs) → (k x y n : ℕ) → IsLevel xs k x y n → n ≤ suc k
 level-small xs good k x y n l =
     let bs : List Block = blocksOf xs in
     rw (l .at 0 (range (suc (total bs k)) (joinsOf bs k)) (alone-sound bs good k)) (best-few _ _ k _ (traced-deep _ bs good k 0 (range (suc (total bs k)) (joinsOf bs k))))
