@@ -1,28 +1,27 @@
--- What this crate's small functions are asked: the first row that leads from one cue to another, the place of a number, the cue that a number is.
+-- The first row that leads from one cue to another, the place of a number, and the cue of a copy that a number is.
 use Prim.Native.Nat.{ℕ, suc, _+_, _-_, _≤_, _<_}
 use native.Mathlib.Omega.{arith}
 use native.Mathlib.Decide.{ℕ-discrete, decLt}
-use mathlib.Core.Path.{_≡_, refl, sym, _∙_, ap}
+use mathlib.Core.Path.{_≡_, sym, _∙_, ap}
 use mathlib.Core.List.{List, []}
 use lib.ListN.{getD, take}
 use lib.Seq.{getD-take}
 use Rattle.model.specs.Limits.{maxJoins, maxTotal}
 use Rattle.model.specs.Choice.{ifEq}
-use Rattle.model.specs.Blocks.{Link, Block, blockAt, joinsOf, ownOf, blocksOf}
-use Rattle.model.specs.Unfolding.{cueAt}
+use Rattle.model.specs.Blocks.{Block, blockAt, joinsOf, ownOf, blocksOf}
 use Rattle.basics.proofs.Choices.{eq-then, eq-else}
 use Rattle.shows.specs.WellFormed.{Cue}
 use Rattle.shows.specs.Copies.{number}
 use Rattle.shows.proofs.Ranges.{cueAt-own, cueAt-join}
+use Rattle.shows.proofs.AtBlock.{joins-small}
 use Rattle.shows.proofs.BlockAt.{ownOf-at, joinsOf-at, total-at}
 use Rattle.verdicts.specs.Index.{linkAt, linksFrom, useAt}
 use Rattle.blocks.specs.Loaded.{Loaded}
 use Rattle.blocks.proofs.Loaded.{loaded-show, linksFrom-next}
-use Rattle.shows.proofs.AtBlock.{joins-small}
 use Rattle.copies.specs.Copies.{IsCopy, framed}
 use Rattle.copies.specs.declared.Frame.{Frame}
-use Rattle.behind.specs.Leads.{rowBetween, MayFollow}
 use Rattle.behind.specs.declared.Lead.{Lead}
+use Rattle.behind.specs.Leads.{rowBetween, MayFollow}
 use Rattle.behind.specs.Ways.{SeenAs, IsMet}
 
 -- The answer of the link rows from r on, before end.
