@@ -17,7 +17,10 @@ returns : tie.Need-returns
 returns c = search (seen-own, needs)
 
 returns-2 : tie.Need-returns-2
-returns-2 c = search (seen-join, needs)
+returns-2 c =
+    let sought = c .before in
+    let at-joins = sought .before .before in
+    seen-join _ _ _ (at-joins .before .before .own .ensures .0) _ _ _ (at-joins .joins .ensures .0) (sought .met-at .ensures) _ (c .if3 .taken) refl
 
 returns-3 : tie.Need-returns-3
 returns-3 c =
