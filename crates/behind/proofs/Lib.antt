@@ -3,3 +3,4 @@ pub mod Seeing
 pub mod Trying
 pub mod Leading
 pub mod Walking
+pub mod Starting

@@ -10,7 +10,7 @@ use mathlib.Core.List.{List, [], _∷_, _++_, List·Memᴰ, List·Memᴰ·head, 
 use lib.ListN.{length, getD, set, length-set, length-append, List·getD-append}
 use lib.Seq.{getD-append-seam, getD-set-same, getD-set-other}
 use Rattle.model.specs.Choice.{ifEq, ifTrue}
-use Rattle.model.specs.Limits.{maxBlocks, maxDepth}
+use Rattle.model.specs.Limits.{maxBlocks, maxRows, maxDepth}
 use Rattle.model.specs.Blocks.{Link, Block, blockAt, joinsOf, ownOf, blocksOf}
 use Rattle.model.specs.Behind.{Origin, stepInto, rowsTraced, traced, openingRow, origins, depthWins, Behind, Stands, Missing, winner, best, behind}
 use Rattle.basics.proofs.Choices.{eq-then, eq-else, true-then, true-else}
@@ -18,21 +18,26 @@ use Rattle.shows.specs.WellFormed.{Cue, GoodLink}
 use Rattle.shows.specs.Copies.{Part, Copy, number, meets, copyOf, Sound, part-copy}
 use Rattle.shows.specs.Origins.{into, intoAll, own-row}
 use Rattle.shows.proofs.BlockAt.{ownOf-at, joinsOf-at}
+use Rattle.shows.proofs.Locality.{part-sound}
 use Rattle.shows.proofs.Choosing.{winner-none, best-append, depth-step, own-first, own-second, own-rows}
 use Rattle.shows.proofs.Origins.{copy-origins, own-origins, parts-origins}
 use Rattle.verdicts.specs.Index.{useAt, linksFrom}
 use Rattle.blocks.specs.Loaded.{Loaded, IsBlock, LinkRows, usesBegin, UseRow}
+use Rattle.blocks.proofs.Loaded.{loaded-show}
 use Rattle.blocks.specs.Places.{blockOn, UsesTo, Takes, Along}
-use Rattle.levels.proofs.Best.{here, own-next}
+use Rattle.copies.specs.Copies.{innerBase}
+use Rattle.levels.specs.Tables.{joinCue, usedJoins}
+use Rattle.levels.proofs.Best.{here, own-next, join-meets}
+use Rattle.levels.proofs.Deep.{level-small}
 use Rattle.behind.specs.declared.Pair.{Pair}
 use Rattle.behind.specs.declared.Lead.{Lead}
 use Rattle.behind.specs.declared.RowAt.{RowAt}
-use Rattle.behind.specs.Leads.{rowBetween, staysHere, stepOf, MayLead, Led, partBest, ledTo, BestLead}
-use Rattle.behind.specs.Ways.{Leading, Reaches, RowBehind}
-use Rattle.behind.proofs.Trying.{level-some, led-level, led-none, led-some}
+use Rattle.behind.specs.Leads.{rowBetween, staysHere, stepOf, MayLead, Led, partBest, ledTo, BestLead, MayFollow, Followed}
+use Rattle.behind.specs.Ways.{Leading, Reaches, RowBehind, MayWalk}
+use Rattle.behind.proofs.Trying.{level-some, row-part, uses-use, led-level, led-none, led-some}
 
 -- A path in front of what a copy has.
-intoAll-none : (path : List ℕ) → intoAll path Missing ≡ Missing
+pub intoAll-none : (path : List ℕ) → intoAll path Missing ≡ Missing
 unfolding intoAll into
 intoAll-none [] = refl
 intoAll-none (p ∷ path) = ap (into p) (intoAll-none path)
@@ -42,7 +47,7 @@ unfolding intoAll into stepInto
 intoAll-row [] r = refl
 intoAll-row (p ∷ path) r = ap (into p) (intoAll-row path r)
 
-intoAll-snoc : (path : List ℕ) (p : ℕ) (b : Behind) → intoAll (path ++ p ∷ []) b ≡ intoAll path (into p b)
+pub intoAll-snoc : (path : List ℕ) (p : ℕ) (b : Behind) → intoAll (path ++ p ∷ []) b ≡ intoAll path (into p b)
 unfolding intoAll
 intoAll-snoc [] p b = refl
 intoAll-snoc (q ∷ path) p b = ap (into q) (intoAll-snoc path p b)
@@ -173,6 +178,10 @@ module _ (xs : List ℕ) (k base : ℕ) (met : List ℕ) (g : Sound (copyOf (blo
           ap (λ (a : Behind). winner a (ownBest rest)) (eq-else (l .from) x _ _ e)
           ∙ sym (ap ownBest (eq-else (l .from) x (ifEq (l .to) y r rest) rest e))
 
+-- A copy of a block that is given by another name.
+sound-as : {bs : List Block} {j k base : ℕ} {met : List ℕ} → j ≡ k → Sound (copyOf bs k base met) → Sound (copyOf bs j base met)
+sound-as e s = rw e s
+
 -- The best link between two cues of a copy: that of its own row, or the one that the lead leads to.
 module _ {xs t m : List ℕ} (g : Loaded xs t) (c : Pair) (may : MayLead xs m c) {first end : ℕ} (links : LinkRows xs (c .block) first end) (b : Lead) (lead : BestLead xs t c b)
     (row : ℕ) (is : row ≡ rowBetween (c .from) (c .to) (first + 1) (linksFrom xs first (end - first))) where
@@ -266,3 +275,121 @@ module _ {xs t m : List ℕ} (g : Loaded xs t) (c : Pair) (may : MayLead xs m c)
           ∙ ap (intoAll (o .path))
           (ap₂ (λ (a w : ℕ). best (origins a w (traced (openingRow xs) all (c .block) (o .base) (o .met)))) (sym (o .from)) (sym (o .to))
           ∙ stays-best (o .base) (o .met) (o .sound) (sym e ∙ f))
+
+  -- It goes on: in the copy that the lead leads to, with the cues that its joins meet.
+  goes-level : (stay : Bool) → stay ≡ staysHere row (b .level) → stay ≡ false → b .level ≢ 0
+  unfolding staysHere
+  goes-level stay e f n = false≢true (sym f ∙ e ∙ eq-then (b .level) 0 _ _ n)
+
+  module _ (stay : Bool) (e : stay ≡ staysHere row (b .level)) (f : stay ≡ false) where
+    led : Led xs t c (lead .end) b
+    led = lead .lead .led (goes-level stay e f)
+
+    lead-use : UseRow xs (c .block) (b .row)
+    lead-use = uses-use g (may .block) (led .row)
+
+    pub may-follow : MayFollow xs b
+    may-follow = record { k = c .block; row = lead-use; from = led .from-join; to = led .to-join }
+
+    pub room-left : {rows : List ℕ} {d : ℕ} → MayWalk xs m rows d c → d < length rows
+    room-left may = omega (arith, may .room, may .short, lead-use .lower)
+
+    pub row-few : b .row < maxRows
+    row-few = lead-use .few
+
+    module _ (next : Pair) (o : Followed xs b next) where
+      pub lower : next .block < c .block
+      lower = omega (arith, lead-use .lower, o .block)
+
+      known : IsBlock xs (next .block)
+      known = omega (arith, lower, may .block)
+
+      joins-are : usedJoins xs (b .row) ≡ blockAt all (next .block) .joins
+      joins-are = rw (o .block) (joinsOf-at all (useAt xs all (b .row) .block))
+
+      next-from : Cue (blockAt all (next .block)) (next .from)
+      next-from = omega (arith, o .from, led .from-join, joins-are, ownOf-at all (next .block))
+
+      next-to : Cue (blockAt all (next .block)) (next .to)
+      next-to = omega (arith, o .to, led .to-join, joins-are, ownOf-at all (next .block))
+
+      pub may-walk : {rows : List ℕ} {d : ℕ} (w : ℕ) → MayWalk xs m rows d c → MayWalk xs m (set rows d w) (d + 1) next
+      may-walk {rows} {d} w may =
+          record {
+            lead =
+                record {
+                  block = known;
+                  levels = record { long = may .lead .levels .long; at = λ k i j h. may .lead .levels .at k i j (omega (arith, lower)) };
+                  from = next-from;
+                  to = next-to;
+                };
+            room = rw (length-set rows d w) (may .room);
+            short = omega (arith, may .short, lower);
+          }
+
+      -- The copy's number of a cue is that of the join which meets it in the part.
+      abbrev part : ℕ → Part
+      part base = record { of = useAt xs all (b .row); base = innerBase xs t (c .block) base (b .row) }
+
+      join-is : (base : ℕ) (met : List ℕ) (i x n : ℕ) → i < usedJoins xs (b .row) → getD (useAt xs all (b .row) .at) i 0 ≡ x → n ≡ joinCue (ownOf all (next .block)) i
+          → number (copyOf all (next .block) (part base .base) (meets (copy base met) (part base))) n ≡ number (copy base met) x
+      join-is base met i x n h ex en =
+          let a : length (useAt xs all (b .row) .at) ≡ usedJoins xs (b .row) = lead-use .good .arity in
+          ap₂ (λ (k j : ℕ). number (copyOf all k (part base .base) (meets (copy base met) (part base))) j) (o .block)
+          (en ∙ ap (λ (k : ℕ). joinCue (ownOf all k) i) (o .block))
+          ∙ join-meets (copy base met) (part base) i (omega arith)
+          ∙ ap (number (copy base met)) ex
+
+      -- The rows that lead there, and what is left of the question.
+      next-leading : {rows : List ℕ} {s v d : ℕ} (r : Reaches xs t rows s v d c) → d < length rows
+          → Leading xs t (set rows d (b .row)) (r .path ++ stepOf t (c .block) (b .row) ∷ [])
+      next-leading {rows} {s} {v} {d} r room =
+          let k : blockOn xs rows (length (r .path)) ≡ c .block = ap (blockOn xs rows) (r .depth) ∙ sym (r .block) in
+          let begin : usesBegin t (c .block) ≤ b .row = omega (arith, led .row .low, led .row .rows .begin) in
+          let takes : Takes t (c .block) (stepOf t (c .block) (b .row)) (b .row) = omega arith in
+          rw (r .depth) at
+          (leading-more (r .leading) (stepOf t (c .block) (b .row)) (b .row) (omega (arith, r .depth)) (rw k lead-use) (rw k takes) (rw k begin))
+
+      next-rest : {rows : List ℕ} {s v d : ℕ} (r : Reaches xs t rows s v d c)
+          → behind xs s v
+          ≡ intoAll (r .path ++ stepOf t (c .block) (b .row) ∷ [])
+          (best (origins s v (traced (openingRow xs) all (next .block) (part (r .base) .base) (meets (copy (r .base) (r .met)) (part (r .base))))))
+      next-rest {rows} {s} {v} {d} r =
+          let p : ℕ = stepOf t (c .block) (b .row) in
+          let found : List Origin = origins s v (traced (openingRow xs) all (next .block) (part (r .base) .base) (meets (copy (r .base) (r .met)) (part (r .base)))) in
+          r .rest
+          ∙ ap (intoAll (r .path))
+          (ap₂ (λ (a w : ℕ). best (origins a w (traced (openingRow xs) all (c .block) (r .base) (r .met)))) (sym (r .from)) (sym (r .to))
+          ∙ goes-best (r .base) (r .met) (r .sound) (sym e ∙ f) .1
+          ∙ ap₂ (λ (a w : ℕ). into p (best (origins a w (traced (openingRow xs) all (useAt xs all (b .row) .block) (part (r .base) .base) (meets (copy (r .base) (r .met)) (part (r .base))))))) (r .from) (r .to)
+          ∙ ap (λ (k : ℕ). into p (best (origins s v (traced (openingRow xs) all k (part (r .base) .base) (meets (copy (r .base) (r .met)) (part (r .base))))))) (sym (o .block)))
+          ∙ sym (intoAll-snoc (r .path) p (best found))
+
+      pub goes-on : {rows : List ℕ} {s v d : ℕ} (w : ℕ) → d < length rows → w ≡ b .row → Reaches xs t rows s v d c → Reaches xs t (set rows d w) s v (d + 1) next
+      goes-on {rows} {s} {v} {d} w room ew r =
+          let q : Part = part (r .base) in
+          let at : blockOn xs (set rows d (b .row)) (d + 1) ≡ useAt xs all (b .row) .block = rw (add-one d) (block-next xs rows d (b .row) room) in
+          rw ew
+          (record {
+            path = r .path ++ stepOf t (c .block) (b .row) ∷ [];
+            depth = length-append (r .path) (stepOf t (c .block) (b .row) ∷ []) ∙ ap (λ (n : ℕ). n + 1) (r .depth);
+            leading = next-leading r room;
+            block = o .block ∙ sym at;
+            base = q .base;
+            met = meets (copy (r .base) (r .met)) q;
+            sound = sound-as (o .block) (part-sound (r .sound) q (row-part g (led .row) (r .base) (r .met)));
+            from = join-is (r .base) (r .met) (b .from) (c .from) (next .from) (led .from-join) (led .from-cue) (o .from) ∙ r .from;
+            to = join-is (r .base) (r .met) (b .to) (c .to) (next .to) (led .to-join) (led .to-cue) (o .to) ∙ r .to;
+            rest = next-rest r;
+          })
+
+-- The level of a lead is small.
+pub lead-few : {xs t : List ℕ} (c : Pair) (b : Lead) → Loaded xs t → IsBlock xs (c .block) → BestLead xs t c b → b .level ≤ maxBlocks
+lead-few {xs} c b g h lead = go (ℕ-discrete (b .level) 0)
+  where
+    go : Dec (b .level ≡ 0) → b .level ≤ maxBlocks
+    go (yes e) = omega arith
+    go (no n) =
+        let o = lead .lead .led n in
+        let u = uses-use g h (o .row) in
+        omega (arith, level-small xs (loaded-show g .good) _ _ _ _ (o .level), u .lower, u .block, loaded-show g .blocks)

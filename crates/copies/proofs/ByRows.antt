@@ -78,7 +78,7 @@ module _ {xs t : List ℕ} (g : Loaded xs t) where
     shape : Steps top path × (1 ≤ q .own) × (q .own ≤ after top path .block .own)
     shape = steps-after bs (loaded-show g .good) (lastBlock bs) 0 [] path (q .own) (λ e. omega (arith, f .number, f .some))
 
-    step-is : (l : ℕ) → l < q .depth → stepOn xs t rows l ≡ getD path l 0
+    pub step-is : (l : ℕ) → l < q .depth → stepOn xs t rows l ≡ getD path l 0
     step-is l h = omega (arith, f .along .steps l (omega (arith, f .depth)))
 
     -- Along the rows, and along the path.
@@ -156,7 +156,7 @@ module _ {xs t : List ℕ} (g : Loaded xs t) where
     next-is l k = copy-suc xs t rows l ∙ ap (λ (z : Copy). part-copy z (part-at z (stepOn xs t rows l))) (levels l k .is)
 
     -- The own cue at the end, and its number.
-    end-after : copyOn xs t rows (q .depth) ≡ after top path
+    pub end-after : copyOn xs t rows (q .depth) ≡ after top path
     end-after = copy-after (q .depth) (omega arith) ∙ ap (after top) (ap (λ (n : ℕ). take n path) (f .depth) ∙ take-length path)
 
     pub own-bounds : (1 ≤ q .own) × (q .own ≤ copyOn xs t rows (q .depth) .block .own)
