@@ -179,7 +179,7 @@ module _ (xs : List ℕ) (k base : ℕ) (met : List ℕ) (g : Sound (copyOf (blo
           ∙ sym (ap ownBest (eq-else (l .from) x (ifEq (l .to) y r rest) rest e))
 
 -- A copy of a block that is given by another name.
-sound-as : {bs : List Block} {j k base : ℕ} {met : List ℕ} → j ≡ k → Sound (copyOf bs k base met) → Sound (copyOf bs j base met)
+pub sound-as : {bs : List Block} {j k base : ℕ} {met : List ℕ} → j ≡ k → Sound (copyOf bs k base met) → Sound (copyOf bs j base met)
 sound-as e s = rw e s
 
 -- The best link between two cues of a copy: that of its own row, or the one that the lead leads to.

@@ -140,8 +140,7 @@ loop-again c =
     let links = own .before in
     let at-loop = links .before in
     let pre = at-loop .before .before .before .before .pre in
-    let inv = at-loop .loop .inv in
-    (
+    let inv = at-loop .loop .inv in (
       length-set (at-loop .loop .rows) _ _ ∙ inv .0,
       may-walk (pre .0) _ (inv .1 .lead) (links .link-rows .ensures) _ (best .best-use .ensures) _ (own .own-row .ensures) _ (at-stays .stays .ensures) (test .if1 .left) _ (c .follow .ensures) _ (inv .1),
       λ s v r. goes-on (pre .0) _ (inv .1 .lead) (links .link-rows .ensures) _ (best .best-use .ensures) _ (own .own-row .ensures) _ (at-stays .stays .ensures) (test .if1 .left) _ (c .follow .ensures) _ (room-left (pre .0) _ (inv .1 .lead) (links .link-rows .ensures) _ (best .best-use .ensures) _ (own .own-row .ensures) _ (at-stays .stays .ensures) (test .if1 .left) (inv .1)) refl (inv .2 s v r),
