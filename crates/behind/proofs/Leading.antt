@@ -2,23 +2,22 @@
 use Prim.Native.Nat.{ℕ, suc, _+_, _-_, _≤_, _<_}
 use native.Mathlib.Omega.{arith}
 use mathlib.Core.Path.{_≡_, refl, sym, _∙_, ap, ap₂}
-use mathlib.Core.List.{List, [], map}
+use mathlib.Core.List.{List, map}
 use Rattle.model.specs.Blocks.{Use, Block, blockAt, ownOf, total, blocksOf}
 use Rattle.model.specs.Behind.{Origin, stepInto, usesTraced, traced, openingRow, origins, Behind, Missing, winner, best}
 use Rattle.basics.proofs.Choices.{eq-then}
 use Rattle.shows.specs.Copies.{Copy, number, copyOf}
 use Rattle.shows.specs.Origins.{into}
-use Rattle.shows.proofs.BlockAt.{ownOf-at}
 use Rattle.shows.proofs.Choosing.{winner-none, winner-assoc, best-append, best-into}
 use Rattle.shows.proofs.Origins.{uses-next}
 use Rattle.verdicts.specs.Index.{useAt, usesFrom}
-use Rattle.blocks.specs.Loaded.{Loaded, usesBegin, UseRows}
+use Rattle.blocks.specs.Loaded.{Loaded, UseRows}
 use Rattle.blocks.proofs.Loaded.{usesFrom-next}
 use Rattle.copies.specs.Copies.{innerBase}
 use Rattle.copies.proofs.Bases.{innerBase-begin, innerBase-on}
 use Rattle.behind.specs.declared.Pair.{Pair}
 use Rattle.behind.specs.declared.Lead.{Lead}
-use Rattle.behind.specs.Leads.{stepOf, UsesRow, IsLead, partBest, partsBest, ledTo, Tried, LeadsTo, BestLead}
+use Rattle.behind.specs.Leads.{stepOf, UsesRow, partBest, partsBest, ledTo, Tried, LeadsTo, BestLead}
 
 pub uses-row : {xs t : List ℕ} {k first end : ℕ} → UseRows xs t k first end → (r : ℕ) → first ≤ r → r < end → UsesRow xs t k r
 uses-row {first = first} {end = end} rows r x y = record { first = first; end = end; rows = rows; low = x; high = y }

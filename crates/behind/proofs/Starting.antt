@@ -2,33 +2,29 @@
 -- seen there has no link with it.
 use Prim.Native.Nat.{ℕ, zero, suc, _+_, _-_, _≤_, _<_}
 use native.Mathlib.Omega.{arith}
-use native.Mathlib.Decide.{decLt}
-use native.Mathlib.Numerals.{add-one}
 use mathlib.Core.Path.{_≡_, refl, sym, _∙_, ap, ap₂}
 use mathlib.Core.Logic.{_≢_, _⊎_, inl, inr}
 use mathlib.Core.Bool.{Bool, true, false}
-use mathlib.Core.List.{List, [], _∷_, _++_, map, List·Memᴰ}
-use lib.ListN.{length, getD, take, length-take}
+use mathlib.Core.List.{List, [], _∷_, _++_}
+use lib.ListN.{length, getD, take}
 use lib.Seq.{take-suc, take-length}
 use Rattle.model.specs.Choice.{ifTrue}
 use Rattle.model.specs.Limits.{maxDepth}
-use Rattle.model.specs.Blocks.{Link, Use, Block, blockAt, ownOf, total, lastBlock, blocksOf}
-use Rattle.model.specs.Unfolding.{links}
-use Rattle.model.specs.Behind.{Origin, stepInto, traced, openingRow, showTraced, origins, Behind, Missing, best, behind}
+use Rattle.model.specs.Blocks.{Link, Use, Block, blockAt, total, lastBlock, blocksOf}
+use Rattle.model.specs.Behind.{Origin, traced, openingRow, showTraced, origins, Missing, best, behind}
 use Rattle.basics.proofs.Members.{mem-at}
 use Rattle.shows.specs.WellFormed.{Cue}
-use Rattle.shows.specs.Copies.{Part, Copy, number, meets, extent, copyOf, Sound, IsPart, InCopy, part-copy, show-copy, part-at, after}
-use Rattle.shows.specs.Origins.{into, intoAll}
+use Rattle.shows.specs.Copies.{Part, Copy, number, meets, copyOf, Sound, IsPart, InCopy, part-copy, part-at}
+use Rattle.shows.specs.Origins.{intoAll}
 use Rattle.shows.proofs.Ranges.{Within, inner, join, links-within, part-range, cueAt-own, cueAt-join}
 use Rattle.shows.proofs.BlockAt.{total-at, joinsOf-at}
-use Rattle.shows.proofs.Locality.{part-sound, part-total, numbered-cases}
+use Rattle.shows.proofs.Locality.{part-sound, numbered-cases}
 use Rattle.shows.proofs.Trails.{part-at-part}
 use Rattle.shows.proofs.Tracing.{traced-links}
 use Rattle.shows.proofs.Choosing.{best-into}
-use Rattle.shows.proofs.Origins.{Joins, origins-none, only-part, part-origins}
-use Rattle.verdicts.specs.Index.{useAt}
+use Rattle.shows.proofs.Origins.{Joins, origins-none, only-part}
 use Rattle.blocks.specs.declared.Place.{Place}
-use Rattle.blocks.specs.Loaded.{Loaded, IsBlock, usesBegin}
+use Rattle.blocks.specs.Loaded.{Loaded}
 use Rattle.blocks.specs.Places.{blockOn, UsesTo, Found}
 use Rattle.blocks.proofs.Loaded.{loaded-show}
 use Rattle.copies.specs.declared.Frame.{Frame}

@@ -5,27 +5,25 @@ use native.Mathlib.Decide.{ℕ-discrete}
 use mathlib.Core.Path.{_≡_, refl, sym, _∙_, ap, ap₂}
 use mathlib.Core.Logic.{_≢_, inl, inr}
 use mathlib.Core.Bool.{Bool, true, false, false≢true}
-use mathlib.Core.List.{List, [], _∷_, map, List·Memᴰ}
+use mathlib.Core.List.{List}
 use lib.ListN.{length, getD}
-use Rattle.model.specs.Choice.{ifEq}
-use Rattle.model.specs.Blocks.{Use, Block, blockAt, joinsOf, ownOf, blocksOf}
-use Rattle.model.specs.Behind.{Origin, traced, openingRow, origins, depthWins, Behind, Stands, Missing, winner, best}
+use Rattle.model.specs.Blocks.{Block, joinsOf, ownOf, blocksOf}
+use Rattle.model.specs.Behind.{Origin, openingRow, depthWins, Behind, Stands, Missing, winner, best}
 use Rattle.basics.proofs.Choices.{eq-then, eq-else}
 use Rattle.basics.proofs.Members.{mem-at}
-use Rattle.shows.specs.WellFormed.{Cue}
-use Rattle.shows.specs.Copies.{Part, Copy, number, meets, copyOf, Sound, IsPart}
+use Rattle.shows.specs.Copies.{Part, Copy, meets, copyOf, Sound, IsPart}
 use Rattle.shows.specs.Origins.{into}
 use Rattle.shows.proofs.Locality.{part-sound}
 use Rattle.shows.proofs.Choosing.{winner-none, depth-step, into-first, into-second}
-use Rattle.shows.proofs.Origins.{part-unmet, part-origins}
+use Rattle.shows.proofs.Origins.{part-unmet}
 use Rattle.verdicts.specs.Index.{useAt}
 use Rattle.blocks.specs.Loaded.{Loaded, IsBlock, UseRow, IsJoinAt}
 use Rattle.blocks.proofs.Loaded.{use-row}
-use Rattle.blocks.proofs.Meeting.{use-many, use-arity, use-meets, use-apart}
+use Rattle.blocks.proofs.Meeting.{use-many, use-meets, use-apart}
 use Rattle.copies.specs.Copies.{innerBase}
 use Rattle.copies.proofs.Bases.{inner-part}
 use Rattle.levels.specs.Levels.{level, levelAt}
-use Rattle.levels.specs.Tables.{IsLevel, joinCue, Levels, usedJoins}
+use Rattle.levels.specs.Tables.{IsLevel, joinCue, usedJoins}
 use Rattle.levels.proofs.Best.{join-meets}
 use Rattle.behind.specs.declared.Pair.{Pair}
 use Rattle.behind.specs.declared.Lead.{Lead}

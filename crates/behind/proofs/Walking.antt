@@ -1,7 +1,7 @@
 -- The walk from copy to copy: where it ends, the copy's own row is the best one; else it goes on into the part that the lead leads to.
 use Prim.Native.Nat.{ℕ, zero, suc, _+_, _-_, _≤_, _<_}
 use native.Mathlib.Omega.{arith}
-use native.Mathlib.Decide.{ℕ-discrete, decLt}
+use native.Mathlib.Decide.{ℕ-discrete}
 use native.Mathlib.Numerals.{add-one}
 use mathlib.Core.Path.{_≡_, refl, sym, _∙_, ap, ap₂}
 use mathlib.Core.Logic.{_≢_, _⊎_, inl, inr}
@@ -9,13 +9,13 @@ use mathlib.Core.Bool.{Bool, true, false, false≢true}
 use mathlib.Core.List.{List, [], _∷_, _++_, List·Memᴰ, List·Memᴰ·head, List·Memᴰ·tail}
 use lib.ListN.{length, getD, set, length-set, length-append, List·getD-append}
 use lib.Seq.{getD-append-seam, getD-set-same, getD-set-other}
-use Rattle.model.specs.Choice.{ifEq, ifTrue}
+use Rattle.model.specs.Choice.{ifEq}
 use Rattle.model.specs.Limits.{maxBlocks, maxRows, maxDepth}
-use Rattle.model.specs.Blocks.{Link, Block, blockAt, joinsOf, ownOf, blocksOf}
+use Rattle.model.specs.Blocks.{Link, Block, blockAt, ownOf, blocksOf}
 use Rattle.model.specs.Behind.{Origin, stepInto, rowsTraced, traced, openingRow, origins, depthWins, Behind, Stands, Missing, winner, best, behind}
 use Rattle.basics.proofs.Choices.{eq-then, eq-else, true-then, true-else}
 use Rattle.shows.specs.WellFormed.{Cue, GoodLink}
-use Rattle.shows.specs.Copies.{Part, Copy, number, meets, copyOf, Sound, part-copy}
+use Rattle.shows.specs.Copies.{Part, Copy, number, meets, copyOf, Sound}
 use Rattle.shows.specs.Origins.{into, intoAll, own-row}
 use Rattle.shows.proofs.BlockAt.{ownOf-at, joinsOf-at}
 use Rattle.shows.proofs.Locality.{part-sound}
@@ -24,7 +24,7 @@ use Rattle.shows.proofs.Origins.{copy-origins, own-origins, parts-origins}
 use Rattle.verdicts.specs.Index.{useAt, linksFrom}
 use Rattle.blocks.specs.Loaded.{Loaded, IsBlock, LinkRows, usesBegin, UseRow}
 use Rattle.blocks.proofs.Loaded.{loaded-show}
-use Rattle.blocks.specs.Places.{blockOn, UsesTo, Takes, Along}
+use Rattle.blocks.specs.Places.{blockOn, Takes}
 use Rattle.copies.specs.Copies.{innerBase}
 use Rattle.levels.specs.Tables.{joinCue, usedJoins}
 use Rattle.levels.proofs.Best.{here, own-next, join-meets}

@@ -26,12 +26,10 @@ ghost use Prim.Native.Nat.{_+_, _-_, _≤_, _<_};
 ghost use lib.ListN.{length};
 ghost use Rattle.model.specs.Limits.{maxJoins, maxBlocks, maxRows, maxDepth};
 ghost use Rattle.model.specs.Rows.{rowCount};
-ghost use Rattle.model.specs.Blocks.{blocksOf};
 ghost use Rattle.verdicts.specs.Index.{linksFrom};
-ghost use Rattle.blocks.specs.Loaded.{Loaded, IsBlock, UseRow};
+ghost use Rattle.blocks.specs.Loaded.{Loaded};
 ghost use Rattle.blocks.specs.Places.{Found};
-ghost use Rattle.copies.specs.Copies.{IsCopy, framed};
-ghost use Rattle.levels.specs.Tables.{Levels};
+ghost use Rattle.copies.specs.Copies.{IsCopy};
 ghost use Rattle.behind.specs.Leads.{rowBetween, beatsLevel, staysHere, MayLead, UsesRow, IsLead, Tried, BestLead, MayFollow, Followed};
 ghost use Rattle.behind.specs.Ways.{SeenAs, IsMet, MayWalk, Walked, RowBehind, sourceOf, targetOf};
 

@@ -1,5 +1,5 @@
 -- What estimates tell of distances in the copies that rows of uses lead to.
-use Prim.Native.Nat.{ℕ, zero, suc, _+_, _*_, _-_, _≤_, _<_}
+use Prim.Native.Nat.{ℕ, _+_, _*_, _-_, _≤_, _<_}
 use mathlib.Core.Path.{_≡_}
 use mathlib.Core.Logic.{_≢_}
 use mathlib.Core.List.{List}
@@ -7,11 +7,10 @@ use lib.ListN.{getD}
 use Rattle.model.specs.Limits.{maxBlocks, noChain, summaryWidth}
 use Rattle.model.specs.Blocks.{blockAt, blocksOf}
 use Rattle.shows.specs.WellFormed.{Cue}
-use Rattle.shows.specs.Copies.{Copy, number, all-links, InCopy, part-copy, show-copy, part-at}
+use Rattle.shows.specs.Copies.{Copy, number, all-links, InCopy, show-copy}
 use Rattle.distances.specs.Walks.{each-one}
 use Rattle.distances.specs.Tells.{Tells, FromPart}
 use Rattle.verdicts.specs.Index.{useAt}
-use Rattle.blocks.specs.Loaded.{usesBegin}
 use Rattle.blocks.specs.Places.{blockOn}
 use Rattle.blocks.specs.declared.Place.{Place}
 use Rattle.estimates.specs.Starts.{Beginnings, Cell}

@@ -1,28 +1,28 @@
 -- The level of the best link between two cues of a copy is what the copy's links and uses make of none, one after another.
-use Prim.Native.Nat.{ℕ, zero, suc, _+_, _-_, _≤_, _<_}
+use Prim.Native.Nat.{ℕ, suc, _+_, _-_, _<_}
 use native.Mathlib.Omega.{arith}
 use native.Mathlib.Decide.{ℕ-discrete, decLt}
-use mathlib.Core.Path.{_≡_, refl, sym, _∙_, ap, ap₂}
+use mathlib.Core.Path.{_≡_, refl, sym, _∙_, ap}
 use mathlib.Core.Logic.{_⊎_, inl, inr}
 use mathlib.Core.Bool.{Bool, true, false, cond}
-use mathlib.Core.List.{List, [], _∷_, _++_, map, List·Memᴰ, List·Memᴰ·head, List·Memᴰ·tail, List·Memᴰ·not-nil, List·Memᴰ·cases-cons}
-use lib.ListN.{length, getD, length-map}
+use mathlib.Core.List.{List, [], _∷_, map, List·Memᴰ, List·Memᴰ·head, List·Memᴰ·tail, List·Memᴰ·not-nil, List·Memᴰ·cases-cons}
+use lib.ListN.{length, getD}
 use lib.Dec.{eqb}
-use Rattle.model.specs.Choice.{ifLt, ifEq, ifTrue}
+use Rattle.model.specs.Choice.{ifEq, ifTrue}
 use Rattle.model.specs.Rules.{distinct}
 use Rattle.model.specs.Blocks.{Link, Use, Block, blockAt, joinsOf, ownOf, blocksOf, total}
 use Rattle.model.specs.Unfolding.{renamed}
-use Rattle.model.specs.Behind.{Origin, Traced, stepInto, traced, rowsTraced, usesTraced, origins, depthWins, better, Behind, Stands, Missing, winner, best, openingRow}
+use Rattle.model.specs.Behind.{Origin, Traced, stepInto, traced, rowsTraced, usesTraced, origins, depthWins, Behind, Stands, Missing, winner, best, openingRow}
 use Rattle.basics.proofs.Choices.{eq-then, eq-else, lt-then, lt-else, true-then, true-else}
-use Rattle.basics.proofs.Members.{getD-mem, mem-at, getD-map-in, distinct-apart}
-use Rattle.shows.specs.WellFormed.{Cue, GoodLink, GoodUse}
+use Rattle.basics.proofs.Members.{getD-mem, getD-map-in, distinct-apart}
+use Rattle.shows.specs.WellFormed.{Cue, GoodLink}
 use Rattle.shows.specs.Copies.{Part, partsFrom, Copy, number, meets, copyOf, Sound, IsPart, part-copy}
 use Rattle.shows.proofs.Ranges.{cueAt-join, partsFrom-use, part-use}
 use Rattle.shows.proofs.BlockAt.{ownOf-at, lower-at}
 use Rattle.shows.proofs.Locality.{number-apart, part-sound}
 use Rattle.shows.specs.Origins.{into, own-row}
 use Rattle.shows.proofs.Choosing.{winner-none, winner-assoc, best-append, best-into, depth-step, level-first, level-second}
-use Rattle.shows.proofs.Origins.{Joins, joins?, origins-hit, origins-skip, uses-next, copy-origins, part-unmet, own-origins, parts-origins, part-origins}
+use Rattle.shows.proofs.Origins.{Joins, origins-hit, origins-skip, uses-next, copy-origins, part-unmet, own-origins, parts-origins, part-origins}
 use Rattle.levels.specs.Levels.{level, betterLevel, oneMore, originsIn, positionOf, levelAt, linkLevel, linksLevel, useLevel, usesLevel}
 use Rattle.levels.specs.Tables.{joinCue, Levels}
 

@@ -7,12 +7,11 @@ use mathlib.Core.Logic.{_≢_}
 use mathlib.Core.List.{List}
 use lib.ListN.{length, getD, set, length-set}
 use lib.Seq.{getD-set-same, getD-set-other}
-use Rattle.model.specs.Choice.{ifEq, ifTrue}
+use Rattle.model.specs.Choice.{ifEq}
 use Rattle.model.specs.Limits.{maxJoins}
-use Rattle.model.specs.Behind.{depthWins}
 use Rattle.basics.proofs.Choices.{eq-then, eq-else}
 use Rattle.levels.specs.Levels.{betterLevel, pairsSize, levelAt}
-use Rattle.levels.specs.Tables.{joinCue, Going, done, Changed, putLevel, HasPairs}
+use Rattle.levels.specs.Tables.{joinCue, Going, Changed, putLevel, HasPairs}
 
 pub going-begin : (k own : ℕ) (rest whole : ℕ → ℕ → ℕ → ℕ) (m : List ℕ) → ((x y n : ℕ) → rest x y n ≡ whole x y n) → Going k own rest whole m m
 going-begin k own rest whole m e = record { long = refl; here = λ i j a b. e (joinCue own i) (joinCue own j) _; else = λ b i j n x y. refl }

@@ -2,18 +2,17 @@
 use Prim.Native.Nat.{ℕ, zero, suc, _+_, _≤_, _<_}
 use native.Mathlib.Omega.{arith}
 use native.Mathlib.Decide.{ℕ-discrete}
-use mathlib.Core.Path.{_≡_, refl, sym, _∙_, ap}
+use mathlib.Core.Path.{_≡_, refl}
 use mathlib.Core.Logic.{_⊎_, inl, inr}
 use mathlib.Core.Bool.{Bool, true, false}
-use mathlib.Core.List.{List, [], _∷_, _++_, map, List·Memᴰ, List·Memᴰ·head, List·Memᴰ·tail, List·Memᴰ·cases-cons, List·Memᴰ·append-cases, List·Memᴰ·not-nil}
+use mathlib.Core.List.{List, [], _∷_, _++_, map, List·Memᴰ, List·Memᴰ·head, List·Memᴰ·tail, List·Memᴰ·append-cases, List·Memᴰ·not-nil}
 use lib.ListN.{length}
 use lib.Dec.{eqb}
 use borrow.Author.Tests.{eqb-true}
 use Rattle.model.specs.Choice.{ifEq, ifTrue}
-use Rattle.model.specs.Limits.{maxJoins, maxBlocks}
 use Rattle.model.specs.Blocks.{Link, Use, Block, joinsOf, blocksOf, total}
 use Rattle.model.specs.Lists.{range}
-use Rattle.model.specs.Behind.{Traced, tracedInto, stepInto, rowsTraced, usesTraced, traced, origins, depthWins, Stands, winner, best}
+use Rattle.model.specs.Behind.{Traced, tracedInto, stepInto, rowsTraced, usesTraced, traced, origins, depthWins, Stands, best}
 use Rattle.basics.proofs.Choices.{eq-then, eq-else, true-then, true-else}
 use Rattle.basics.proofs.Members.{map-mem}
 use Rattle.shows.specs.WellFormed.{Good, more}
@@ -24,7 +23,7 @@ use Rattle.shows.proofs.Origins.{joins?, Joins, origins-hit, origins-skip}
 use Rattle.verdicts.specs.Index.{useAt}
 use Rattle.blocks.specs.Loaded.{Loaded, UseRow}
 use Rattle.blocks.proofs.Loaded.{loaded-show}
-use Rattle.levels.specs.Levels.{level, betterLevel, pairsSize}
+use Rattle.levels.specs.Levels.{level, betterLevel}
 use Rattle.levels.specs.Tables.{IsLevel, Levels, MayLift}
 use Rattle.levels.proofs.Best.{level-winner}
 

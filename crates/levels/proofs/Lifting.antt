@@ -17,7 +17,7 @@ use Rattle.blocks.proofs.Loaded.{linksFrom-next, usesFrom-next}
 use Rattle.levels.specs.Levels.{betterLevel, oneMore, positionOf, levelAt, linkLevel, linksLevel, useLevel, usesLevel}
 use Rattle.levels.specs.Tables.{joinCue, Going, Changed, putLevel, usedJoins, MayLift, linksPut, usesLift, useLift, joinLift, pairLift}
 use Rattle.levels.proofs.Changes.{going-begin, going-on, going-done, changed-as}
-use Rattle.levels.proofs.Best.{position-found, position-named, position-is, none-left}
+use Rattle.levels.proofs.Best.{position-found, position-is, none-left}
 
 -- A link.
 pub put-link : (xs : List ℕ) (r a b x y n : ℕ) → a ≡ linkAt xs r .from → b ≡ linkAt xs r .to

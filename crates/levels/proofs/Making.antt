@@ -5,14 +5,13 @@ use native.Mathlib.Decide.{ℕ-discrete}
 use mathlib.Core.Path.{_≡_, refl, sym, _∙_, ap}
 use mathlib.Core.List.{List}
 use lib.ListN.{length, getD, replicate, length-replicate}
-use Rattle.model.specs.Limits.{maxJoins, maxBlocks}
+use Rattle.model.specs.Limits.{maxJoins}
 use Rattle.model.specs.Blocks.{joinsOf, ownOf, blocksOf}
-use Rattle.shows.specs.WellFormed.{Cue}
 use Rattle.shows.proofs.AtBlock.{joins-small}
 use Rattle.shows.proofs.BlockAt.{ownOf-at, joinsOf-at}
 use Rattle.blocks.specs.Loaded.{Loaded, IsBlock}
 use Rattle.blocks.proofs.Loaded.{loaded-show}
-use Rattle.levels.specs.Levels.{pairsSize, tableSize, levelAt, linksLevel, usesLevel}
+use Rattle.levels.specs.Levels.{pairsSize, tableSize, levelAt}
 use Rattle.levels.specs.Tables.{IsLevel, joinCue, Levels, Fresh, Going, Changed, HasPairs, linksPut, usesLift}
 use Rattle.levels.proofs.Best.{copy-level}
 

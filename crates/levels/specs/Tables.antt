@@ -4,9 +4,9 @@ use mathlib.Core.Path.{_≡_}
 use mathlib.Core.Logic.{_≢_}
 use mathlib.Core.List.{List}
 use lib.ListN.{length}
-use Rattle.model.specs.Choice.{ifLt, ifEq}
+use Rattle.model.specs.Choice.{ifEq}
 use Rattle.model.specs.Limits.{maxJoins, maxBlocks}
-use Rattle.model.specs.Blocks.{Use, blockAt, joinsOf, ownOf, blocksOf}
+use Rattle.model.specs.Blocks.{blockAt, joinsOf, ownOf, blocksOf}
 use Rattle.model.specs.Behind.{best, openingRow}
 use Rattle.shows.specs.Copies.{copyOf, Sound}
 use Rattle.verdicts.specs.Index.{useAt}

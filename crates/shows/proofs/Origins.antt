@@ -5,18 +5,18 @@ use native.Mathlib.Omega.{arith}
 use native.Mathlib.Decide.{ℕ-discrete}
 use mathlib.Core.Path.{_≡_, refl, sym, _∙_, ap, ap₂}
 use mathlib.Core.Logic.{_⊎_, inl, inr}
-use mathlib.Core.List.{List, [], _∷_, _++_, map, List·Memᴰ, List·Memᴰ·head, List·Memᴰ·tail, List·Memᴰ·not-nil}
+use mathlib.Core.List.{List, [], _∷_, _++_, map, List·Memᴰ, List·Memᴰ·head, List·Memᴰ·tail}
 use lib.ListN.{length, take}
 use Rattle.model.specs.Choice.{ifEq}
 use Rattle.model.specs.Blocks.{Link, Use, Block, sumOver, total}
-use Rattle.model.specs.Unfolding.{links, renamed}
-use Rattle.model.specs.Behind.{Origin, Traced, stepInto, tracedInto, rowsTraced, usesTraced, traced, origins, Behind, Stands, Missing, winner, best}
+use Rattle.model.specs.Unfolding.{links}
+use Rattle.model.specs.Behind.{Origin, Traced, stepInto, tracedInto, usesTraced, traced, origins}
 use Rattle.basics.proofs.Choices.{eq-then, eq-else}
-use Rattle.basics.proofs.Members.{map-mem, mem-map}
+use Rattle.basics.proofs.Members.{map-mem}
 use Rattle.shows.specs.WellFormed.{Cue}
-use Rattle.shows.specs.Copies.{Part, partsFrom, Copy, number, own-links, meets, size, copyOf, Sound, IsPart, InCopy, part-copy, nthUse, part-at}
+use Rattle.shows.specs.Copies.{Part, partsFrom, Copy, number, meets, size, copyOf, Sound, IsPart, InCopy, part-copy, nthUse, part-at}
 use Rattle.shows.proofs.Ranges.{Within, inner, join, partsFrom-range, Inside, links-within, Own, own-own, number-own, meets-own, part-use, arity}
-use Rattle.shows.proofs.Locality.{part-own, not-inside, number-apart, part-total}
+use Rattle.shows.proofs.Locality.{not-inside, number-apart, part-total}
 use Rattle.shows.proofs.Trails.{part-at-part}
 use Rattle.shows.proofs.Tracing.{link-of, rows-links, own-traced, parts-traced, traced-at, traced-links}
 

@@ -1,7 +1,6 @@
 -- `try_use`: the use meets both cues and its level is better, or the lead stays.
 use borrow.Author.Needs.{needs}
 use native.Mathlib.Omega.{arith}
-use borrow.Author.Tests.{not-true, not-false}
 use Rattle.blocks.proofs.Loaded.{loaded-show, used-block}
 use Rattle.behind.proofs.Trying.{uses-use, unmet-from, unmet-to, tried-better, tried-worse}
 use Rattle.behind.proofs.try_use.Statement.{statement}

@@ -1,8 +1,6 @@
 -- `walk`: each turn ends in the copy or goes on into a part of it, of a lower block.
-use borrow.Author.Needs.{needs}
 use Prim.Native.Nat.{ℕ}
 use native.Mathlib.Omega.{arith}
-use borrow.Author.Tests.{not-true, not-false}
 use mathlib.Core.Path.{_≡_, refl, _∙_}
 use lib.ListN.{length, length-set}
 use Rattle.behind.specs.Ways.{MayWalk, Reaches}

@@ -3,7 +3,6 @@ use borrow.Author.Needs.{needs}
 use Prim.Native.Nat.{_-_, _≤_}
 use native.Mathlib.Omega.{arith}
 use mathlib.Core.Path.{_≡_, sym, _∙_}
-use lib.ListN.{length}
 use Rattle.levels.specs.Tables.{Levels, Fresh}
 use Rattle.levels.proofs.Making.{none-long, none-made}
 use Rattle.levels.proofs.levels.Statement.{statement}

@@ -2,7 +2,6 @@
 use borrow.Author.Needs.{needs}
 use Prim.Native.Nat.{_-_, _≤_}
 use native.Mathlib.Omega.{arith}
-use mathlib.Core.Path.{_≡_}
 use Rattle.levels.specs.Tables.{Going, joinLift}
 use Rattle.levels.proofs.Lifting.{joinRest, may-on, join-begin, join-on, join-done, join-own}
 use Rattle.levels.proofs.lift_join.Statement.{statement}

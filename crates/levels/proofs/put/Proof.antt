@@ -1,6 +1,5 @@
 -- `put`: one store, or none where one of the cues is no join.
 use borrow.Author.Needs.{needs}
-use native.Mathlib.Omega.{arith}
 use Rattle.levels.proofs.Changes.{put-own-a, put-own-b, put-far-a, put-far-b, put-there}
 use Rattle.levels.proofs.put.Statement.{statement}
 use Rattle.levels.proofs.put.Tie as tie
