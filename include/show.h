@@ -31,9 +31,9 @@
 #include <stdint.h>
 
 /* The version of this header and of the library. The second number is raised by each change of what the functions answer. */
-#define SHOW_VERSION "0.2.0"
+#define SHOW_VERSION "0.3.0"
 #define SHOW_VERSION_MAJOR 0
-#define SHOW_VERSION_MINOR 2
+#define SHOW_VERSION_MINOR 3
 #define SHOW_VERSION_PATCH 0
 
 /* A compiler that can warns where what a function returns is not looked at. */
@@ -84,7 +84,8 @@ enum {
     SHOW_TOO_MANY_CUES = 10, /* a block that stands for over SHOW_MAX_CUES cues; place: its opening's row (line) */
     SHOW_TOO_SHORT = 11,     /* a lent output, path list, work area or `given` */
     SHOW_NO_SUCH_CUE = 12,   /* a cue number of 0 or above the count */
-    SHOW_NO_SUCH_PATH = 13   /* a path that leads nowhere, or an own cue that its block does not have */
+    SHOW_NO_SUCH_PATH = 13,  /* a path that leads nowhere, or an own cue that its block does not have */
+    SHOW_NO_SUCH_LINK = 14   /* no link leads from the one cue to the other */
 };
 
 /* The number and the place of what a function returned. */
@@ -108,6 +109,7 @@ static inline const char *show_refusal_text(uint32_t refusal) {
     case SHOW_TOO_SHORT: return "a lent list is too short";
     case SHOW_NO_SUCH_CUE: return "the show has no cue of this number";
     case SHOW_NO_SUCH_PATH: return "no copy has this path, or its block has no such own cue";
+    case SHOW_NO_SUCH_LINK: return "no link leads from the one cue to the other";
     default: return "an unknown refusal";
     }
 }
@@ -177,6 +179,20 @@ SHOW_NODISCARD uint64_t show_list_in(const uint32_t *rows, size_t rows_len, uint
  *              found took 78 ms. Stack: 21 kB. */
 SHOW_NODISCARD uint64_t show_fewest(const uint32_t *rows, size_t rows_len, uint32_t s, uint32_t t, uint32_t *work, size_t work_len,
                                     uint32_t *given, size_t given_len);
+
+/* The row behind a follow-on that a list shows: a link row that joins cue s to cue t, and the copy of its block in which it does.
+ *   given      row (from 1; of a file: line row + 1), depth of that copy
+ *   path       output: the path of that copy, depth numbers, each the position of a use in its block, from 1. At least SHOW_PATH_LEN,
+ *              whatever the depth.
+ *   Which one  Each copy counts whose block sees both cues, as own cues or as joins, and each label. Of several rows the one with the
+ *              shortest path is given; of equal lengths, the path that is smaller at the first step where they differ; then the
+ *              smaller row.
+ *   Editing    The row's numbers are 11 * (row - 1) and on. A row is written once for all copies of its block, so what is changed
+ *              there changes in each of them, and another row may join s to t as well.
+ *   Refusals   4, 5 to 10 with rows as places, 11 for path or given, 12 for s or t, then 14, so always where s is t.
+ *   Cost       one to three times show_count. Stack: about 15 kB. */
+SHOW_NODISCARD uint64_t show_row(const uint32_t *rows, size_t rows_len, uint32_t s, uint32_t t, uint32_t *path, size_t path_len,
+                                 uint32_t *given, size_t given_len);
 
 #ifdef __cplusplus
 }

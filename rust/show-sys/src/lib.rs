@@ -125,4 +125,16 @@ extern "C" {
         given: *mut u32,
         given_len: usize,
     ) -> u64;
+
+    /// The link row that joins cue s to cue t, and the copy in which it stands. given: row, depth.
+    pub fn show_row(
+        rows: *const u32,
+        rows_len: usize,
+        s: u32,
+        t: u32,
+        path: *mut u32,
+        path_len: usize,
+        given: *mut u32,
+        given_len: usize,
+    ) -> u64;
 }

@@ -73,6 +73,16 @@ pub struct Located<'p> {
     pub own: u32,
 }
 
+/// Where a link of the unfolded show comes from: a link row, in a copy of its block.
+#[derive(Clone, Copy, Debug, PartialEq, Eq)]
+pub struct Origin<'p> {
+    /// The row, from 1. In a file that was read it is line row + 1.
+    pub row: u32,
+    /// The uses that lead to the copy, each by its position in its block, from 1. Its length is
+    /// the depth.
+    pub path: &'p [u32],
+}
+
 /// A page of a list of cues.
 #[derive(Clone, Copy, Debug, PartialEq, Eq)]
 pub struct Page<'p> {
@@ -242,6 +252,53 @@ impl<'a> Rows<'a> {
         };
         let [found, steps, _] = ask(call, Place::Row)?;
         Ok((found == 1).then_some(steps))
+    }
+
+    /// The row behind the follow-on from cue `s` to cue `t`: a link row that joins them, and the copy
+    /// of its block in which it does. The path of that copy goes to the beginning of `path`, which has
+    /// at least [`PATH_LEN`] numbers, or it is [`Refused::TooShort`]. Also [`Refused::NoSuchCue`], of
+    /// `s` or `t`, and [`Refused::NoSuchLink`], so always where `s` is `t`.
+    ///
+    /// Each copy counts whose block sees both cues, as own cues or as joins, and each label. Of several
+    /// rows the one with the shortest path is given; of equal lengths, the path that is smaller at the
+    /// first step where they differ; then the smaller row.
+    ///
+    /// A row is written once for all copies of its block: what is changed there changes in each.
+    ///
+    /// ```
+    /// use show::{Refused, Rows, PATH_LEN};
+    ///
+    /// // Block 0 links its joins with label 7. The show has three own cues and uses block 0 twice.
+    /// let mut numbers = [
+    ///     [0, 0, 2, 0, 0, 0, 0, 0, 0, 0, 0],
+    ///     [0, 1, 7, 1, 2, 0, 0, 0, 0, 0, 0],
+    ///     [1, 0, 0, 3, 0, 0, 0, 0, 0, 0, 0],
+    ///     [1, 1, 1, 3, 1, 0, 0, 0, 0, 0, 0],
+    ///     [1, 2, 0, 1, 2, 0, 0, 0, 0, 0, 0],
+    ///     [1, 2, 0, 2, 3, 0, 0, 0, 0, 0, 0],
+    /// ];
+    /// let rows = Rows::new(numbers.as_flattened());
+    /// let mut path = [0; PATH_LEN];
+    /// let here = rows.row(3, 1, &mut path)?;
+    /// assert_eq!((here.row, here.path), (4, &[][..]));
+    /// assert_eq!(rows.row(1, 3, &mut path), Err(Refused::NoSuchLink));
+    /// let below = rows.row(2, 3, &mut path)?;
+    /// assert_eq!((below.row, below.path), (2, &[2][..]));
+    ///
+    /// // Another label, in both copies of block 0.
+    /// let label = &mut numbers[below.row as usize - 1][2];
+    /// assert_eq!(*label, 7);
+    /// *label = 8;
+    /// # Ok::<(), show::Refused>(())
+    /// ```
+    pub fn row<'p>(&self, s: u32, t: u32, path: &'p mut [u32]) -> Result<Origin<'p>, Refused> {
+        let (rows, rows_len) = self.lent();
+        let (len, to) = (path.len(), path.as_mut_ptr());
+        let call = |given, given_len| unsafe {
+            show_sys::show_row(rows, rows_len, s, t, to, len, given, given_len)
+        };
+        let [row, depth, _] = ask(call, Place::Row)?;
+        Ok(Origin { row, path: &path[..depth as usize] })
     }
 
     fn list<'p>(

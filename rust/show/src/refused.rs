@@ -44,6 +44,8 @@ pub enum Refused {
     NoSuchCue,
     /// 13: no path of this show, or no own cue of the block at its end.
     NoSuchPath,
+    /// 14: no link leads from the one cue to the other.
+    NoSuchLink,
     /// A refusal that this version of the crate does not know.
     Other {
         /// Its number.
@@ -71,6 +73,7 @@ impl Refused {
             11 => Refused::TooShort,
             12 => Refused::NoSuchCue,
             13 => Refused::NoSuchPath,
+            14 => Refused::NoSuchLink,
             _ => Refused::Other { number, place },
         }
     }
@@ -91,6 +94,7 @@ impl Refused {
             Refused::TooShort => 11,
             Refused::NoSuchCue => 12,
             Refused::NoSuchPath => 13,
+            Refused::NoSuchLink => 14,
             Refused::Other { number, .. } => number,
         }
     }
@@ -130,6 +134,7 @@ impl Refused {
             Refused::TooShort => "a lent list is too short",
             Refused::NoSuchCue => "the show has no cue of this number",
             Refused::NoSuchPath => "no copy has this path, or its block has no such own cue",
+            Refused::NoSuchLink => "no link leads from the one cue to the other",
             Refused::Other { .. } => "an unknown refusal",
         }
     }

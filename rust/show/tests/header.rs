@@ -64,6 +64,7 @@ fn refusals() {
         ("SHOW_TOO_SHORT", Refused::TooShort),
         ("SHOW_NO_SUCH_CUE", Refused::NoSuchCue),
         ("SHOW_NO_SUCH_PATH", Refused::NoSuchPath),
+        ("SHOW_NO_SUCH_LINK", Refused::NoSuchLink),
     ];
     for ((name, refused), number) in refusals.into_iter().zip(1..) {
         assert_eq!((value(name), refused.number()), (number, number as u32));

@@ -34,8 +34,8 @@ const ANSWERS: &[(&[&str], &str)] = &[
     (&["picture", RING], BLOCKS),
     (&["picture", "--unfolded", RING], UNFOLDED),
     (&["picture", RING, "--unfolded"], UNFOLDED),
-    (&["--version"], "show 0.2.0\n"),
-    (&["-V"], "show 0.2.0\n"),
+    (&["--version"], "show 0.3.0\n"),
+    (&["-V"], "show 0.3.0\n"),
 ];
 
 #[test]
