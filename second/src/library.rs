@@ -4,7 +4,7 @@
 
 use crate::subject::Subject;
 
-/// The shape of the questions on two numbers: lists and fewest.
+/// The shape of the questions on two numbers: lists, fewest and row.
 type Pair =
     unsafe extern "C" fn(*const u32, usize, u32, u32, *mut u32, usize, *mut u32, usize) -> u64;
 
@@ -68,7 +68,11 @@ pub fn fewest(rows: &[u32], s: u32, t: u32, work: &mut [u32], given: &mut [u32])
     pair(show_sys::show_fewest, rows, (s, t), work, given)
 }
 
+pub fn row(rows: &[u32], s: u32, t: u32, path: &mut [u32], given: &mut [u32]) -> u64 {
+    pair(show_sys::show_row, rows, (s, t), path, given)
+}
+
 /// The library's functions.
 pub fn subject() -> Subject {
-    Subject { read, write, count, locate, number, list_out, list_in, fewest }
+    Subject { read, write, count, locate, number, list_out, list_in, fewest, row }
 }

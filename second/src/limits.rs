@@ -24,6 +24,8 @@ pub const STRIDE: usize = JOINS * JOINS;
 pub const GIVEN: usize = 3;
 /// The summary of a pair of joins with no chain.
 pub const NO_CHAIN: u32 = u32::MAX;
+/// The highest number of a refusal.
+pub const REFUSALS: usize = 14;
 /// The first line of a file.
 pub const NAMES: &[u8] = b"block,kind,label,a,b,c,d,e,f,g,h\n";
 

@@ -18,6 +18,7 @@ pub enum Question {
     Number { path: Vec<u32>, own: u32 },
     List { outward: bool, v: u32, n: u32, room: usize },
     Fewest { s: u32, t: u32, room: usize },
+    Row { s: u32, t: u32, room: usize },
 }
 
 impl Question {
@@ -28,7 +29,8 @@ impl Question {
             | Question::Write { room }
             | Question::Locate { room, .. }
             | Question::List { room, .. }
-            | Question::Fewest { room, .. } => room,
+            | Question::Fewest { room, .. }
+            | Question::Row { room, .. } => room,
             Question::Count | Question::Number { .. } => 0,
         }
     }
@@ -40,7 +42,8 @@ impl Question {
             | Question::Write { room }
             | Question::Locate { room, .. }
             | Question::List { room, .. }
-            | Question::Fewest { room, .. } => *room = length,
+            | Question::Fewest { room, .. }
+            | Question::Row { room, .. } => *room = length,
             Question::Count | Question::Number { .. } => {}
         }
         self
@@ -51,7 +54,7 @@ impl Question {
         match *self {
             Question::Locate { n, .. } => vec![n],
             Question::List { v, .. } => vec![v],
-            Question::Fewest { s, t, .. } => vec![s, t],
+            Question::Fewest { s, t, .. } | Question::Row { s, t, .. } => vec![s, t],
             _ => Vec::new(),
         }
     }

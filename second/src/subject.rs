@@ -8,7 +8,7 @@ type Write = fn(&[u32], &mut [u8], &mut [u32]) -> u64;
 type Count = fn(&[u32], &mut [u32]) -> u64;
 type Locate = fn(&[u32], u32, &mut [u32], &mut [u32]) -> u64;
 type Number = fn(&[u32], &[u32], u32, &mut [u32]) -> u64;
-/// Lists and fewest: rows, two cue numbers, the lent page or work area, given.
+/// Lists, fewest and row: rows, two cue numbers, the lent page, work area or path list, given.
 pub type Pair = fn(&[u32], u32, u32, &mut [u32], &mut [u32]) -> u64;
 
 /// The functions of an implementation, each in the shape of its C function.
@@ -22,6 +22,7 @@ pub struct Subject {
     pub list_out: Pair,
     pub list_in: Pair,
     pub fewest: Pair,
+    pub row: Pair,
 }
 
 impl Subject {
@@ -48,6 +49,7 @@ impl Subject {
                     (self.list(*outward))(rows, *v, *n, numbers, given)
                 }
                 Question::Fewest { s, t, .. } => (self.fewest)(rows, *s, *t, numbers, given),
+                Question::Row { s, t, .. } => (self.row)(rows, *s, *t, numbers, given),
             },
             _ => return None,
         })
@@ -63,6 +65,6 @@ pub struct Lent<'a> {
 
 /// The plain implementation.
 pub fn plain() -> Subject {
-    use crate::plain::{count, fewest, list_in, list_out, locate, number, read, write};
-    Subject { read, write, count, locate, number, list_out, list_in, fewest }
+    use crate::plain::{count, fewest, list_in, list_out, locate, number, read, row, write};
+    Subject { read, write, count, locate, number, list_out, list_in, fewest, row }
 }

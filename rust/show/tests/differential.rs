@@ -1,7 +1,7 @@
 //! The crate's answers are those of the second tool: its named cases, and random ones.
 
 use second::compare::checker::Checker;
-use second::compare::{big, padded, random, report};
+use second::compare::{fixed, random, report};
 use second::gen::known;
 use second::library;
 use second::subject::Subject;
@@ -102,7 +102,16 @@ fn fewest(rows: &[u32], s: u32, t: u32, work: &mut [u32], given: &mut [u32]) -> 
     told(answer.map(|steps| steps.map_or([0, 0], |steps| [1, steps])), given, Place::Row)
 }
 
-const CRATE: Subject = Subject { read, write, count, locate, number, list_out, list_in, fewest };
+fn row(rows: &[u32], s: u32, t: u32, path: &mut [u32], given: &mut [u32]) -> u64 {
+    if short(given) {
+        return library::row(rows, s, t, path, given);
+    }
+    let answer = Rows::new(rows).row(s, t, path);
+    told(answer.map(|origin| [origin.row, origin.path.len() as u32]), given, Place::Row)
+}
+
+const CRATE: Subject =
+    Subject { read, write, count, locate, number, list_out, list_in, fewest, row };
 
 fn compare(name: &str, case: impl FnOnce(&mut Checker)) {
     let mut checker = Checker::new(&CRATE);
@@ -115,7 +124,7 @@ fn compare(name: &str, case: impl FnOnce(&mut Checker)) {
 
 #[test]
 fn named_cases_are_answered_as_by_the_second_tool() {
-    for (name, case) in big::CASES.iter().chain(padded::CASES) {
+    for (name, case) in fixed() {
         compare(name, case);
     }
 }

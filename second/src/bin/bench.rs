@@ -5,7 +5,7 @@ use std::hint::black_box;
 
 use second::gen::known;
 use second::library;
-use second::limits::{ROWS, WORK};
+use second::limits::{Refusal, ROWS, WORK};
 use second::question::{Input, Question};
 use second::race::breadth;
 use second::race::inputs::{entries, Entry};
@@ -33,7 +33,9 @@ impl Memory {
             given: &mut self.given,
         };
         let returned = subject.ask(black_box(input), black_box(question), &mut lent);
-        assert_eq!(returned, Some(0), "a benchmark question has an answer");
+        let no_link = Some(Refusal::new(14, 0).returned());
+        let answered = returned == Some(0) || returned == no_link;
+        assert!(answered, "a benchmark question has an answer, or there is no link");
     }
 }
 

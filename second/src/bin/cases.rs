@@ -27,7 +27,7 @@ fn list(numbers: &[u32]) -> String {
     numbers.chunk_by(|a, b| a == b).map(run).collect::<Vec<_>>().join(" ")
 }
 
-/// The question's name and what it is given.
+/// The question's name and what it is given. The program knows a question by its first letter.
 fn asked(question: &Question) -> (&str, Vec<u32>) {
     match *question {
         Question::Read { .. } => ("read", vec![]),
@@ -38,6 +38,7 @@ fn asked(question: &Question) -> (&str, Vec<u32>) {
         Question::List { outward: true, v, n, .. } => ("out", vec![v, n]),
         Question::List { v, n, .. } => ("in", vec![v, n]),
         Question::Fewest { s, t, .. } => ("fewest", vec![s, t]),
+        Question::Row { s, t, .. } => ("behind", vec![s, t]),
     }
 }
 
@@ -57,13 +58,19 @@ fn questions(show: Option<&Show>) -> Vec<Question> {
             all.push(Question::List { outward, v: n, n: cues / 2, room: room / 9 });
         }
     }
-    all.push(Question::Fewest { s: 1, t: 1, room: WORK - 1 });
+    all.extend(pairs(cues, WORK, |s, t, room| Question::Fewest { s, t, room }));
+    all.extend(pairs(cues, PATH, |s, t, room| Question::Row { s, t, room }));
+    all
+}
+
+/// A question on two cues, which needs so much room: with too little, on every pair, and on numbers
+/// that are no cues.
+fn pairs(cues: u32, needed: usize, ask: fn(u32, u32, usize) -> Question) -> Vec<Question> {
+    let mut all = vec![ask(1, 1, needed - 1)];
     for s in 1..=cues {
-        all.extend((1..=cues).map(|t| Question::Fewest { s, t, room: WORK + 1 }));
+        all.extend((1..=cues).map(|t| ask(s, t, needed + 1)));
     }
-    for (s, t) in [(0, 1), (1, 0), (1, cues + 1), (cues + 1, 1)] {
-        all.push(Question::Fewest { s, t, room: WORK });
-    }
+    all.extend([(0, 1), (1, 0), (1, cues + 1), (cues + 1, 1)].map(|(s, t)| ask(s, t, needed)));
     all
 }
 

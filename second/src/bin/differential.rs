@@ -5,8 +5,9 @@
 use std::process::ExitCode;
 
 use second::compare::checker::{Census, Checker, Failure};
-use second::compare::{big, padded, random, report};
+use second::compare::{fixed, random, report};
 use second::library;
+use second::limits::REFUSALS;
 use second::subject::{self, Subject};
 
 struct Words {
@@ -70,11 +71,11 @@ impl Tally {
 
 fn compare(words: &Words) -> Result<Tally, String> {
     let subject = words.subject()?;
-    let mut tally = Tally { seed: words.seed, passed: 0, failed: 0, census: [0; 14] };
+    let mut tally = Tally { seed: words.seed, passed: 0, failed: 0, census: [0; REFUSALS + 1] };
     let cases = match words.case {
         Some(case) => case..case + 1,
         None => {
-            for (name, case) in big::CASES.iter().chain(padded::CASES) {
+            for (name, case) in fixed() {
                 tally.run(&subject, name, case);
             }
             0..words.count
@@ -90,7 +91,7 @@ fn compare(words: &Words) -> Result<Tally, String> {
 fn main() -> ExitCode {
     match Words::parse().and_then(|words| compare(&words)) {
         Ok(tally) => {
-            println!("calls answered, then refused by 1 to 13: {:?}", tally.census);
+            println!("calls answered, then refused by 1 to {REFUSALS}: {:?}", tally.census);
             println!("{} passed, {} failed", tally.passed, tally.failed);
             ExitCode::from(u8::from(tally.failed > 0))
         }

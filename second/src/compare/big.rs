@@ -10,10 +10,12 @@ use crate::question::{Answer, Input, Question};
 
 type Result = std::result::Result<Answer, Refusal>;
 
+/// A question with its answer.
+pub type Asked = (Question, Result);
 /// A named case.
 pub type Case = (&'static str, fn(&mut Checker));
 
-/// Every fixed case.
+/// Fixed cases of all questions.
 pub const CASES: &[Case] = &[
     ("ring", |checker| in_full(checker, known::ring())),
     ("knot", |checker| in_full(checker, known::knot())),
@@ -46,7 +48,7 @@ pub const CASES: &[Case] = &[
 ];
 
 /// Everything the naive tool can answer about a show.
-fn in_full(checker: &mut Checker, rows: Vec<u32>) {
+pub fn in_full(checker: &mut Checker, rows: Vec<u32>) {
     let prng = &mut Prng::new(1, 1);
     let file = print(rows.as_chunks().0);
     Subjected::new(checker, Input::File(file)).ask_file(prng);
@@ -75,12 +77,12 @@ fn near_files(checker: &mut Checker) {
     }
 }
 
-/// File, count and text of a show that cannot be unfolded, then the answers it comes with.
-fn with_answers(checker: &mut Checker, rows: Vec<u32>, answers: &[(Question, Result)]) {
+/// What needs no unfolding of a show, then the answers it comes with.
+pub fn with_answers(checker: &mut Checker, rows: Vec<u32>, answers: &[Asked]) {
     let prng = &mut Prng::new(1, 1);
     let file = print(rows.as_chunks().0);
     Subjected::new(checker, Input::File(file)).ask_file(prng);
-    Subjected::new(checker, Input::Rows(rows.clone())).ask_whole(prng);
+    Subjected::new(checker, Input::Rows(rows.clone())).ask_folded(prng);
     let input = Input::Rows(rows);
     for (question, result) in answers {
         let call = Call { question: question.clone(), given: GIVEN };
@@ -107,7 +109,7 @@ fn tower_with_joins(checker: &mut Checker) {
     refused(checker, rows, 9, 92);
 }
 
-fn located(n: u32, path: &[u32], block: u32, own: u32) -> [(Question, Result); 2] {
+fn located(n: u32, path: &[u32], block: u32, own: u32) -> [Asked; 2] {
     let given = [path.len() as u32, block, own];
     let number = Question::Number { path: path.to_vec(), own };
     [
@@ -116,16 +118,16 @@ fn located(n: u32, path: &[u32], block: u32, own: u32) -> [(Question, Result); 2
     ]
 }
 
-fn no_path(path: &[u32], own: u32) -> (Question, Result) {
+fn no_path(path: &[u32], own: u32) -> Asked {
     (Question::Number { path: path.to_vec(), own }, Err(Refusal::new(13, 0)))
 }
 
-fn listed(outward: bool, v: u32, n: u32, cues: &[u32]) -> (Question, Result) {
+fn listed(outward: bool, v: u32, n: u32, cues: &[u32]) -> Asked {
     let answer = Answer::with_numbers(&[cues.len() as u32, 0], cues);
     (Question::List { outward, v, n, room: 5 }, Ok(answer))
 }
 
-fn steps(s: u32, t: u32, steps: Option<u32>, work: &[u32]) -> (Question, Result) {
+fn steps(s: u32, t: u32, steps: Option<u32>, work: &[u32]) -> Asked {
     let given = [steps.is_some().into(), steps.unwrap_or(0)];
     (Question::Fewest { s, t, room: WORK + 3 }, Ok(Answer::with_numbers(&given, work)))
 }
@@ -228,8 +230,7 @@ fn star(checker: &mut Checker, outward: bool) {
         let answer = Answer::with_numbers(&[cues.len() as u32, more.into()], &cues);
         (Question::List { outward, v: 1, n, room }, Ok(answer))
     };
-    let mut answers: Vec<(Question, Result)> =
-        (0..=last).step_by(4096).map(|n| page(n, 4096)).collect();
+    let mut answers: Vec<Asked> = (0..=last).step_by(4096).map(|n| page(n, 4096)).collect();
     answers.extend((0..=last).step_by(99_991).map(|n| page(n, 256)));
     answers.extend([0, 1, 2, last - 2, last - 1, last].map(|n| page(n, 1)));
     answers.extend([0, 1, 2, last - 1, last, last + 1].map(|n| page(n, 0)));

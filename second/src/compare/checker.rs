@@ -1,7 +1,7 @@
 //! One case: a file or rows with all the questions asked about it.
 
 use super::outcome::{Call, Outcome};
-use crate::limits::{Refusal, GIVEN};
+use crate::limits::{Refusal, GIVEN, REFUSALS};
 use crate::naive::ask::Show;
 use crate::question::{Answer, Input, Question};
 use crate::subject::Subject;
@@ -15,7 +15,7 @@ pub struct Failure {
 }
 
 /// How many calls had an answer (0) or were refused (by number).
-pub type Census = [u64; 14];
+pub type Census = [u64; REFUSALS + 1];
 
 /// Asks the questions of a case and keeps the first failure.
 pub struct Checker<'a> {
@@ -26,7 +26,7 @@ pub struct Checker<'a> {
 
 impl<'a> Checker<'a> {
     pub fn new(subject: &'a Subject) -> Checker<'a> {
-        Checker { subject, census: [0; 14], failure: None }
+        Checker { subject, census: [0; REFUSALS + 1], failure: None }
     }
 
     /// Compares a call with a result that is known. Gives what the call left; nothing if the

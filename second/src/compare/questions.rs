@@ -3,7 +3,8 @@
 use super::checker::Subjected;
 use crate::gen::prng::Prng;
 use crate::limits::{GIVEN, PATH, WORK};
-use crate::question::Question;
+use crate::plain;
+use crate::question::{Input, Question};
 
 /// Shows of at most this many cues are asked everything.
 const SMALL: u32 = 24;
@@ -26,7 +27,7 @@ impl Subjected<'_, '_> {
     /// Asks everything about rows that can be unfolded.
     pub fn ask_rows(&mut self, prng: &mut Prng) {
         let count = self.known.as_ref().map_or(3, |show| show.count());
-        self.ask_whole(prng);
+        self.ask_folded(prng);
         let (one, other) = (prng.within(0, count + 1), prng.within(0, count + 1));
         for question in on_cues(one, other).into_iter().chain(on_cues(0, 1)) {
             self.ask_rooms(prng, question);
@@ -39,10 +40,11 @@ impl Subjected<'_, '_> {
         }
     }
 
-    /// Asks what needs no unfolding.
-    pub fn ask_whole(&mut self, prng: &mut Prng) {
+    /// Asks what the naive tool can answer without unfolding.
+    pub fn ask_folded(&mut self, prng: &mut Prng) {
         self.ask_rooms(prng, Question::Count);
         self.ask_rooms(prng, Question::Write { room: 0 });
+        self.ask_row(prng);
     }
 
     /// One question with output one too short, exact and longer, and with every `given`.
@@ -125,10 +127,49 @@ impl Subjected<'_, '_> {
             self.ask(Question::Fewest { s, t, room: WORK + (s % 2) as usize });
         }
     }
+
+    /// Every pair of a small show, or some pairs and some that are linked; and pairs with numbers
+    /// that are no cues.
+    fn ask_row(&mut self, prng: &mut Prng) {
+        let (Ok(show), Input::Rows(rows)) = (&self.known, &self.input) else { return };
+        let count = show.count();
+        let numbers = self.numbers(prng, count);
+        let some: &[u32] = if count <= SMALL { &numbers } else { &numbers[..10] };
+        let mut pairs: Vec<(u32, u32)> =
+            some.iter().flat_map(|s| some.iter().map(|t| (*s, *t))).collect();
+        let linked = linked(prng, rows, &numbers);
+        if count > SMALL {
+            pairs.extend(&linked);
+        }
+        for (s, t) in pairs {
+            self.ask(Question::Row { s, t, room: PATH + (s % 2) as usize });
+        }
+        if !linked.is_empty() {
+            let (s, t) = *prng.pick(&linked);
+            self.ask_rooms(prng, Question::Row { s, t, room: 0 });
+        }
+    }
+}
+
+/// Pairs of cues that are linked, some for each of these numbers that is a cue. What is asked about
+/// them is chosen here, not what is right, so the plain implementation may list them.
+fn linked(prng: &mut Prng, rows: &[u32], numbers: &[u32]) -> Vec<(u32, u32)> {
+    let (mut page, mut given) = ([0; 2], [0; GIVEN]);
+    let mut pairs = Vec::new();
+    for v in numbers {
+        let after = *prng.pick(&[0, 0, v / 2, *v]);
+        if plain::list_out(rows, *v, after, &mut page, &mut given) == 0 {
+            pairs.extend(page[..given[0] as usize].iter().map(|t| (*v, *t)));
+        }
+        if plain::list_in(rows, *v, after, &mut page, &mut given) == 0 {
+            pairs.extend(page[..given[0] as usize].iter().map(|s| (*s, *v)));
+        }
+    }
+    pairs
 }
 
 /// Each question on cues, with no room yet.
-fn on_cues(one: u32, other: u32) -> [Question; 5] {
+fn on_cues(one: u32, other: u32) -> [Question; 6] {
     let list = |outward: bool| Question::List { outward, v: one, n: other, room: 0 };
     [
         Question::Locate { n: one, room: 0 },
@@ -136,6 +177,7 @@ fn on_cues(one: u32, other: u32) -> [Question; 5] {
         list(true),
         list(false),
         Question::Fewest { s: one, t: other, room: 0 },
+        Question::Row { s: one, t: other, room: 0 },
     ]
 }
 

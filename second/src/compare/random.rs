@@ -10,12 +10,13 @@ use crate::question::Input;
 /// Runs one case.
 pub fn run(checker: &mut Checker, seed: u64, case: u64) {
     let prng = &mut Prng::new(seed, case);
-    match prng.below(40) {
+    match prng.below(44) {
         0..=15 => whole_show(checker, prng),
         16..=26 => damaged_file(checker, prng),
         27..=37 => damaged_rows(checker, prng),
         38 => larger_show(checker, prng),
-        _ => long_show(checker, prng),
+        39 => long_show(checker, prng),
+        _ => tangled_show(checker, prng),
     }
 }
 
@@ -73,8 +74,14 @@ fn long_show(checker: &mut Checker, prng: &mut Prng) {
     if small {
         asked.ask_rows(prng);
     } else {
-        asked.ask_whole(prng);
+        asked.ask_folded(prng);
     }
+}
+
+/// A show in which many rows lie behind a link.
+fn tangled_show(checker: &mut Checker, prng: &mut Prng) {
+    let rows = random::show(prng, &random::TANGLED);
+    Subjected::new(checker, Input::Rows(rows)).ask_folded(prng);
 }
 
 fn damaged_file(checker: &mut Checker, prng: &mut Prng) {

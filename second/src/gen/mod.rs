@@ -1,6 +1,7 @@
 //! Shows to ask about: the named ones, random ones, padded files, and damaged files
 //! and rows.
 
+pub mod behind;
 pub mod build;
 pub mod damage;
 pub mod edges;

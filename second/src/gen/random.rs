@@ -30,6 +30,10 @@ pub const SHAPES: [Shape; 5] = [
 pub const LARGER: Shape =
     Shape { blocks: (3, 20), joins: 8, own: 20, links: 30, uses: 6, total: 250 };
 
+/// Shows of few cues, with many ways down to a link between two joins.
+pub const TANGLED: Shape =
+    Shape { blocks: (4, 14), joins: 3, own: 1, links: 2, uses: 5, total: 16 };
+
 /// What the blocks above have to know of a block.
 struct Done {
     joins: u32,

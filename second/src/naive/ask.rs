@@ -2,6 +2,7 @@
 
 use std::cell::OnceCell;
 
+use super::behind::origins;
 use super::check::{check, cut, Block};
 use super::file::{parse, print};
 use super::print::at_line;
@@ -57,13 +58,13 @@ impl Show {
         match question {
             Question::Read { .. } => self.rows.len() * COLUMNS,
             Question::Write { .. } => print(&self.rows).len(),
-            Question::Locate { .. } => PATH,
+            Question::Locate { .. } | Question::Row { .. } => PATH,
             Question::Fewest { .. } => WORK,
             Question::Count | Question::Number { .. } | Question::List { .. } => 0,
         }
     }
 
-    /// The answer, or the first of the refusals 11 to 13.
+    /// The answer, or the first of the refusals 11 to 14.
     pub fn answer(&self, question: &Question, given: usize) -> Result<Answer, Refusal> {
         if question.room() < self.room_needed(question) || given < GIVEN {
             return Err(Refusal::new(11, 0));
@@ -82,6 +83,7 @@ impl Show {
             }
             Question::List { outward, v, n, room } => self.list(outward, v, n, room),
             Question::Fewest { s, t, .. } => self.fewest(s, t),
+            Question::Row { s, t, .. } => self.row(s, t).ok_or(Refusal::new(14, 0))?,
         })
     }
 
@@ -118,6 +120,12 @@ impl Show {
         let steps = self.unfolding().steps_from(s)[t as usize];
         let given = [steps.is_some().into(), steps.unwrap_or(0)];
         Answer::with_numbers(&given, self.work())
+    }
+
+    fn row(&self, s: u32, t: u32) -> Option<Answer> {
+        let origins = origins(&self.blocks, s, t);
+        let first = origins.first()?;
+        Some(Answer::with_numbers(&[first.row, first.depth as u32], &first.path))
     }
 }
 

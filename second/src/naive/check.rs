@@ -41,6 +41,14 @@ impl Block {
     fn names(&self, cue: u32) -> bool {
         (1..=self.own + self.joins).contains(&cue)
     }
+
+    /// The number of a cue in a copy whose own cues follow base and whose joins meet these.
+    pub fn number(&self, base: u32, met: &[u32], cue: u32) -> u32 {
+        match cue.checked_sub(self.own + 1) {
+            None => base + cue,
+            Some(join) => met[join as usize],
+        }
+    }
 }
 
 /// The numbers cut into rows, or refusal 4.

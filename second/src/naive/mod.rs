@@ -2,6 +2,7 @@
 //! and answers by looking at the unfolding. Written to be read, not to be quick.
 
 pub mod ask;
+pub mod behind;
 pub mod check;
 pub mod file;
 pub mod print;

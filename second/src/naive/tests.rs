@@ -1,8 +1,9 @@
 //! The cases of the specification, for the naive tool.
 
 use super::ask::Show;
+use super::behind::origins;
 use super::print::printed;
-use crate::gen::known;
+use crate::gen::{behind, known};
 use crate::limits::{Refusal, NAMES, PATH, WORK};
 use crate::question::{Answer, Question};
 
@@ -38,6 +39,14 @@ fn list_out(show: &Show, v: u32, n: u32) -> Answer {
 
 fn located(show: &Show, n: u32) -> Result<Answer, Refusal> {
     show.answer(&Question::Locate { n, room: PATH }, 3)
+}
+
+fn row(show: &Show, s: u32, t: u32) -> Result<Answer, Refusal> {
+    show.answer(&Question::Row { s, t, room: PATH }, 3)
+}
+
+fn found(row: u32, path: &[u32]) -> Result<Answer, Refusal> {
+    Ok(Answer::with_numbers(&[row, path.len() as u32], path))
 }
 
 #[test]
@@ -90,6 +99,40 @@ fn lists_of_the_ring() {
     assert_eq!(list_out(&ring, 4, 2), Answer::given(&[0, 0]));
     let empty_page = Question::List { outward: false, v: 4, n: 0, room: 0 };
     assert_eq!(given(&ring, empty_page), [0, 1]);
+}
+
+#[test]
+fn rows_of_the_ring() {
+    let ring = show(&known::ring());
+    assert_eq!(row(&ring, 2, 1), found(8, &[]));
+    assert_eq!(row(&ring, 4, 2), found(2, &[1, 1]));
+    assert_eq!(row(&ring, 3, 4), found(3, &[1, 1]));
+    assert_eq!(row(&ring, 5, 3), found(2, &[1, 2]));
+    assert_eq!(row(&ring, 1, 5), found(3, &[1, 2]));
+    for (s, t, refusal) in [(1, 2, 14), (1, 1, 14), (6, 1, 12), (1, 0, 12), (0, 6, 12)] {
+        assert_eq!(row(&ring, s, t), Err(Refusal::new(refusal, 0)));
+    }
+    for (room, given) in [(PATH - 1, 3), (PATH, 2), (0, 0)] {
+        let asked = ring.answer(&Question::Row { s: 6, t: 1, room }, given);
+        assert_eq!(asked, Err(Refusal::new(11, 0)));
+    }
+}
+
+#[test]
+fn the_shortest_path_then_the_first_then_the_first_row() {
+    let detour = show(&behind::detour());
+    let all = origins(&detour.blocks, 1, 2);
+    let paths: Vec<&[u32]> = all.iter().map(|origin| &origin.path[..]).collect();
+    assert_eq!(paths, [&[1, 2][..], &[1, 1, 1]]);
+    assert_eq!(row(&detour, 1, 2), found(6, &[1, 2]));
+    assert_eq!(row(&show(&behind::several_labels()), 1, 2), found(2, &[1]));
+    assert_eq!(row(&show(&behind::several_labels()), 2, 1), found(10, &[]));
+    assert_eq!(row(&show(&behind::short_cuts()), 1, 2), found(2, &[2, 2, 2, 2, 2, 2, 1]));
+    let mut back = [1; PATH];
+    back[PATH - 1] = 2;
+    assert_eq!(row(&show(&behind::turned_knot()), 2, 1), found(2, &back));
+    assert_eq!(row(&show(&behind::half_way()), 1, 2), found(2, &[1; PATH]));
+    assert_eq!(row(&show(&known::knot()), 1, 2), found(2, &[1; PATH]));
 }
 
 #[test]

@@ -59,10 +59,7 @@ impl Unfolding {
             let (path, block) = (copy.path.clone(), copy.block as u32);
             self.cues.push(Cue { path, block, own });
         }
-        let number = |cue: u32| match cue.checked_sub(block.own + 1) {
-            None => base + cue,
-            Some(join) => copy.met[join as usize],
-        };
+        let number = |cue: u32| block.number(base, &copy.met, cue);
         for link in &block.links {
             let (from, to) = (number(link.from), number(link.to));
             self.links.insert(Link { from, to, label: link.label });

@@ -1,8 +1,9 @@
 //! The cues linked to a cue, in rising order, without visiting a copy that has none.
 
 use super::check::{Block, Copy, Show, EMPTY};
-use super::{checked, is_cue};
-use crate::limits::{Refusal, Row, BLOCKS, JOINS};
+use super::frame::Frame;
+use super::{checked, column, is_cue};
+use crate::limits::{Refusal, BLOCKS, JOINS};
 
 pub fn list<const OUT: bool>(
     rows: &[u32],
@@ -14,7 +15,7 @@ pub fn list<const OUT: bool>(
     let mut room = EMPTY;
     let show = checked(rows, &mut room, true, given)?;
     is_cue(&show, v)?;
-    let (copy, met) = copy_of(&show, v);
+    let Frame { copy, met } = Frame::owning(&show, v, |_| ());
     let cue = v - copy.base;
     let mut ends = Ends::EMPTY;
     ends.prepare::<OUT>(&show, copy.block, cue);
@@ -22,28 +23,6 @@ pub fn list<const OUT: bool>(
     walk.from::<OUT>(copy, cue, met);
     given[..2].copy_from_slice(&[walk.written as u32, walk.more.into()]);
     Ok(())
-}
-
-/// The copy that owns v, and the numbers its joins meet.
-fn copy_of(show: &Show, v: u32) -> (Copy, [u32; JOINS]) {
-    let (mut copy, mut met) = (show.top(), [0; JOINS]);
-    while let Some(step) = show.below(copy, v) {
-        let own = u32::from(show.blocks[copy.block].own);
-        let above = met;
-        for (number, cue) in met.iter_mut().zip(&show.rows[step.row][3..]) {
-            *number = match cue.checked_sub(own + 1) {
-                None => copy.base + cue,
-                Some(join) => above[join as usize % JOINS],
-            };
-        }
-        copy = step.copy;
-    }
-    (copy, met)
-}
-
-/// The column of a use that names the cue.
-fn column(row: &Row, cue: u32) -> Option<usize> {
-    row[3..].iter().position(|named| *named == cue)
 }
 
 /// For each block and join: what the join is linked to inside. Only entries that a

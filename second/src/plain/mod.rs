@@ -5,9 +5,11 @@ mod check;
 mod codec;
 mod cues;
 mod fewest;
+mod frame;
 mod lists;
+mod row;
 
-use crate::limits::{returned, Refusal, GIVEN};
+use crate::limits::{returned, Refusal, Row, GIVEN};
 use check::{Room, Show, EMPTY};
 
 /// Reads a file; given: rows, blocks, cues.
@@ -51,6 +53,11 @@ pub fn fewest(rows: &[u32], s: u32, t: u32, work: &mut [u32], given: &mut [u32])
     returned(fewest::fewest(rows, s, t, work, given))
 }
 
+/// The row behind a link from s to t; given: row, depth.
+pub fn row(rows: &[u32], s: u32, t: u32, path: &mut [u32], given: &mut [u32]) -> u64 {
+    returned(row::row(rows, s, t, path, given))
+}
+
 /// The show in lent rows, once there is room for the answer.
 fn checked<'a>(
     rows: &'a [u32],
@@ -71,4 +78,9 @@ fn is_cue(show: &Show, n: u32) -> Result<(), Refusal> {
         return Err(Refusal { number: 12, place: 0 });
     }
     Ok(())
+}
+
+/// The column of a use that names the cue.
+fn column(row: &Row, cue: u32) -> Option<usize> {
+    row[3..].iter().position(|named| *named == cue)
 }

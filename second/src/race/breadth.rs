@@ -5,10 +5,7 @@ use crate::naive::check::{check, Block};
 /// The links of the unfolded show, as pairs.
 fn unfold(blocks: &[Block], k: usize, base: u32, met: &[u32], links: &mut Vec<(u32, u32)>) -> u32 {
     let block = &blocks[k];
-    let number = |cue: u32| match cue.checked_sub(block.own + 1) {
-        None => base + cue,
-        Some(join) => met[join as usize],
-    };
+    let number = |cue: u32| block.number(base, met, cue);
     links.extend(block.links.iter().map(|link| (number(link.from), number(link.to))));
     let mut next = base + block.own;
     for taken in &block.uses {

@@ -2,7 +2,7 @@
 
 use crate::gen::prng::Prng;
 use crate::gen::{known, padding, random};
-use crate::limits::{PATH, TOTAL, WORK};
+use crate::limits::{JOINS, PATH, TOTAL, WORK};
 use crate::naive::file::print;
 use crate::question::{Input, Question};
 
@@ -74,6 +74,7 @@ pub fn entries() -> Vec<Entry> {
     entries.extend(usual.iter().map(|show| entry("number", show, numbers(&show.1))));
     entries.extend(lists(&usual));
     entries.extend(fewest(&usual, &lengths));
+    entries.extend(behind(&usual, &lengths));
     entries
 }
 
@@ -131,12 +132,16 @@ fn some_pairs(rows: &[u32]) -> Vec<Question> {
     cues.iter().zip(ends).map(|(s, t)| pair(*s, *t)).collect()
 }
 
+/// Shows of 1,024 rows with many joins.
+fn hard() -> [Named; 2] {
+    [named("dense", known::dense()), named("five blocks in 1024 rows", known::five_blocks())]
+}
+
 fn fewest(usual: &[Named; 4], lengths: &[Named; 3]) -> Vec<Entry> {
     let [ring, tower, knot, _] = usual;
     let long_ring = named("long ring, 1 to 2", known::long_ring(30));
     let long_pairs = named("long ring, random pairs", long_ring.1.clone());
-    let hard =
-        [named("dense", known::dense()), named("five blocks in 1024 rows", known::five_blocks())];
+    let hard = hard();
     let bad_order = named("a bad order", known::bad_order());
     let mut entries = vec![
         entry("fewest", ring, vec![pair(1, 2)]),
@@ -147,5 +152,37 @@ fn fewest(usual: &[Named; 4], lengths: &[Named; 3]) -> Vec<Entry> {
     let shows = [&long_pairs].into_iter().chain(lengths).chain(&hard);
     entries.extend(shows.map(|show| entry("fewest", show, some_pairs(&show.1))));
     entries.push(entry("fewest", &bad_order, vec![pair(255, 1)]));
+    entries
+}
+
+fn row(s: u32, t: u32) -> Question {
+    Question::Row { s, t, room: PATH }
+}
+
+/// Random cues, each with one that follows on from it.
+fn linked_pairs(rows: &[u32]) -> Vec<Question> {
+    let (count, mut prng) = (count_of(rows), Prng::new(11, 1));
+    let mut pairs = Vec::new();
+    while pairs.len() < TURNS {
+        let (s, mut page, mut given) = (prng.within(1, count), [0; JOINS], [0; 3]);
+        assert_eq!(crate::plain::list_out(rows, s, 0, &mut page, &mut given), 0);
+        pairs.extend(page[..given[0] as usize].last().map(|t| row(s, *t)));
+    }
+    pairs
+}
+
+/// The tower has no links: all of the work, and no row.
+fn behind(usual: &[Named; 4], lengths: &[Named; 3]) -> Vec<Entry> {
+    let [ring, tower, knot, _] = usual;
+    let long_ring = named("long ring, 1 to the last", known::long_ring(30));
+    let hard = hard();
+    let mut entries = vec![
+        entry("row", ring, vec![row(4, 2)]),
+        entry("row", knot, vec![row(1, 2)]),
+        entry("row", tower, vec![row(1, 2_147_483_647)]),
+        entry("row", &long_ring, vec![row(1, 1_073_741_825)]),
+    ];
+    let shows = lengths.iter().chain(&hard);
+    entries.extend(shows.map(|show| entry("row", show, linked_pairs(&show.1))));
     entries
 }
