@@ -6,7 +6,7 @@ use show::{Linked, Loaded, Refused, Rows, PATH_LEN, ROWS_LEN, WORK_LEN};
 
 use crate::blocks::rows_of;
 use crate::commands::Question;
-use crate::explain::{self, Explained};
+use crate::explain::{self, Explained, NAMES};
 use crate::input::Input;
 use crate::links::{Labelled, MOST_CUES};
 use crate::picture::{self, Undrawn};
@@ -49,6 +49,7 @@ impl<'a> Show<'a> {
             Question::Out(cue) => list("to", self.linked(Rows::linked_out, cue)?, out)?,
             Question::In(cue) => list("from", self.linked(Rows::linked_in, cue)?, out)?,
             Question::Fewest(s, t) => self.fewest(s, t, out)?,
+            Question::Row(s, t) => self.row(s, t, out)?,
             Question::Links => self.links(out)?,
             Question::Picture { unfolded } => out.write_all(self.picture(unfolded)?.as_bytes())?,
         }
@@ -73,6 +74,16 @@ impl<'a> Show<'a> {
             None => writeln!(out, "fewest\nnone")?,
         }
         Ok(())
+    }
+
+    fn row(&self, s: u32, t: u32, out: &mut impl Write) -> Result<(), Problem> {
+        let mut path = [0; PATH_LEN];
+        let origin =
+            self.read.rows.row(s, t, &mut path).map_err(|said| self.no_link(said, s, t))?;
+        let (row, depth, steps) = (origin.row, origin.path.len(), joined(origin.path));
+        let values = rows_of(&self.read)[row as usize - 1].map(|value| value.to_string());
+        writeln!(out, "row,line,depth,path,{NAMES}")?;
+        Ok(writeln!(out, "{row},{},{depth},{steps},{}", row + 1, values.join(","))?)
     }
 
     /// What the unfolding program prints.
@@ -104,6 +115,12 @@ impl<'a> Show<'a> {
     /// The refusal of a question about these cues.
     fn no_cue(&self, said: Refused, cues: &[u32]) -> Problem {
         refused(self.input, explain::cues(said, cues, self.read.cues))
+    }
+
+    /// The refusal of a question about a link between these cues.
+    fn no_link(&self, said: Refused, s: u32, t: u32) -> Problem {
+        let back = self.read.rows.row(t, s, &mut [0; PATH_LEN]).is_ok();
+        refused(self.input, explain::link(said, s, t, self.read.cues, back))
     }
 
     /// The refusal of a question about this path and own cue.

@@ -26,6 +26,8 @@ pub enum Question {
     In(u32),
     /// The fewest follow-ons from the first cue to the second.
     Fewest(u32, u32),
+    /// The row behind the follow-on from the first cue to the second.
+    Row(u32, u32),
     /// All links of the unfolded show.
     Links,
     /// A picture of the blocks, or of the unfolded show.
@@ -61,7 +63,7 @@ impl Command {
 }
 
 /// All commands, in the order in which `--help` lists them.
-pub const COMMANDS: [Command; 9] = [
+pub const COMMANDS: [Command; 10] = [
     Command {
         word: "check",
         option: None,
@@ -122,6 +124,18 @@ pub const COMMANDS: [Command; 9] = [
         says: "the fewest follow-ons from cue S to cue T, or none",
         prints: "`fewest` and the fewest follow-ons that lead from cue S to cue T, or `none`.",
         question: |behind| Ok(Question::Fewest(behind.number(0)?, behind.number(1)?)),
+    },
+    Command {
+        word: "row",
+        option: None,
+        takes: &["S", "T"],
+        says: "the link row behind the follow-on from cue S to cue T",
+        prints: "`row,line,depth,path` and the names of the columns; then, for a link row that joins\n\
+            cue S to cue T: its number, its line in the file, how many uses lead to the copy in\n\
+            which it joins them and the path to that copy, and the row itself. Of several rows it\n\
+            is the one with the shortest path, then with the path that is smaller at the first step\n\
+            where they differ, then the smaller row. A change of it changes all copies of its block.",
+        question: |behind| Ok(Question::Row(behind.number(0)?, behind.number(1)?)),
     },
     Command {
         word: "links",

@@ -139,4 +139,8 @@ causes! {
         "step {place} of the path is {step}; block {block} has uses 1 to {uses}"
     13 NoOwn(own: u32, block: usize) "own cue {own}; block {block} has no own cues"
     13 NotOwn(own: u32, block: usize, most: u32) "own cue {own}; block {block} has own cues 1 to {most}"
+
+    14 Loop(cue: u32) "no link leads from cue {cue} to itself; a link is between two cues"
+    14 LinkBack(s: u32, t: u32) "no link leads from cue {s} to cue {t}; one leads from {t} to {s}"
+    14 NoLink(s: u32, t: u32) "no link leads from cue {s} to cue {t}; `show out` lists what follows on from {s}"
 }

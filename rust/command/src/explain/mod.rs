@@ -21,7 +21,7 @@ use crate::blocks::Row;
 pub use cause::Cause;
 
 /// The names of the columns, as they stand in the first line.
-const NAMES: &str = "block,kind,label,a,b,c,d,e,f,g,h";
+pub const NAMES: &str = "block,kind,label,a,b,c,d,e,f,g,h";
 
 /// A column of a row, by its place from 0.
 #[derive(Clone, Copy, Debug, PartialEq, Eq, PartialOrd, Ord)]
@@ -106,6 +106,13 @@ pub fn file(file: &[u8], size: Option<u64>, refused: Refused) -> Explained {
 /// Explains the refusal of a question about these cues of a show that has so many.
 pub fn cues(refused: Refused, cues: &[u32], count: u32) -> Explained {
     agreed(question::cue(cues, count), refused)
+}
+
+/// Explains the refusal of a question about a link between two cues of a show that has so many.
+/// `back` says whether a link leads the other way.
+pub fn link(refused: Refused, s: u32, t: u32, count: u32, back: bool) -> Explained {
+    let found = question::cue(&[s, t], count).unwrap_or_else(|| question::link(s, t, back));
+    agreed(Some(found), refused)
 }
 
 /// Explains the refusal of a question about a path and an own cue.

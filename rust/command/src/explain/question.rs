@@ -1,4 +1,4 @@
-//! Refusals 12 and 13: a cue number, or a path and an own cue, that the show does not have.
+//! Refusals 12 to 14: a cue number, a path and an own cue, or a link, that the show does not have.
 
 use show::PATH_LEN;
 
@@ -9,6 +9,15 @@ use crate::blocks::{of_rows, Row};
 pub fn cue(cues: &[u32], count: u32) -> Option<Explained> {
     let cue = *cues.iter().find(|cue| !(1..=count).contains(cue))?;
     Some(Explained::of(Cause::NoCue { cue, count }))
+}
+
+/// That no link leads from s to t; whether one leads back is known.
+pub fn link(s: u32, t: u32, back: bool) -> Explained {
+    Explained::of(match back {
+        _ if s == t => Cause::Loop { cue: s },
+        true => Cause::LinkBack { s, t },
+        false => Cause::NoLink { s, t },
+    })
 }
 
 /// Where a path leads out of the show, or that it has no such own cue at its end.

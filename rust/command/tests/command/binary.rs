@@ -29,6 +29,14 @@ const ANSWERS: &[(&[&str], &str)] = &[
     (&["fewest", RING, "3", "3"], "fewest\n0\n"),
     (&["fewest", "shows/tower31.csv", "1", "2"], "fewest\nnone\n"),
     (&["count", "shows/tower31.csv"], "cues\n2147483647\n"),
+    (
+        &["row", RING, "2", "1"],
+        "row,line,depth,path,block,kind,label,a,b,c,d,e,f,g,h\n8,9,0,-,2,1,2,2,1,0,0,0,0,0,0\n",
+    ),
+    (
+        &["row", RING, "4", "2"],
+        "row,line,depth,path,block,kind,label,a,b,c,d,e,f,g,h\n2,3,2,1.1,0,1,1,1,3,0,0,0,0,0,0\n",
+    ),
     (&["links", "shows/tower31.csv"], "cues\n2147483647\n"),
     (&["links", RING], "from,to,label\n1,5,1\n2,1,2\n3,4,1\n4,2,1\n5,3,1\n"),
     (&["picture", RING], BLOCKS),
@@ -95,6 +103,9 @@ const WRONG: &[(&[&str], &str)] = &[
     (&["in", RING], "in: CUE is missing"),
     (&["fewest", RING, "1"], "fewest: T is missing"),
     (&["fewest", RING, "1", "2", "3"], "fewest: '3' is one word too many"),
+    (&["row", RING], "row: S is missing"),
+    (&["row", RING, "2"], "row: T is missing"),
+    (&["row", RING, "2", "x"], "row: 'x' is no number"),
     (&["links"], "links: FILE is missing"),
 ];
 
@@ -164,6 +175,20 @@ fn questions_without_an_answer_are_refused() {
         (&["in", RING, "6"], "cue 6; the show has cues 1 to 5 (refusal 12)"),
         (&["fewest", RING, "7", "6"], "cue 7; the show has cues 1 to 5 (refusal 12)"),
         (&["fewest", RING, "1", "6"], "cue 6; the show has cues 1 to 5 (refusal 12)"),
+        (&["row", RING, "0", "6"], "cue 0; the show has cues 1 to 5 (refusal 12)"),
+        (&["row", RING, "1", "6"], "cue 6; the show has cues 1 to 5 (refusal 12)"),
+        (
+            &["row", RING, "1", "2"],
+            "no link leads from cue 1 to cue 2; one leads from 2 to 1 (refusal 14)",
+        ),
+        (
+            &["row", RING, "1", "3"],
+            "no link leads from cue 1 to cue 3; `show out` lists what follows on from 1 (refusal 14)",
+        ),
+        (
+            &["row", RING, "3", "3"],
+            "no link leads from cue 3 to itself; a link is between two cues (refusal 14)",
+        ),
         (
             &["number", RING, "2", "1"],
             "step 1 of the path is 2; block 2 has uses 1 to 1 (refusal 13)",

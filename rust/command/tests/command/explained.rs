@@ -4,7 +4,7 @@ use std::collections::BTreeMap;
 
 use second::gen::prng::Prng;
 use second::gen::random;
-use show::{Place, Refused, Rows, ROWS_LEN};
+use show::{Place, Refused, Rows, PATH_LEN, ROWS_LEN};
 use show_command::blocks::rows_of;
 use show_command::explain::{self, Cause, Explained};
 
@@ -37,9 +37,10 @@ pub fn of(file: &[u8]) -> Option<Explained> {
 
 /// Causes that have to do with a file, but for the one that needs its size.
 fn of_files() -> impl Iterator<Item = &'static &'static str> {
-    const OTHERS: [&str; 8] =
-        ["Unexplained", "TooLong", "NoCue", "LongPath", "NoUses", "NoUse", "NoOwn", "NotOwn"];
-    Cause::NAMES.iter().filter(|name| !OTHERS.contains(name))
+    const OTHERS: [&str; 2] = ["Unexplained", "TooLong"];
+    const QUESTIONS: [&str; 9] =
+        ["NoCue", "LongPath", "NoUses", "NoUse", "NoOwn", "NotOwn", "Loop", "LinkBack", "NoLink"];
+    Cause::NAMES.iter().filter(|name| !OTHERS.contains(name) && !QUESTIONS.contains(name))
 }
 
 #[test]
@@ -98,13 +99,21 @@ fn hold_path(file: &[u8], path: &[u32], own: u32) -> Option<&'static str> {
     Some(explained.cause.name())
 }
 
+/// Small random shows, each with the generator that made it.
+fn shows(seed: u64) -> impl Iterator<Item = (Prng, Vec<u32>)> {
+    (0..300).map(move |case| {
+        let mut prng = Prng::new(seed, case);
+        let shape = prng.pick(&random::SHAPES);
+        let rows = random::show(&mut prng, shape);
+        (prng, rows)
+    })
+}
+
 #[test]
 fn paths_are_refused_where_it_is_said() {
     let mut seen: BTreeMap<&str, u32> = BTreeMap::new();
-    for case in 0..300 {
-        let prng = &mut Prng::new(13, case);
-        let shape = prng.pick(&random::SHAPES);
-        let file = file_of(&random::show(prng, shape));
+    for (mut prng, rows) in shows(13) {
+        let file = file_of(&rows);
         for _ in 0..60 {
             let length = if prng.one_in(30) { 126 + prng.below(4) } else { prng.below(5) };
             let path: Vec<u32> = (0..length).map(|_| prng.within(0, 4)).collect();
@@ -118,10 +127,8 @@ fn paths_are_refused_where_it_is_said() {
 
 #[test]
 fn cues_are_refused_where_it_is_said() {
-    for case in 0..300 {
-        let prng = &mut Prng::new(14, case);
-        let shape = prng.pick(&random::SHAPES);
-        let file = file_of(&random::show(prng, shape));
+    for (_, rows) in shows(14) {
+        let file = file_of(&rows);
         let mut room = [0; ROWS_LEN];
         let read = Rows::read(&file, &mut room).expect("an accepted show");
         for cue in [0, read.cues + 1, u32::MAX] {
@@ -133,4 +140,38 @@ fn cues_are_refused_where_it_is_said() {
             assert!(read.rows.linked_out(cue).is_ok());
         }
     }
+}
+
+/// What is said of a link that is refused; whether one leads back is asked of the library.
+fn of_link(rows: Rows, count: u32, s: u32, t: u32) -> Option<Cause> {
+    let mut path = [0; PATH_LEN];
+    let refused = rows.row(s, t, &mut path).err()?;
+    let back = rows.row(t, s, &mut path).is_ok();
+    let Explained { number, line, cause, .. } = explain::link(refused, s, t, count, back);
+    assert_eq!((number, line, cause.number()), (refused.number(), None, refused.number()));
+    Some(cause)
+}
+
+#[test]
+fn links_are_refused_where_it_is_said() {
+    let mut seen: BTreeMap<&str, u32> = BTreeMap::new();
+    for (_, numbers) in shows(15) {
+        let rows = Rows::new(&numbers);
+        let count = rows.count().expect("an accepted show");
+        for (s, t) in (0..=count + 1).flat_map(|s| (0..=count + 1).map(move |t| (s, t))) {
+            let linked =
+                |s: u32, t: u32| rows.linked_out(s).is_ok_and(|mut to| to.any(|to| to == t));
+            let cause = of_link(rows, count, s, t);
+            match cause {
+                None => assert!(linked(s, t)),
+                Some(Cause::NoCue { cue, .. }) => assert!(cue == 0 || cue > count),
+                Some(Cause::Loop { cue }) => assert_eq!((s, t), (cue, cue)),
+                Some(Cause::LinkBack { .. }) => assert!(!linked(s, t) && linked(t, s)),
+                Some(Cause::NoLink { .. }) => assert!(!linked(s, t) && !linked(t, s)),
+                Some(ref other) => panic!("{other:?}"),
+            }
+            *seen.entry(cause.as_ref().map_or("", Cause::name)).or_default() += 1;
+        }
+    }
+    assert_eq!(seen.len(), 5, "{seen:?}");
 }

@@ -9,7 +9,7 @@ use second::question::{self, Answer};
 use show_command::commands::Question;
 use show_command::problem::Problem;
 
-use crate::common::{asked, file_of, said};
+use crate::common::{asked, file_of, said, NAMES};
 
 fn random_show(seed: u64, case: u64) -> Vec<u32> {
     let prng = &mut Prng::new(seed, case);
@@ -62,18 +62,25 @@ fn naive(question: &Question) -> question::Question {
         Question::Out(v) => question::Question::List { outward: true, v, n: 0, room: 1000 },
         Question::In(v) => question::Question::List { outward: false, v, n: 0, room: 1000 },
         Question::Fewest(s, t) => question::Question::Fewest { s, t, room: WORK },
+        Question::Row(s, t) => question::Question::Row { s, t, room: PATH },
         ref other => panic!("the naive tool is not asked for {other:?}"),
     }
 }
 
 /// The naive tool's answer as the command prints it.
-fn text(question: &Question, Answer { given, numbers, .. }: Answer) -> String {
+fn text(file: &[u8], question: &Question, Answer { given, numbers, .. }: Answer) -> String {
     let lines = |numbers: &[u32]| numbers.iter().map(|cue| format!("{cue}\n")).collect::<String>();
+    let steps: Vec<String> = numbers.iter().map(u32::to_string).collect();
+    let path = if steps.is_empty() { "-".to_string() } else { steps.join(".") };
     match question {
         Question::Locate(_) => {
-            let steps: Vec<String> = numbers.iter().map(u32::to_string).collect();
-            let path = if steps.is_empty() { "-".to_string() } else { steps.join(".") };
             format!("depth,block,own,path\n{},{},{},{path}\n", given[0], given[1], given[2])
+        }
+        Question::Row(..) => {
+            let file = std::str::from_utf8(file).expect("a file is digits and commas");
+            let (row, line) = (given[0], given[0] as usize + 1);
+            let text = file.lines().nth(line - 1).expect("there is such a line");
+            format!("row,line,depth,path,{NAMES}{row},{line},{},{path},{text}\n", given[1])
         }
         Question::Number { .. } => format!("cue\n{}\n", given[0]),
         Question::Out(_) => format!("to\n{}", lines(&numbers)),
@@ -86,7 +93,7 @@ fn text(question: &Question, Answer { given, numbers, .. }: Answer) -> String {
 /// The answer of both, or the number of the refusal.
 fn hold(file: &[u8], show: &Show, question: &Question) {
     let expected = match show.answer(&naive(question), 3) {
-        Ok(answer) => Ok(text(question, answer)),
+        Ok(answer) => Ok(text(file, question, answer)),
         Err(refusal) => Err(format!("(refusal {})", refusal.number)),
     };
     let answered = asked(file, question).map_err(|problem| match problem {
@@ -104,6 +111,7 @@ fn questions(show: &Show) -> Vec<Question> {
     for cue in 0..=show.count() + 1 {
         all.extend([Question::Locate(cue), Question::Out(cue), Question::In(cue)]);
         all.extend((0..=show.count() + 1).map(|other| Question::Fewest(cue, other)));
+        all.extend((0..=show.count() + 1).map(|other| Question::Row(cue, other)));
     }
     for cue in &show.unfolding().cues {
         for own in [0, cue.own, cue.own + 1] {

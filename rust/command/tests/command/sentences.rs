@@ -4,7 +4,7 @@ use std::collections::BTreeSet;
 
 use second::gen::edges::many_blocks;
 use second::gen::known;
-use show::{Place, Refused, Rows, ROWS_LEN};
+use show::{Place, Refused, Rows, PATH_LEN, ROWS_LEN};
 use show_command::blocks::rows_of;
 use show_command::explain::{self, Cause, Explained};
 
@@ -131,6 +131,10 @@ fn questions() -> Vec<(Explained, &'static str)> {
         explain::path(refused, rows_of(&read), path, own)
     };
     let cues = |cues: &[u32]| explain::cues(Refused::NoSuchCue, cues, read.cues);
+    let link = |s, t| {
+        let row = |s, t| read.rows.row(s, t, &mut [0; PATH_LEN]).map(|origin| origin.row);
+        explain::link(row(s, t).expect_err("no such link"), s, t, read.cues, row(t, s).is_ok())
+    };
     vec![
         (cues(&[6]), "cue 6; the show has cues 1 to 5 (refusal 12)"),
         (cues(&[1, 0]), "cue 0; the show has cues 1 to 5 (refusal 12)"),
@@ -140,6 +144,10 @@ fn questions() -> Vec<(Explained, &'static str)> {
         (path(&[1, 1, 1], 1), "step 3 of the path is 1; block 0 has no uses (refusal 13)"),
         (path(&[1], 2), "own cue 2; block 1 has own cues 1 to 1 (refusal 13)"),
         (path(&[], 0), "own cue 0; block 2 has own cues 1 to 2 (refusal 13)"),
+        (link(6, 1), "cue 6; the show has cues 1 to 5 (refusal 12)"),
+        (link(5, 5), "no link leads from cue 5 to itself; a link is between two cues (refusal 14)"),
+        (link(5, 1), "no link leads from cue 5 to cue 1; one leads from 1 to 5 (refusal 14)"),
+        (link(5, 4), "no link leads from cue 5 to cue 4; `show out` lists what follows on from 5 (refusal 14)"),
     ]
 }
 
