@@ -7,6 +7,7 @@ use model::LocateAnswer;
 use model::NumberAnswer;
 use model::ReadAnswer;
 use model::Refusal;
+use model::RowAnswer;
 use model::WriteAnswer;
 
 // An answer: 0 and what it gives, or a refusal with its place. What an answer lacks is 0.
@@ -77,6 +78,14 @@ fn fewest(rows: &[u32], s: u32, t: u32, work: &mut [u32]) -> Said {
     }
 }
 
+// The row behind a follow-on. In the data the question is called behind: r is the letter of reading.
+fn row(rows: &[u32], s: u32, t: u32, path: &mut [u32]) -> Said {
+    match show::row(rows, s, t, path) {
+        RowAnswer::Row(row, depth) => given(row, depth, 0),
+        RowAnswer::Refused(refusal) => refused(refusal),
+    }
+}
+
 fn read(file: &[u8], rows: &mut [u32]) -> Said {
     match show::read(file, rows) {
         ReadAnswer::Read(rows, blocks, cues) => given(rows, blocks, cues),
@@ -110,6 +119,7 @@ pub fn ask(letter: u8, file: &[u8], rows: &[u32], given: &[u32], lent: &mut [u32
         b'o' => paged(show::list_out(rows, first, second, lent)),
         b'i' => paged(show::list_in(rows, first, second, lent)),
         b'f' => fewest(rows, first, second, lent),
+        b'b' => row(rows, first, second, lent),
         _ => read(file, lent),
     }
 }
