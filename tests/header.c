@@ -27,12 +27,12 @@ static uint64_t code(uint32_t refusal, uint32_t place) { return (uint64_t)refusa
 
 /* The texts of all refusals are there, in one line each, and no two are the same. */
 static void texts(void) {
-    for (uint32_t one = 0; one <= SHOW_NO_SUCH_PATH + 1; one++) {
+    for (uint32_t one = 0; one <= SHOW_NO_SUCH_LINK + 1; one++) {
         const char *said = show_refusal_text(one);
         tell(strlen(said) > 7 && strchr(said, '\n') == NULL, "a refusal has a text of one line");
         for (uint32_t other = 0; other < one; other++) tell(strcmp(said, show_refusal_text(other)) != 0, "texts differ");
     }
-    tell(strcmp(show_refusal_text(SHOW_NO_SUCH_PATH + 1), show_refusal_text(UINT32_MAX)) == 0, "any number has a text");
+    tell(strcmp(show_refusal_text(SHOW_NO_SUCH_LINK + 1), show_refusal_text(UINT32_MAX)) == 0, "any number has a text");
     tell(show_refusal(code(13, 4)) == 13 && show_place(code(13, 4)) == 4, "a refusal is taken apart");
 }
 
@@ -62,6 +62,9 @@ static void nulls(void) {
     tell(show_fewest(NULL, 0, 1, 2, numbers, SHOW_WORK_LEN, given, SHOW_GIVEN_LEN) == code(SHOW_BAD_ROW_COUNT, 0), "fewest, no rows");
     tell(show_fewest(rows, MANY, 1, 2, NULL, 0, given, SHOW_GIVEN_LEN) == code(SHOW_TOO_SHORT, 0), "fewest, no work area");
     tell(show_fewest(rows, MANY, 1, 2, numbers, SHOW_WORK_LEN, NULL, 0) == code(SHOW_TOO_SHORT, 0), "fewest, no given");
+    tell(show_row(NULL, 0, 1, 2, numbers, SHOW_PATH_LEN, given, SHOW_GIVEN_LEN) == code(SHOW_BAD_ROW_COUNT, 0), "row, no rows");
+    tell(show_row(rows, MANY, 1, 2, NULL, 0, given, SHOW_GIVEN_LEN) == code(SHOW_TOO_SHORT, 0), "row, no path");
+    tell(show_row(rows, MANY, 1, 2, numbers, SHOW_PATH_LEN, NULL, 0) == code(SHOW_TOO_SHORT, 0), "row, no given");
 }
 
 typedef uint64_t list(const uint32_t *, size_t, uint32_t, uint32_t, uint32_t *, size_t, uint32_t *, size_t);
@@ -80,6 +83,20 @@ static void pages(list *ask, uint32_t v, uint32_t linked) {
     tell(numbers[0] == linked && given[0] == 1, "a refusal changes nothing");
 }
 
+/* The row of the one link: in the show itself, so no number of the path list changes. No link leads back, or to the cue itself. */
+static void links(void) {
+    numbers[0] = 99, given[2] = 98;
+    tell(show_row(rows, MANY, 1, 2, numbers, SHOW_PATH_LEN, given, SHOW_GIVEN_LEN) == 0 && given[0] == 2 && given[1] == 0, "row 2");
+    tell(numbers[0] == 99 && given[2] == 98, "row and depth changed, and no more than that");
+    given[0] = 97;
+    tell(show_row(rows, MANY, 2, 1, numbers, SHOW_PATH_LEN, given, SHOW_GIVEN_LEN) == code(SHOW_NO_SUCH_LINK, 0), "no link back");
+    tell(show_row(rows, MANY, 2, 2, numbers, SHOW_PATH_LEN, given, SHOW_GIVEN_LEN) == code(SHOW_NO_SUCH_LINK, 0), "no link to itself");
+    tell(show_row(rows, MANY, 2, 3, numbers, SHOW_PATH_LEN, given, SHOW_GIVEN_LEN) == code(SHOW_NO_SUCH_CUE, 0), "no cue before no link");
+    tell(show_row(rows, MANY, 0, 3, numbers, SHOW_PATH_LEN - 1, given, SHOW_GIVEN_LEN) == code(SHOW_TOO_SHORT, 0), "short before no cue");
+    tell(show_row(rows, MANY - 1, 0, 3, numbers, 0, given, 0) == code(SHOW_BAD_ROW_COUNT, 0), "refused rows come first");
+    tell(numbers[0] == 99 && given[0] == 97 && given[1] == 0 && given[2] == 98, "a refused row changes nothing");
+}
+
 /* What the constants say is enough is enough, and one less is too short. */
 static void sizes(void) {
     tell(show_read((const uint8_t *)text, LENGTH, numbers, MANY, given, SHOW_GIVEN_LEN) == 0 && given[0] == 2, "read exactly");
@@ -93,6 +110,9 @@ static void sizes(void) {
     tell(show_fewest(rows, MANY, 1, 2, numbers, SHOW_WORK_LEN, given, SHOW_GIVEN_LEN) == 0 && given[1] == 1, "a work area is enough");
     tell(numbers[0] == SHOW_NO_CHAIN && numbers[SHOW_SUMMARY_LEN] == 0, "summaries of one block");
     tell(show_fewest(rows, MANY, 1, 2, numbers, SHOW_WORK_LEN - 1, given, SHOW_GIVEN_LEN) == code(SHOW_TOO_SHORT, 0), "work less 1");
+    tell(show_row(rows, MANY, 1, 2, numbers, SHOW_PATH_LEN, given, SHOW_GIVEN_LEN) == 0, "a path list is enough for a row");
+    tell(show_row(rows, MANY, 1, 2, numbers, SHOW_PATH_LEN - 1, given, SHOW_GIVEN_LEN) == code(SHOW_TOO_SHORT, 0), "row, path less 1");
+    tell(show_row(rows, MANY, 1, 2, numbers, SHOW_PATH_LEN, given, SHOW_GIVEN_LEN - 1) == code(SHOW_TOO_SHORT, 0), "row, given less 1");
     tell(show_count(rows, MANY, given, SHOW_GIVEN_LEN - 1) == code(SHOW_TOO_SHORT, 0), "given less 1");
 }
 
@@ -102,6 +122,7 @@ int main(void) {
     nulls();
     pages(show_list_out, 1, 2);
     pages(show_list_in, 2, 1);
+    links();
     sizes();
     printf("%u passed, %u failed\n", passed, failed);
     return failed != 0;

@@ -1,5 +1,6 @@
 /* Asks every question of the shows that are named as arguments, each on a stack of its own, and tells how much of it was used. Ends with
- * a line 'N passed, M failed': a question passes if it is answered within SHOW_STACK_LEN bytes. */
+ * a line 'N passed, M failed': a question passes if it is answered within SHOW_STACK_LEN bytes. That no link leads from the first cue to
+ * the last is an answer here. */
 #define _DEFAULT_SOURCE
 #include "show.h"
 
@@ -8,7 +9,7 @@
 #include <sys/mman.h>
 #include <ucontext.h>
 
-enum { ROOM = SHOW_STACK_LEN + 64 * 1024, PATTERN = 0xA5, QUESTIONS = 8 };
+enum { ROOM = SHOW_STACK_LEN + 64 * 1024, PATTERN = 0xA5, QUESTIONS = 9 };
 
 static uint8_t file[SHOW_MAX_FILE + 1], text[SHOW_MAX_FILE];
 static uint32_t rows[SHOW_ROWS_LEN], work[SHOW_WORK_LEN], page[4096], path[SHOW_PATH_LEN], given[SHOW_GIVEN_LEN];
@@ -18,7 +19,7 @@ static int question;
 static uint64_t returned;
 static ucontext_t here, there;
 
-static const char *const names[QUESTIONS] = {"read", "write", "count", "locate", "number", "list_out", "list_in", "fewest"};
+static const char *const names[QUESTIONS] = {"read", "write", "count", "locate", "number", "list_out", "list_in", "fewest", "row"};
 
 static void ask(void) {
     switch (question) {
@@ -30,8 +31,11 @@ static void ask(void) {
     case 5: returned = show_list_out(rows, numbers, 1, 0, page, 4096, given, SHOW_GIVEN_LEN); break;
     case 6: returned = show_list_in(rows, numbers, 1, 0, page, 4096, given, SHOW_GIVEN_LEN); break;
     case 7: returned = show_fewest(rows, numbers, 1, cues, work, SHOW_WORK_LEN, given, SHOW_GIVEN_LEN); break;
+    case 8: returned = show_row(rows, numbers, 1, cues, path, SHOW_PATH_LEN, given, SHOW_GIVEN_LEN); break;
     }
 }
+
+static int answered(void) { return returned == 0 || show_refusal(returned) == SHOW_NO_SUCH_LINK; }
 
 /* How much of its stack a question used. */
 static size_t used(uint8_t *stack) {
@@ -58,7 +62,7 @@ int main(int many, char **shows) {
         for (question = 0; question < QUESTIONS; question++) {
             size_t now = used(stack);
             if (now > most[question]) most[question] = now;
-            if (returned == 0 && now <= SHOW_STACK_LEN) {
+            if (answered() && now <= SHOW_STACK_LEN) {
                 passed++;
             } else {
                 failed++;
