@@ -112,7 +112,7 @@ fn position(xs: &[u32], t: &[u32; INDEX], k: usize, r: usize) -> u32
 }
 
 // The rows of the uses on a way down turned into their positions: the path.
-fn positions(xs: &[u32], t: &[u32; INDEX], depth: usize, rows: &mut [u32])
+pub fn positions(xs: &[u32], t: &[u32; INDEX], depth: usize, rows: &mut [u32])
     requires { ⌜ Loaded (now xs) (now t) × Down (now xs) (now t) (now rows) depth ⌝ }
     ensures { λ _. ⌜ Positions (now (xs .entry)) (now (t .entry)) (now (rows .entry)) depth (now (rows .exit)) ⌝ }
 {
