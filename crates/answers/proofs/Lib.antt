@@ -4,3 +4,4 @@ pub mod RefusalPlaces
 pub mod Answering
 pub mod Linked
 pub mod Distances
+pub mod RowsBehind

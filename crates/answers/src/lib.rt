@@ -1,7 +1,8 @@
 // The answers to the questions about rows that were checked: each promise is an equation with the model's definition of the question, for
 // a loaded show.
 //
-// `read_rows`, `write_rows`, `locate_in`, `number_in`, `list_of`, `fewest_in`.
+// `read_rows`, `write_rows`, `locate_in`, `number_in`, `list_of`, `row_in`, `fewest_in`.
+use behind::RowAt;
 use blocks::INDEX;
 use model::FewestAnswer;
 use model::ListAnswer;
@@ -9,6 +10,7 @@ use model::LocateAnswer;
 use model::NumberAnswer;
 use model::ReadAnswer;
 use model::Refusal;
+use model::RowAnswer;
 use model::Verdict;
 use model::WriteAnswer;
 use model::limits::MAX_DEPTH;
@@ -18,17 +20,19 @@ use model::limits::WORK_SIZE;
 ghost use mathlib.Core.Path.{_≡_};
 ghost use Prim.Native.Nat.{_≤_, _<_};
 ghost use lib.ListN.{length};
-ghost use Rattle.model.specs.Limits.{maxRows, workSize};
-ghost use Rattle.model.specs.Answers.{ofRead, ofWrite, ofLocate, ofNumber, ofList, ofFewest};
+ghost use Rattle.model.specs.Limits.{maxRows, maxDepth, workSize};
+ghost use Rattle.model.specs.Answers.{ofRead, ofWrite, ofLocate, ofNumber, ofList, ofRow, ofFewest};
 ghost use Rattle.model.specs.Rows.{rowsOf, fileText};
 ghost use Rattle.model.specs.Verdicts.{verdict, byLine};
 ghost use Rattle.model.specs.declared.Verdict.the-variants.{Accepted};
 ghost use Rattle.model.specs.Blocks.{blocksOf};
 ghost use Rattle.model.specs.Lists.{overwrite};
 ghost use Rattle.model.specs.Rules.{isCue};
-ghost use Rattle.model.specs.Questions.{outcome, readInto, writeInto, locateIn, numbered, showNumber, fewestIn};
+ghost use Rattle.model.specs.Behind.{behind};
+ghost use Rattle.model.specs.Questions.{outcome, readInto, writeInto, locateIn, numbered, showNumber, rowFound, rowIn, fewestIn};
 ghost use Rattle.blocks.specs.Loaded.{Loaded};
-ghost use Rattle.answers.specs.Asked.{readNumbers, listOf, ShowCue, between};
+ghost use Rattle.behind.specs.Ways.{RowBehind};
+ghost use Rattle.answers.specs.Asked.{readNumbers, listOf, areCues, ShowCue, between};
 
 // A place of the show in 32 bits.
 fn narrow(x: usize) -> u32
@@ -49,6 +53,17 @@ fn is_cue(cues: u32, v: u32) -> bool
         return false;
     }
     true
+}
+
+// s and t are cues of a show that has so many.
+fn are_cues(cues: u32, s: u32, t: u32) -> bool
+    ensures { λ r. ⌜ r ≡ areCues cues s t ⌝ }
+{
+    let starts = is_cue(cues, s);
+    if !starts {
+        return false;
+    }
+    is_cue(cues, t)
 }
 
 // Cue n of a loaded show.
@@ -184,6 +199,67 @@ pub fn list_of(
     ListAnswer::Page(listed.written, listed.more)
 }
 
+// The row behind the follow-on from cue s to cue t of a loaded show. The rows of the uses that lead to its copy stand first in the list afterwards.
+// Only the larger cue is looked for: where a link joins the two, its copy is the deeper one, since a copy numbers its own cues before those of its uses.
+fn behind_of(
+    rows: &[u32],
+    table: &[u32; INDEX],
+    s: u32,
+    t: u32,
+    way: &mut [u32; MAX_DEPTH],
+) -> RowAt
+    requires { ⌜ Loaded (now rows) (now table) × ShowCue (now rows) s × ShowCue (now rows) t ⌝ }
+    ensures { λ r. ⌜ RowBehind (now (rows .entry)) (now (table .entry)) (now (way .exit)) s t r × (length (now (way .exit)) ≡ maxDepth) ⌝ }
+{
+    if s < t {
+        let place = paths::find(rows, table, t, way);
+        return behind::behind(rows, table, place, way, s, true);
+    }
+    let place = paths::find(rows, table, s, way);
+    behind::behind(rows, table, place, way, t, false)
+}
+
+// What is answered of it. The path of its copy goes to the beginning of the lent list, which is long enough.
+fn row_behind(rows: &[u32], table: &[u32; INDEX], s: u32, t: u32, path: &mut [u32]) -> RowAnswer
+    requires { ⌜ Loaded (now rows) (now table) × ShowCue (now rows) s × ShowCue (now rows) t × (maxDepth ≤ length (now path)) ⌝ }
+    ensures { λ r. ⌜ outcome (ofRow r) (now (path .exit)) ≡ rowFound (behind (now (rows .entry)) s t) (now (path .entry)) ⌝ }
+{
+    let mut way = [0u32; MAX_DEPTH];
+    let at = behind_of(rows, table, s, t, &mut way);
+    if at.row == 0 {
+        return RowAnswer::Refused(Refusal {
+            number: 14,
+            place: 0,
+        });
+    }
+    let depth = at.depth;
+    paths::positions(rows, table, depth, &mut way);
+    copy(&way[0..depth], path);
+    RowAnswer::Row(at.row, narrow(depth))
+}
+
+// The row behind the follow-on from cue s to cue t of a loaded show.
+pub fn row_in(rows: &[u32], table: &[u32; INDEX], s: u32, t: u32, path: &mut [u32]) -> RowAnswer
+    requires { ⌜ Loaded (now rows) (now table) ⌝ }
+    ensures { λ r. ⌜ outcome (ofRow r) (now (path .exit)) ≡ rowIn (now (rows .entry)) s t (now (path .entry)) ⌝ }
+{
+    let room = path.len();
+    if room < MAX_DEPTH {
+        return RowAnswer::Refused(Refusal {
+            number: 11,
+            place: 0,
+        });
+    }
+    let known = are_cues(blocks::count(rows, table), s, t);
+    if !known {
+        return RowAnswer::Refused(Refusal {
+            number: 12,
+            place: 0,
+        });
+    }
+    row_behind(rows, table, s, t, path)
+}
+
 // The fewest follow-ons between two cues of a loaded show. The work area is large enough.
 fn least(rows: &[u32], table: &[u32; INDEX], s: u32, t: u32, work: &mut [u32]) -> FewestAnswer
     requires { ⌜ Loaded (now rows) (now table) × ShowCue (now rows) s × ShowCue (now rows) t × (workSize ≤ length (now work)) ⌝ }
@@ -218,16 +294,8 @@ pub fn fewest_in(
             place: 0,
         });
     }
-    let cues = blocks::count(rows, table);
-    let starts = is_cue(cues, s);
-    if !starts {
-        return FewestAnswer::Refused(Refusal {
-            number: 12,
-            place: 0,
-        });
-    }
-    let ends = is_cue(cues, t);
-    if !ends {
+    let known = are_cues(blocks::count(rows, table), s, t);
+    if !known {
         return FewestAnswer::Refused(Refusal {
             number: 12,
             place: 0,
