@@ -1,9 +1,9 @@
-// The show library: every question of document 01, for all bytes, rows, numbers and lent buffers. Each promise is an equation with the
+// The show library: every question of documents 01 and 02, for all bytes, rows, numbers and lent buffers. Each promise is an equation with the
 // model's definition of the question: what is returned, in document 01's numbers, and what the lent list that is written holds
 // afterwards, refused calls included. What is lent to be read stays as it was.
 ghost use mathlib.Core.Path.{_≡_};
-ghost use Rattle.model.specs.Answers.{ofRead, ofWrite, ofCount, ofLocate, ofNumber, ofList, ofFewest};
-ghost use Rattle.model.specs.Questions.{outcome, readAsked, writeAsked, countAsked, locateAsked, numberAsked, outAsked, inAsked, fewestAsked};
+ghost use Rattle.model.specs.Answers.{ofRead, ofWrite, ofCount, ofLocate, ofNumber, ofList, ofRow, ofFewest};
+ghost use Rattle.model.specs.Questions.{outcome, readAsked, writeAsked, countAsked, locateAsked, numberAsked, outAsked, inAsked, rowAsked, fewestAsked};
 ghost use Rattle.answers.specs.Asked.{listAsked};
 use blocks::INDEX;
 use codec::Parsed;
@@ -14,6 +14,7 @@ use model::LocateAnswer;
 use model::NumberAnswer;
 use model::ReadAnswer;
 use model::Refusal;
+use model::RowAnswer;
 use model::Verdict;
 use model::WriteAnswer;
 use model::limits::MAX_ROWS;
@@ -107,6 +108,18 @@ pub fn list_in(rows: &[u32], v: u32, n: u32, page: &mut [u32]) -> ListAnswer
     ensures { λ r. ⌜ outcome (ofList r) (now (page .exit)) ≡ inAsked (now (rows .entry)) v n (now (page .entry)) ⌝ }
 {
     list(rows, true, v, n, page)
+}
+
+// The row behind the follow-on from cue s to cue t: the number of a link row and the depth of the copy that it stands in, whose path goes to the first
+// numbers of a lent list.
+pub fn row(rows: &[u32], s: u32, t: u32, path: &mut [u32]) -> RowAnswer
+    ensures { λ r. ⌜ outcome (ofRow r) (now (path .exit)) ≡ rowAsked (now (rows .entry)) s t (now (path .entry)) ⌝ }
+{
+    let mut table = [0u32; INDEX];
+    match verdicts::check(rows, &mut table) {
+        Verdict::Accepted => answers::row_in(rows, &table, s, t, path),
+        Verdict::Refused(refusal) => RowAnswer::Refused(refusal),
+    }
 }
 
 // The fewest follow-ons from cue s to cue t, or none. The work area holds the summaries of all blocks afterwards.

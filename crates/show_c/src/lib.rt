@@ -7,7 +7,7 @@ ghost use lib.ListN.{length};
 ghost use Rattle.model.specs.Lists.{overwrite};
 ghost use Rattle.model.specs.Answers.{flag, ofList};
 ghost use Rattle.model.specs.Verdicts.{verdict, fileVerdict};
-ghost use Rattle.model.specs.Questions.{readAsked, writeAsked, countAsked, locateAsked, numberAsked, outAsked, inAsked, fewestAsked};
+ghost use Rattle.model.specs.Questions.{readAsked, writeAsked, countAsked, locateAsked, numberAsked, outAsked, inAsked, rowAsked, fewestAsked};
 ghost use Rattle.show_c.specs.Interface.{givenSize, withGiven, alsoGiven, shortOf, Told, Wrote};
 use model::CountAnswer;
 use model::FewestAnswer;
@@ -16,6 +16,7 @@ use model::LocateAnswer;
 use model::NumberAnswer;
 use model::ReadAnswer;
 use model::Refusal;
+use model::RowAnswer;
 use model::WriteAnswer;
 
 // The least length of `given`.
@@ -204,6 +205,20 @@ pub extern "C" fn show_list_in(
         return short_rows(rows);
     }
     tell_page(show::list_in(rows, v, n, page), given)
+}
+
+// given: row, depth
+#[no_mangle]
+pub extern "C" fn show_row(rows: &[u32], s: u32, t: u32, path: &mut [u32], given: &mut [u32]) -> u64
+    ensures { λ c. ⌜ Wrote c (now (given .entry)) (now (given .exit)) (now (path .exit)) (alsoGiven (now (given .entry)) (verdict (now (rows .entry))) (now (path .entry)) (rowAsked (now (rows .entry)) s t (now (path .entry)))) ⌝ }
+{
+    if given.len() < GIVEN_SIZE {
+        return short_rows(rows);
+    }
+    match show::row(rows, s, t, path) {
+        RowAnswer::Row(row, depth) => tell_2(given, row, depth),
+        RowAnswer::Refused(r) => refused(r),
+    }
 }
 
 // given: whether there is a chain (0 or 1), follow-ons (0 where there is none)
