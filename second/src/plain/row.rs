@@ -32,12 +32,11 @@ pub fn row(
     Ok(())
 }
 
-/// The row that links s to t, from 0, and the way to its copy.
+/// The row that links s to t, from 0, and the way to its copy. The copy that owns the larger cue
+/// sees the other one, if any copy sees both: the cues below a copy have larger numbers than its own.
 fn origin(show: &Show, s: u32, t: u32) -> Option<(u32, Way)> {
-    let (mut from, mut to) = (Way::EMPTY, Way::EMPTY);
-    let frame_s = Frame::owning(show, s, |step| from.push(step.row as u32));
-    let frame_t = Frame::owning(show, t, |step| to.push(step.row as u32));
-    let (frame, mut way) = if from.depth < to.depth { (frame_t, to) } else { (frame_s, from) };
+    let mut way = Way::EMPTY;
+    let frame = Frame::owning(show, s.max(t), |step| way.push(step.row as u32));
     let pair = (frame.cue(show, s)?, frame.cue(show, t)?);
     let mut levels = [[[0; JOINS]; JOINS]; BLOCKS];
     for b in 0..frame.copy.block {
