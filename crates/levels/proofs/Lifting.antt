@@ -1,12 +1,16 @@
 -- What each step of the code makes of the levels of a block: a link, a pair of joins of a use, a join of it, the use.
-use Prim.Native.Nat.{ℕ, suc, _+_, _-_, _≤_, _<_}
+use Prim.Native.Nat.{ℕ, suc, _+_, _*_, _-_, _≤_, _<_}
 use native.Mathlib.Omega.{arith}
 use native.Mathlib.Decide.{ℕ-discrete, decLt}
 use native.Mathlib.Numerals.{add-one}
 use mathlib.Core.Path.{_≡_, refl, sym, _∙_, ap, ap₂}
+use mathlib.Core.Bool.{Bool, true}
 use mathlib.Core.Logic.{_≢_}
 use mathlib.Core.List.{List}
 use lib.ListN.{length, getD}
+use lib.Bits.{bitOr, or-add-and, and-le-l, and-le-r}
+use lib.Dec.{eqb}
+use borrow.Author.Tests.{eqb-true}
 use Rattle.model.specs.Choice.{ifLt, ifEq}
 use Rattle.model.specs.Limits.{maxJoins, maxBlocks}
 use Rattle.model.specs.Blocks.{Link, Use, blocksOf}
@@ -14,8 +18,8 @@ use Rattle.basics.proofs.Choices.{eq-then, eq-else, lt-then, lt-else}
 use Rattle.verdicts.specs.Index.{linkAt, linksFrom, useAt, usesFrom}
 use Rattle.blocks.specs.Loaded.{LinkRows, UseRows, columnAt}
 use Rattle.blocks.proofs.Loaded.{linksFrom-next, usesFrom-next}
-use Rattle.levels.specs.Levels.{betterLevel, oneMore, positionOf, levelAt, linkLevel, linksLevel, useLevel, usesLevel}
-use Rattle.levels.specs.Tables.{joinCue, Going, Changed, putLevel, usedJoins, MayLift, linksPut, usesLift, useLift, joinLift, pairLift}
+use Rattle.levels.specs.Levels.{betterLevel, oneMore, positionOf, pairsSize, levelAt, linkLevel, linksLevel, useLevel, usesLevel}
+use Rattle.levels.specs.Tables.{joinCue, Going, Changed, putLevel, Unlinked, usedJoins, MayLift, linksPut, usesLift, useLift, joinLift, pairLift}
 use Rattle.levels.proofs.Changes.{going-begin, going-on, going-done, changed-as}
 use Rattle.levels.proofs.Best.{position-found, position-is, none-left}
 
@@ -224,7 +228,30 @@ module _ {xs m : List ℕ} {k r : ℕ} (own i : ℕ) (may : MayLift xs m k r) wh
           go (yes e) (no l) = eq-then p i _ _ e ∙ lt-else q j _ _ (omega arith) ∙ lift-without may x y n (λ a. omega arith)
           go (no e) d = eq-else p i _ _ e
 
-  -- A join that meets an own cue has nothing to lift.
+  -- A join without links has nothing to lift,
+  pub join-unlinked : (b : ℕ) (q : Bool) → i < usedJoins xs r → b ≡ useAt xs (blocksOf xs) r .block → Unlinked m b i q → q ≡ true
+      → Changed k own (joinLift xs m r i) m m
+  unfolding joinLift useLift oneMore
+  join-unlinked b q h e none t =
+      going-begin k own (λ x y n. n) (joinLift xs m r i) m (λ x y n. sym (go x y n (ℕ-discrete (positionOf (u .at) x) i) (decLt (positionOf (u .at) y) (length (u .at)))))
+    where
+      u : Use
+      u = useAt xs (blocksOf xs) r
+
+      zero-at : (j : ℕ) → j < usedJoins xs r → levelAt m (u .block) i j ≡ 0
+      zero-at j l = rw (← e) (none .none t j (omega (arith, may .few)))
+
+      go : (x y n : ℕ) → Dec (positionOf (u .at) x ≡ i) → Dec (positionOf (u .at) y < length (u .at))
+          → ifEq (positionOf (u .at) x) i (betterLevel n (useLevel m u x y)) n ≡ n
+      go x y n (no d) l = eq-else _ i _ _ d
+      go x y n (yes d) (yes l) =
+          let a : length (u .at) ≡ usedJoins xs r = may .row .good .arity in
+          eq-then _ i _ _ d
+          ∙ ap (betterLevel n) (use-at may x y i (positionOf (u .at) y) d refl h (omega arith) ∙ eq-then _ 0 _ _ (zero-at (positionOf (u .at) y) (omega arith)))
+          ∙ none-left n
+      go x y n (yes d) (no l) = eq-then _ i _ _ d ∙ ap (betterLevel n) (use-without m u x y (λ z. omega arith)) ∙ none-left n
+
+  -- and so has one that meets an own cue.
   pub join-own : (a : ℕ) → i < usedJoins xs r → a ≡ columnAt xs r i → a ≤ own → Changed k own (joinLift xs m r i) m m
   unfolding joinLift
   join-own a h e l =
@@ -303,3 +330,23 @@ module _ {xs t m : List ℕ} {k : ℕ} (own : ℕ) {first end : ℕ} (rows : Use
   pub uses-done : {w : List ℕ} (r : ℕ) → Going k own (usesLeft xs m r end) (usesLift xs m k) m w → end ≤ r → Changed k own (usesLift xs m k) m w
   unfolding usesLevel usesFrom
   uses-done r g h = going-done g (λ x y n. let z : end - r ≡ 0 = omega arith in rw z refl)
+
+-- Levels that are 0 when all are joined by "or".
+pub record NoneYet (m : List ℕ) (at j all : ℕ) : Type 0 where
+  pub none : all ≡ 0 → (n : ℕ) → n < j → getD m (at + n) 0 ≡ 0
+
+or-none : (a b : ℕ) → bitOr a b ≡ 0 → (a ≡ 0) × (b ≡ 0)
+or-none a b e = omega (arith, or-add-and a b, and-le-l a b, and-le-r a b)
+
+pub none-begin : (m : List ℕ) (at : ℕ) → NoneYet m at 0 0
+none-begin m at = record { none = λ e n h. absurd (omega arith) }
+
+pub none-on : (m : List ℕ) (at j all x : ℕ) → NoneYet m at j all → x ≡ getD m (at + j) 0 → NoneYet m at (j + 1) (bitOr all x)
+none-on m at j all x s e = record { none = λ z n h. go n h (or-none all x z) (ℕ-discrete n j) }
+  where
+    go : (n : ℕ) → n < j + 1 → (all ≡ 0) × (x ≡ 0) → Dec (n ≡ j) → getD m (at + n) 0 ≡ 0
+    go n h o (yes d) = ap (λ (i : ℕ). getD m (at + i) 0) d ∙ sym e ∙ o .1
+    go n h o (no d) = s .none (o .0) n (omega arith)
+
+pub none-done : (m : List ℕ) (k i at j all : ℕ) (r : Bool) → NoneYet m at j all → maxJoins ≤ j → at ≡ pairsSize * k + maxJoins * i → r ≡ eqb all 0 → Unlinked m k i r
+none-done m k i at j all r s h e f = record { none = λ t n l. rw (← e) (s .none (eqb-true all 0 (sym f ∙ t)) n (omega arith)) }

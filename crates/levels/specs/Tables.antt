@@ -1,6 +1,7 @@
 -- What a table of levels says, and how the levels of one block change.
 use Prim.Native.Nat.{ℕ, _+_, _*_, _≤_, _<_}
 use mathlib.Core.Path.{_≡_}
+use mathlib.Core.Bool.{Bool, true}
 use mathlib.Core.Logic.{_≢_}
 use mathlib.Core.List.{List}
 use lib.ListN.{length}
@@ -53,6 +54,10 @@ putLevel a b n x y old = ifEq a x (ifEq b y (betterLevel old n) old) old
 -- The table has room for block k.
 abbrev pub HasPairs : List ℕ → ℕ → Type 0
 HasPairs m k = pairsSize * k + pairsSize ≤ length m
+
+-- No link leads from join i of block k to another.
+pub record Unlinked (m : List ℕ) (k i : ℕ) (r : Bool) : Type 0 where
+  pub none : r ≡ true → (j : ℕ) → j < maxJoins → levelAt m k i j ≡ 0
 
 -- The joins of the block that the use of row r names.
 abbrev pub usedJoins : List ℕ → ℕ → ℕ

@@ -21,7 +21,7 @@ ghost use Rattle.model.specs.Limits.{maxJoins};
 ghost use Rattle.model.specs.Behind.{depthWins};
 ghost use Rattle.blocks.specs.Loaded.{Loaded, IsBlock};
 ghost use Rattle.levels.specs.Levels.{betterLevel, tableSize, levelAt};
-ghost use Rattle.levels.specs.Tables.{Levels, Fresh, Changed, putLevel, HasPairs, usedJoins, MayLift, linksPut, usesLift, useLift, joinLift, pairLift};
+ghost use Rattle.levels.specs.Tables.{Levels, Fresh, Changed, putLevel, HasPairs, Unlinked, usedJoins, MayLift, linksPut, usesLift, useLift, joinLift, pairLift};
 
 // A level for each two joins of a block, and of all blocks.
 pub const PAIRS: usize = JOINS * JOINS;
@@ -107,11 +107,29 @@ fn lift_pair(xs: &[u32], m: &mut [u8], k: usize, own: u32, r: usize, i: usize, j
     }
 }
 
+// No link leads from join i of block k to another. Most joins have none, so their levels are looked at as a whole first.
+fn unlinked(m: &[u8], k: usize, i: usize) -> bool
+    requires { ⌜ HasPairs (now m) k × (i < maxJoins) ⌝ }
+    ensures { λ r. ⌜ Unlinked (now (m .entry)) k i r ⌝ }
+{
+    let at = PAIRS * k + JOINS * i;
+    let mut all = 0;
+    let mut j = 0;
+    while j < JOINS {
+        all = all | m[at + j];
+        j += 1;
+    }
+    all == 0
+}
+
 // Lifts the levels from join i.
 fn lift_join(xs: &[u32], m: &mut [u8], k: usize, own: u32, r: usize, joins: usize, i: usize)
     requires { ⌜ MayLift (now xs) (now m) k r × (joins ≡ usedJoins (now xs) r) × (i < joins) ⌝ }
     ensures { λ _. ⌜ Changed k own (joinLift (now (xs .entry)) (now (m .entry)) r i) (now (m .entry)) (now (m .exit)) ⌝ }
 {
+    if unlinked(m, used(xs, r), i) {
+        return;
+    }
     if column(xs, r, i) <= own {
         return;
     }
