@@ -22,7 +22,7 @@ givenAfter r given = overwrite (r .values) given
 abbrev pub givenSize : ℕ
 givenSize = 3
 
--- A shorter one is refusal 11: after the refusals of the rows or the file, and before 12 and 13.
+-- A shorter one is refusal 11: after the refusals of the rows or the file, and before 12, 13 and 14.
 unfoldable pub withGiven : List ℕ → Verdict → Returned → Returned
 withGiven given v r = ifLt (length given) givenSize (onAccepted v (λ f. returned f) (returned (refusal 11 0))) r
 
