@@ -185,12 +185,12 @@ SHOW_NODISCARD uint64_t show_fewest(const uint32_t *rows, size_t rows_len, uint3
  *   path       output: the path of that copy, depth numbers, each the position of a use in its block, from 1. At least SHOW_PATH_LEN,
  *              whatever the depth.
  *   Which one  Each copy counts whose block sees both cues, as own cues or as joins, and each label. Of several rows the one with the
- *              shortest path is given; of equal lengths, the path that is smaller at the first step where they differ; then the
- *              smaller row.
+ *              shortest path is given; of two that are as long, the one with the smaller number at the first step where they
+ *              differ; in one copy, the first row.
  *   Editing    The row's numbers are 11 * (row - 1) and on. A row is written once for all copies of its block, so what is changed
  *              there changes in each of them, and another row may join s to t as well.
- *   Refusals   4, 5 to 10 with rows as places, 11 for path or given, 12 for s or t, then 14, so always where s is t.
- *   Cost       one to three times show_count. Stack: about 15 kB. */
+ *   Refusals   4, 5 to 10 with rows as places, 11 for path or given, 12 for s or t, then 14, as for every cue with itself.
+ *   Cost       one to three times show_count; 90 us for 128 blocks of eight joins. Stack: STACK. */
 SHOW_NODISCARD uint64_t show_row(const uint32_t *rows, size_t rows_len, uint32_t s, uint32_t t, uint32_t *path, size_t path_len,
                                  uint32_t *given, size_t given_len);
 

@@ -9,7 +9,7 @@
 #include <sys/mman.h>
 #include <ucontext.h>
 
-enum { ROOM = SHOW_STACK_LEN + 64 * 1024, PATTERN = 0xA5, QUESTIONS = 9 };
+enum { ROOM = SHOW_STACK_LEN + 64 * 1024, PATTERN = 0xA5, ROW = 8, QUESTIONS = 9 };
 
 static uint8_t file[SHOW_MAX_FILE + 1], text[SHOW_MAX_FILE];
 static uint32_t rows[SHOW_ROWS_LEN], work[SHOW_WORK_LEN], page[4096], path[SHOW_PATH_LEN], given[SHOW_GIVEN_LEN];
@@ -31,11 +31,11 @@ static void ask(void) {
     case 5: returned = show_list_out(rows, numbers, 1, 0, page, 4096, given, SHOW_GIVEN_LEN); break;
     case 6: returned = show_list_in(rows, numbers, 1, 0, page, 4096, given, SHOW_GIVEN_LEN); break;
     case 7: returned = show_fewest(rows, numbers, 1, cues, work, SHOW_WORK_LEN, given, SHOW_GIVEN_LEN); break;
-    case 8: returned = show_row(rows, numbers, 1, cues, path, SHOW_PATH_LEN, given, SHOW_GIVEN_LEN); break;
+    case ROW: returned = show_row(rows, numbers, 1, cues, path, SHOW_PATH_LEN, given, SHOW_GIVEN_LEN); break;
     }
 }
 
-static int answered(void) { return returned == 0 || show_refusal(returned) == SHOW_NO_SUCH_LINK; }
+static int answered(void) { return returned == 0 || (question == ROW && show_refusal(returned) == SHOW_NO_SUCH_LINK); }
 
 /* How much of its stack a question used. */
 static size_t used(uint8_t *stack) {

@@ -199,8 +199,8 @@ pub fn list_of(
     ListAnswer::Page(listed.written, listed.more)
 }
 
-// The row behind the follow-on from cue s to cue t of a loaded show. The rows of the uses that lead to its copy stand first in the list afterwards.
-// Only the larger cue is looked for: where a link joins the two, its copy is the deeper one, since a copy numbers its own cues before those of its uses.
+// The row behind the follow-on from cue s to cue t of a loaded show. If there is one, the rows of the uses that lead to its copy stand first in the list afterwards.
+// Only the larger cue is looked for: where a link joins the two, the larger cue's copy is the deeper one, since a copy numbers its own cues before those of its uses.
 fn behind_of(
     rows: &[u32],
     table: &[u32; INDEX],
@@ -219,7 +219,7 @@ fn behind_of(
     behind::behind(rows, table, place, way, t, false)
 }
 
-// What is answered of it. The path of its copy goes to the beginning of the lent list, which is long enough.
+// The answer about that row. The path of its copy goes to the beginning of the lent list, which is long enough.
 fn row_behind(rows: &[u32], table: &[u32; INDEX], s: u32, t: u32, path: &mut [u32]) -> RowAnswer
     requires { ⌜ Loaded (now rows) (now table) × ShowCue (now rows) s × ShowCue (now rows) t × (maxDepth ≤ length (now path)) ⌝ }
     ensures { λ r. ⌜ outcome (ofRow r) (now (path .exit)) ≡ rowFound (behind (now (rows .entry)) s t) (now (path .entry)) ⌝ }

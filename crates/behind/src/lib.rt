@@ -18,7 +18,7 @@ use blocks::used;
 use copies::Frame;
 use copies::descend;
 use levels::TABLE;
-use levels::level;
+use levels::level_at;
 use levels::levels;
 use levels::wins;
 ghost use mathlib.Core.Path.{_≡_};
@@ -40,8 +40,8 @@ pub struct Pair {
     pub to: u32,
 }
 
-// The use that leads on from a copy to the best link: the level of that link below it, its row, and the joins of the used block that the two
-// cues meet. Level 0 is none.
+// The use that leads on from a copy to the best link: the level of that link below it, the row of the use, from 0,
+// and the joins of the used block that meet the two cues, from 0. Level 0 is none.
 pub struct Lead {
     pub level: u8,
     pub row: usize,
@@ -118,7 +118,7 @@ fn try_use(xs: &[u32], t: &[u32; INDEX], m: &[u8], c: Pair, r: usize, lead: Lead
     if joins <= j {
         return lead;
     }
-    let n = level(m, k, i, j);
+    let n = level_at(m, k, i, j);
     if beats(n, lead.level) {
         return Lead {
             level: n,
@@ -150,7 +150,7 @@ fn best_use(xs: &[u32], t: &[u32; INDEX], m: &[u8], c: Pair) -> Lead
     lead
 }
 
-// The way ends here: there is an own row, or none, and no use leads to a better one.
+// The way ends here: no use leads to a better row than the copy's own, if it has one.
 fn stays(row: u32, n: u8) -> bool
     requires { ⌜ n ≤ maxBlocks ⌝ }
     ensures { λ r. ⌜ r ≡ staysHere row n ⌝ }
@@ -161,8 +161,8 @@ fn stays(row: u32, n: u8) -> bool
     if row == 0 {
         return false;
     }
-    let better = wins(n + 1, 1);
-    if better {
+    let deeper = wins(n + 1, 1);
+    if deeper {
         return false;
     }
     true
@@ -182,7 +182,7 @@ fn follow(xs: &[u32], t: &[u32; INDEX], lead: Lead) -> Pair
     }
 }
 
-// The row of the best link between two cues of a copy, and the way down to it: the rows of uses that follow those before it, so many of them.
+// The best row between two cues of the copy that the first depth rows lead to. The rows of the uses that lead on from there are put behind them.
 fn walk(
     xs: &[u32],
     t: &[u32; INDEX],
@@ -244,7 +244,7 @@ fn seen(xs: &[u32], t: &[u32; INDEX], z: Frame, v: u32) -> u32
     0
 }
 
-// The row behind the follow-on between the cue of a place and a cue v that is not above it, leading inward to the place or out from it. The rows of
+// The row behind the follow-on between the cue of a place and a cue v whose number is not larger, leading inward to the place or out from it. The rows of
 // the uses that lead to the row's copy stand first in the list afterwards.
 pub fn behind(
     xs: &[u32],

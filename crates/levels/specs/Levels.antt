@@ -1,4 +1,5 @@
--- Levels: how many copies a way has from a copy down to the one with a link's row, both counted; 0 where there is no such link.
+-- Levels: how many copies a way has from a copy down to the one with a link's row, both counted; 0 where there is no such link. (The levels of a
+-- place, in blocks/specs/Places, are counted from the show.)
 use Prim.Native.Nat.{ℕ, suc, _+_, _*_}
 use mathlib.Core.List.{List, [], _∷_}
 use lib.ListN.{length, getD}

@@ -55,7 +55,7 @@ putLevel a b n x y old = ifEq a x (ifEq b y (betterLevel old n) old) old
 abbrev pub HasPairs : List ℕ → ℕ → Type 0
 HasPairs m k = pairsSize * k + pairsSize ≤ length m
 
--- No link leads from join i of block k to another.
+-- If r is true, no link leads from join i of block k to another.
 pub record Unlinked (m : List ℕ) (k i : ℕ) (r : Bool) : Type 0 where
   pub none : r ≡ true → (j : ℕ) → j < maxJoins → levelAt m k i j ≡ 0
 

@@ -36,7 +36,7 @@ pub fn wins(a: u8, b: u8) -> bool
 }
 
 // The better of two levels, of which 0 is none.
-fn better(a: u8, b: u8) -> u8
+fn better_level(a: u8, b: u8) -> u8
     ensures { λ r. ⌜ r ≡ betterLevel a b ⌝ }
 {
     if b == 0 {
@@ -52,7 +52,7 @@ fn better(a: u8, b: u8) -> u8
 }
 
 // The level from join i to join j of block k.
-pub fn level(m: &[u8], k: usize, i: usize, j: usize) -> u8
+pub fn level_at(m: &[u8], k: usize, i: usize, j: usize) -> u8
     requires { ⌜ HasPairs (now m) k × (i < maxJoins) × (j < maxJoins) ⌝ }
     ensures { λ n. ⌜ n ≡ levelAt (now (m .entry)) k i j ⌝ }
 {
@@ -80,7 +80,7 @@ fn put(m: &mut [u8], k: usize, own: u32, a: u32, b: u32, n: u8)
     }
     let at = PAIRS * k + JOINS * i + j;
     let old = m[at];
-    m[at] = better(old, n);
+    m[at] = better_level(old, n);
 }
 
 // Puts in the links of a block.
@@ -101,7 +101,7 @@ fn lift_pair(xs: &[u32], m: &mut [u8], k: usize, own: u32, r: usize, i: usize, j
     requires { ⌜ MayLift (now xs) (now m) k r × (i < usedJoins (now xs) r) × (j < usedJoins (now xs) r) ⌝ }
     ensures { λ _. ⌜ Changed k own (pairLift (now (xs .entry)) (now (m .entry)) r i j) (now (m .entry)) (now (m .exit)) ⌝ }
 {
-    let n = level(m, used(xs, r), i, j);
+    let n = level_at(m, used(xs, r), i, j);
     if 0 < n {
         put(m, k, own, column(xs, r, i), column(xs, r, j), n + 1);
     }

@@ -40,7 +40,7 @@ usesTraced size below number p base (u ∷ us) =
     map (tracedInto p) (below (u .block) base (map number (u .at))) ++ usesTraced size below number (suc p) (base + size (u .block)) us
 
 -- The links of a copy of block k whose own cues follow base and whose joins meet met, as the unfolding finds them (Unfolding.links), where
--- opening says which row opens a block: "A block's rows are its opening, its links, its uses."
+-- opening says which row opens a block: "A block's rows are its opening, its links, its uses." (01)
 unfoldable pub traced : (ℕ → ℕ) → List Block → ℕ → ℕ → List ℕ → List Traced
 traced opening [] k base met = []
 traced opening (b ∷ earlier) k base met =
@@ -70,9 +70,9 @@ depthWins a b = ltb a b
 
 -- "Among equal lengths, the path that is smaller at the first differing step wins, then the smaller row."
 unfoldable pub stepsWin : List ℕ → List ℕ → Bool → Bool
-stepsWin [] ways row = row
-stepsWin (p ∷ path) [] row = row
-stepsWin (p ∷ path) (q ∷ way) row = ifLt p q true (ifLt q p false (stepsWin path way row))
+stepsWin [] way rest = rest
+stepsWin (p ∷ path) [] rest = rest
+stepsWin (p ∷ path) (q ∷ way) rest = ifLt p q true (ifLt q p false (stepsWin path way rest))
 
 unfoldable pub better : Origin → Origin → Bool
 better x y =

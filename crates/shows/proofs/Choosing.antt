@@ -1,5 +1,5 @@
 -- The order of origins, and the best of some: of two lists in a row it is the winner of their best ones, and a step in front of all of them
--- changes nothing. What is known of `depthWins` stands in `depths` alone, and holds whichever of two depths wins.
+-- changes nothing. What is known of `depthWins` stands in `depths` and `depth-step`, and holds whichever of two depths wins.
 use Prim.Native.Nat.{ℕ, suc, _<_, _≤_}
 use native.Mathlib.Omega.{arith}
 use native.Mathlib.Decide.{decLt}
@@ -41,7 +41,7 @@ less =
     at a b (no h) (yes k) = second (lt-ltb b a k)
     at a b (no h) (no k) = same (omega arith)
 
--- "the shortest path wins": all that is known of the order of depths.
+-- "the shortest path wins": the order of depths.
 depths : Orders depthWins
 unfolding depthWins
 depths = less

@@ -260,8 +260,8 @@ impl<'a> Rows<'a> {
     /// `s` or `t`, and [`Refused::NoSuchLink`], so always where `s` is `t`.
     ///
     /// Each copy counts whose block sees both cues, as own cues or as joins, and each label. Of several
-    /// rows the one with the shortest path is given; of equal lengths, the path that is smaller at the
-    /// first step where they differ; then the smaller row.
+    /// rows the one with the shortest path is given; of two that are as long, the one with the smaller
+    /// number at the first step where they differ; in one copy, the first row.
     ///
     /// A row is written once for all copies of its block: what is changed there changes in each.
     ///

@@ -33,9 +33,12 @@ impl Memory {
             given: &mut self.given,
         };
         let returned = subject.ask(black_box(input), black_box(question), &mut lent);
-        let no_link = Some(Refusal::new(14, 0).returned());
-        let answered = returned == Some(0) || returned == no_link;
-        assert!(answered, "a benchmark question has an answer, or there is no link");
+        let no_link = matches!(question, Question::Row { .. })
+            && returned == Some(Refusal::new(14, 0).returned());
+        assert!(
+            returned == Some(0) || no_link,
+            "a benchmark question has an answer, or no link joins the cues"
+        );
     }
 }
 

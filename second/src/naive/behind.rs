@@ -1,4 +1,5 @@
-//! The row behind a follow-on: every link row in every copy that sees both cues.
+//! The row behind a follow-on: the link rows of the copies that see both cues; of copies of a block
+//! that see them by the same joins, the best one.
 
 use std::collections::HashSet;
 

@@ -1,5 +1,6 @@
 //! The second tool: reads files, checks rows, unfolds by replacing uses one at a time,
-//! and answers by looking at the unfolding. Written to be read, not to be quick.
+//! and answers by looking at the unfolding; the row behind a follow-on by looking at copies. Written
+//! to be read, not to be quick.
 
 pub mod ask;
 pub mod behind;

@@ -171,7 +171,7 @@ fn linked_pairs(rows: &[u32]) -> Vec<Question> {
     pairs
 }
 
-/// The tower has no links: all of the work, and no row.
+/// The tower's last copy does not see its first cue: no levels are made, and there is no row.
 fn behind(usual: &[Named; 4], lengths: &[Named; 3]) -> Vec<Entry> {
     let [ring, tower, knot, _] = usual;
     let long_ring = named("long ring, 1 to the last", known::long_ring(30));

@@ -43,8 +43,8 @@ returns-2 c =
     let pre = named .before .before .before .pre in
     unmet-to (pre .0) _ (pre .1) _ (pre .2) _ (pre .3) _ _ _ (named .used .ensures .0) (many .joins .ensures .0) (second .join-at2 .ensures) (c .if2 .taken)
 
-level-requires : tie.Need-level-requires
-level-requires c κs =
+level-at-requires : tie.Need-level-at-requires
+level-at-requires c κs =
     let second = c .before in
     let many = second .before .before .before in
     let named = many .before in
@@ -66,7 +66,7 @@ returns-3 c =
     let named = many .before in
     let pre = named .before .before .before .pre in
     tried-better (pre .0) _ (pre .1) _ (pre .2) _ (pre .3) _ _ _ _ _ (named .used .ensures .0) (many .joins .ensures .0) (first .join-at .ensures)
-    (second .join-at2 .ensures) (other .if1 .left) (test .if2 .left) (at-level .level .ensures) _ (c .before .beats .ensures) (c .if3 .taken)
+    (second .join-at2 .ensures) (other .if1 .left) (test .if2 .left) (at-level .level-at .ensures) _ (c .before .beats .ensures) (c .if3 .taken)
 
 returns-4 : tie.Need-returns-4
 returns-4 c =
@@ -79,10 +79,10 @@ returns-4 c =
     let named = many .before in
     let pre = named .before .before .before .pre in
     tried-worse (pre .0) _ (pre .1) _ (pre .2) _ (pre .3) _ _ _ _ _ (named .used .ensures .0) (many .joins .ensures .0) (first .join-at .ensures)
-    (second .join-at2 .ensures) (other .if1 .left) (test .if2 .left) (at-level .level .ensures) _ (c .before .beats .ensures) (c .if3 .left)
+    (second .join-at2 .ensures) (other .if1 .left) (test .if2 .left) (at-level .level-at .ensures) _ (c .before .beats .ensures) (c .if3 .left)
 
 pub try-use-spec : {M : Type 1} → statement M
 try-use-spec =
     tie.close
-    (tie.spec used-requires joins-requires join-at-requires returns join-at-requires-2 returns-2 level-requires
+    (tie.spec used-requires joins-requires join-at-requires returns join-at-requires-2 returns-2 level-at-requires
     (λ c κs. search needs) returns-3 returns-4)

@@ -11,7 +11,7 @@ add-put c =
     let lev = c .before .before .before .before in
     let at-used = lev .before in
     let pre = at-used .before .before .before .before .pre in
-    omega (arith, level-few (pre .0) _ _ _ _ (at-used .used .ensures .0) (pre .1) (pre .2) (lev .level .ensures))
+    omega (arith, level-few (pre .0) _ _ _ _ (at-used .used .ensures .0) (pre .1) (pre .2) (lev .level-at .ensures))
 
 returns : tie.Need-returns
 returns c =
@@ -23,14 +23,14 @@ returns c =
     let at-used = lev .before in
     let pre = at-used .before .before .before .before .pre in
     pair-lifted (pre .0) _ _ _ _ (pre .1) (pre .2) (first .column .ensures) (second .column2 .ensures) _ _ _
-    (at-used .used .ensures .0) (lev .level .ensures) (test .if1 .taken) refl (at-put .put .ensures)
+    (at-used .used .ensures .0) (lev .level-at .ensures) (test .if1 .taken) refl (at-put .put .ensures)
 
 returns-2 : tie.Need-returns-2
 returns-2 c =
     let lev = c .before in
     let at-used = lev .before in
     let pre = at-used .before .before .before .before .pre in
-    pair-none (pre .0) _ _ _ _ _ (pre .1) (pre .2) (at-used .used .ensures .0) (lev .level .ensures) (c .if1 .left)
+    pair-none (pre .0) _ _ _ _ _ (pre .1) (pre .2) (at-used .used .ensures .0) (lev .level-at .ensures) (c .if1 .left)
 
 pub lift-pair-spec : {M : Type 1} → statement M
 lift-pair-spec =

@@ -1,9 +1,9 @@
--- `better`: each return is a branch of the definition.
+-- `better_level`: each return is a branch of the definition.
 use borrow.Author.Needs.{needs}
 use Rattle.basics.proofs.Choices.{ifs}
 use Rattle.levels.specs.Levels.{betterLevel}
-use Rattle.levels.proofs.better.Statement.{statement}
-use Rattle.levels.proofs.better.Tie as tie
+use Rattle.levels.proofs.better_level.Statement.{statement}
+use Rattle.levels.proofs.better_level.Tie as tie
 
 returns : tie.Need-returns
 unfolding betterLevel
@@ -21,7 +21,7 @@ returns-4 : tie.Need-returns-4
 unfolding betterLevel
 returns-4 c = search (ifs, needs)
 
-pub better-spec : {M : Type 1} → statement M
-better-spec =
+pub better-level-spec : {M : Type 1} → statement M
+better-level-spec =
     tie.close
     (tie.spec returns returns-2 (λ c κs. search needs) returns-3 returns-4)
