@@ -190,7 +190,7 @@ SHOW_NODISCARD uint64_t show_fewest(const uint32_t *rows, size_t rows_len, uint3
  *   Editing    The row's numbers are 11 * (row - 1) and on. A row is written once for all copies of its block, so what is changed
  *              there changes in each of them, and another row may join s to t as well.
  *   Refusals   4, 5 to 10 with rows as places, 11 for path or given, 12 for s or t, then 14, as for every cue with itself.
- *   Cost       one to three times show_count; 90 us for 128 blocks of eight joins. Stack: STACK. */
+ *   Cost       one to three times show_count; 90 us for 128 blocks of eight joins. Stack: 16 kB. */
 SHOW_NODISCARD uint64_t show_row(const uint32_t *rows, size_t rows_len, uint32_t s, uint32_t t, uint32_t *path, size_t path_len,
                                  uint32_t *given, size_t given_len);
 
