@@ -1,13 +1,17 @@
--- Chains and the fewest follow-ons. Document 01, "Unfolding". In the field's terms: walks and the distance from s to t.
+-- Chains and the fewest follow-ons. Document 01, "Unfolding", and 02, Paper 3. In the field's terms: walks and the distance from s to t.
 use Prim.Native.Nat.{ℕ, zero, suc}
 use mathlib.Core.Bool.{Bool, true, false}
 use mathlib.Core.List.{List, [], _∷_, List·Memᴰ}
 use lib.Dec.{eqb}
+use Rattle.model.specs.Choice.{ifLt}
+use Rattle.model.specs.Limits.{maxFollowed}
 use Rattle.model.specs.Blocks.{Link}
 
--- The links that a chain may have: all of them. "All labels count as follow-ons."
-abbrev pub followed : List Link → List Link
-followed E = E
+-- The links that a chain may have. 02, Paper 3: "From now on a chain has only links with labels 1 to 254". Those of label 255 are notes, which
+-- lists and the unfolding program show (01: "All labels count as follow-ons").
+unfoldable pub followed : List Link → List Link
+followed [] = []
+followed (l ∷ E) = ifLt maxFollowed (l .label) (followed E) (l ∷ followed E)
 
 -- Chain E t s n is a chain from s to t that has n of the links E. "A chain from s to t in an unfolding is a list of its links: the
 -- first starts at s, each next one where the one before ended, and the last ends at t. Its length is how many links the list has. The

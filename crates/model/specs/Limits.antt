@@ -25,6 +25,10 @@ maxOwn = 255
 abbrev pub maxLabel : ℕ
 maxLabel = 255
 
+-- "a chain has only links with labels 1 to 254" (02, Paper 3).
+abbrev pub maxFollowed : ℕ
+maxFollowed = 254
+
 -- "Blocks run 0, 1, 2 and on without a gap, at most 128."
 abbrev pub maxBlocks : ℕ
 maxBlocks = 128

@@ -13,7 +13,7 @@ use Rattle.model.specs.Unfolding.{showLinks}
 use Rattle.model.specs.Answers.{returned, given}
 use Rattle.model.specs.Questions.{answer, refuse, readAsked, writeAsked, countAsked, locateAsked, numberAsked, outAsked, inAsked, rowAsked, fewestAsked}
 use Rattle.model.specs.Printed.{triples, printed}
-use Rattle.model.specs.Ring.{ring, ringFile, ringPrinted, opening, openingFile, paddedFile}
+use Rattle.model.specs.Ring.{ring, notedRing, ringFile, notedFile, ringPrinted, notedPrinted, opening, openingFile, paddedFile}
 
 -- Lent lists hold 7s before the call, so that a place which must not change is seen.
 abbrev pub lentPath : List ℕ
@@ -94,3 +94,12 @@ pub record Starred : Type 0 where
   pub row-1-1 : rowAsked ring 1 1 lentPath ≡ refuse (refusal 14 0) lentPath
   pub row-6-1 : rowAsked ring 6 1 lentPath ≡ refuse (refusal 12 0) lentPath
   pub row-short : rowAsked ring 6 1 (drop 1 lentPath) ≡ refuse (refusal 11 0) (drop 1 lentPath)
+  -- 02, Paper 3: with a note for the ring's link from 2 to 1, fewest 2 to 1 and 4 to 3 are none and 1 to 2 is still 4; the work area is the same
+  pub noted-2-1 : fewestAsked notedRing 2 1 lentWork ≡ answer (0 ∷ 0 ∷ []) ringWork
+  pub noted-4-3 : fewestAsked notedRing 4 3 lentWork ≡ answer (0 ∷ 0 ∷ []) ringWork
+  pub noted-1-2 : fewestAsked notedRing 1 2 lentWork ≡ answer (1 ∷ 4 ∷ []) ringWork
+  -- the lists, the row behind it and the printed links still show it
+  pub noted-out : outAsked notedRing 2 0 (7 ∷ 7 ∷ []) ≡ answer (1 ∷ 0 ∷ []) (1 ∷ 7 ∷ [])
+  pub noted-in : inAsked notedRing 1 0 (7 ∷ 7 ∷ []) ≡ answer (1 ∷ 0 ∷ []) (2 ∷ 7 ∷ [])
+  pub noted-row : rowAsked notedRing 2 1 lentPath ≡ answer (8 ∷ 0 ∷ []) lentPath
+  pub noted-print : printed notedFile ≡ notedPrinted
