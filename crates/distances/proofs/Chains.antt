@@ -5,9 +5,10 @@ use native.Mathlib.Nat.{zero-add, suc-add}
 use mathlib.Core.Path.{_≡_, refl}
 use mathlib.Core.List.{List, List·Memᴰ}
 use Rattle.model.specs.Blocks.{Link}
-use Rattle.model.specs.Chains.{Chain, here, link}
+use Rattle.model.specs.Chains.{Chain, here, link, followed}
 use Rattle.distances.specs.Walks.{Walk, stop, step, Price, each-one, Linked}
 use Rattle.distances.proofs.Walks.{next, walk-map, edges}
+use Rattle.distances.proofs.Followed.{followed-is, followed-has}
 
 -- Two chains, one after the other.
 pub chain-append : {E : List Link} {s u t n m : ℕ} → Chain E u s n → Chain E t u m → Chain E t s (n + m)
@@ -40,15 +41,17 @@ chain-last {E} {s} {t} {n} c = let e : suc n ≡ n + 1 = omega arith in let (u, 
     go : {u : ℕ} → Chain E u s n → Chain E t u 1 → (l : Link) × List·Memᴰ l E × Chain E (l .from) s n × (l .to ≡ t)
     go a (link l i c) = (l, i, a, chain-nought c refl)
 
--- Chains are the walks over links that count 1 each.
-pub chain-walk : {E : List Link} {s t n : ℕ} → Chain E t s n → Walk (Linked each-one E) t s n
+-- Chains of followed links are the walks over links that count 1 each.
+pub chain-walk : {E : List Link} {s t n : ℕ} → Chain (followed E) t s n → Walk (Linked each-one E) t s n
 chain-walk here = stop refl refl
-chain-walk (link l i c) = next (l .to) 1 _ (l, i, refl, refl, refl) (chain-walk c) (omega arith)
+chain-walk {E} (link l i c) =
+    let (j, h) = followed-is E l i in
+    next (l .to) 1 _ (l, j, refl, refl, (h, refl)) (chain-walk c) (omega arith)
 
-pub walk-chain : {E : List Link} {s t n : ℕ} → Walk (Linked each-one E) t s n → Chain E t s n
+pub walk-chain : {E : List Link} {s t n : ℕ} → Walk (Linked each-one E) t s n → Chain (followed E) t s n
 walk-chain (stop p q) = rw (p, q) here
-walk-chain {E} {s} {t} {n} (step u w m (l, i, p, q, o) c e) =
-    let d : Chain E t s (suc m) = rw p at (link l i (rw (← q) at (walk-chain c))) in
+walk-chain {E} {s} {t} {n} (step u w m (l, i, p, q, (h, o)) c e) =
+    let d : Chain (followed E) t s (suc m) = rw p at (link l (followed-has E l i h) (rw (← q) at (walk-chain c))) in
     let k : suc m ≡ n = omega arith in
     rw k at d
 

@@ -139,18 +139,18 @@ abbrev pub Starts : List Link → ℕ → Type 0
 Starts E cues = (l : Link) → List·Memᴰ l E → (1 ≤ l .from) × (l .from ≤ cues)
 
 -- Every chain to one of the cues can be cut to one with fewer links than there are cues.
-pub below-cues : {E : List Link} (cues : ℕ) {s t n : ℕ} → Starts E cues → 1 ≤ t → t ≤ cues → Chain E t s n
-    → (m : ℕ) × Chain E t s m × (m ≤ n) × (m < cues)
+pub below-cues : {E : List Link} (cues : ℕ) {s t n : ℕ} → Starts E cues → 1 ≤ t → t ≤ cues → Chain (followed E) t s n
+    → (m : ℕ) × Chain (followed E) t s m × (m ≤ n) × (m < cues)
 below-cues {E} cues {s} {t} {n} starts low high c =
     let (m, d, h, k) = chain-shorten (range 1 cues) (λ l i. range-mem 1 cues (l .from) (starts l i .0) (omega (arith, starts l i .1)))
     (range-mem 1 cues t low (omega arith)) c in
     (m, d, h, omega (arith, range-length 1 cues))
 
-pub fewest-right : (E : List Link) (cues s t : ℕ) → Starts (followed E) cues → 1 ≤ t → t ≤ cues → RightDistance (followed E) s t (fewest E cues s t)
+pub fewest-right : (E : List Link) (cues s t : ℕ) → Starts E cues → 1 ≤ t → t ≤ cues → RightDistance (followed E) s t (fewest E cues s t)
 unfolding fewest
 fewest-right E cues s t starts low high =
     search-right (followed E) s t cues 0 (s ∷ []) (front-first s) (λ m g. absurd (omega arith))
-    (λ g m c. let (k, d, h, l) = below-cues cues starts low high c in g k (omega arith) d)
+    (λ g m c. let (k, d, h, l) = below-cues {E = E} cues starts low high c in g k (omega arith) d)
 
 -- The number of an answer, and 0 for none; whether it is a number.
 number-of : Distance → ℕ
@@ -213,16 +213,16 @@ right-same E s t (Far n) b x y = let (m, e) = right-shortest E s t b y .found n 
 right-same E s t Unreachable b x y = sym (right-shortest E s t b y .lost x)
 
 -- Demand 3 where the cues are 1 .. cues: the answer is the length of the shortest chain.
-pub fewest-shortest : (E : List Link) (cues s t : ℕ) → Starts (followed E) cues → 1 ≤ t → t ≤ cues
+pub fewest-shortest : (E : List Link) (cues s t : ℕ) → Starts E cues → 1 ≤ t → t ≤ cues
     → Shortest (followed E) s t (fewest E cues s t)
 fewest-shortest E cues s t starts low high =
     right-shortest (followed E) s t (fewest E cues s t) (fewest-right E cues s t starts low high)
 
 -- And it is less than the number of cues.
-pub fewest-below : (E : List Link) (cues s t n : ℕ) → Starts (followed E) cues → 1 ≤ t → t ≤ cues → fewest E cues s t ≡ Far n → n < cues
+pub fewest-below : (E : List Link) (cues s t n : ℕ) → Starts E cues → 1 ≤ t → t ≤ cues → fewest E cues s t ≡ Far n → n < cues
 fewest-below E cues s t n starts low high e =
     let r : Shortest (followed E) s t (fewest E cues s t) = fewest-shortest E cues s t starts low high in
-    let (m, d, h, l) = below-cues cues starts low high (r .chain n e) in
+    let (m, d, h, l) = below-cues {E = E} cues starts low high (r .chain n e) in
     omega (arith, r .least n m e d)
 
 -- The cues of an unfolded show are 1 .. count, and those of a block's own unfolding 1 .. total + joins.
@@ -240,7 +240,7 @@ module _ (bs : List Block) (good : Good bs) where
     -- Every chain of a show can be cut to one with fewer links than the show has cues.
     pub show-cut : {s t n : ℕ} → 1 ≤ t → t ≤ count bs → Chain (followed (showLinks bs)) t s n
         → (m : ℕ) × Chain (followed (showLinks bs)) t s m × (m ≤ n) × (m < count bs)
-    show-cut low high c = below-cues (count bs) (λ l i. show-ends l i .0) low high c
+    show-cut low high c = below-cues {E = showLinks bs} (count bs) (λ l i. show-ends l i .0) low high c
 
     -- Demand 3 for shows.
     pub show-shortest : (s t : ℕ) → 1 ≤ t → t ≤ count bs → Shortest (followed (showLinks bs)) s t (fewest (showLinks bs) (count bs) s t)

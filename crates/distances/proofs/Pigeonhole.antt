@@ -9,7 +9,7 @@ use mathlib.Core.Logic.{_⊎_, inl, inr, _≢_}
 use mathlib.Core.List.{List, _∷_, List·Memᴰ, List·Memᴰ·head, List·Memᴰ·tail, List·Memᴰ·cases-cons}
 use lib.ListN.{length}
 use Rattle.model.specs.Blocks.{Link}
-use Rattle.model.specs.Chains.{Chain}
+use Rattle.model.specs.Chains.{Chain, followed}
 use Rattle.distances.specs.Walks.{Walk, stop, step}
 use Rattle.distances.proofs.Walks.{next, walk-map, edges}
 use Rattle.distances.proofs.Chains.{chain-walk, walk-chain, walk-count}
@@ -118,7 +118,7 @@ module _ {W : ℕ → ℕ → ℕ → Type 0} where
 
 -- Every chain can be cut to one with fewer links than there are cues.
 pub chain-shorten : {E : List Link} {s t n : ℕ} (cs : List ℕ) → ((l : Link) → List·Memᴰ l E → List·Memᴰ (l .from) cs) → List·Memᴰ t cs
-    → Chain E t s n → (m : ℕ) × Chain E t s m × (m ≤ n) × (m < length cs)
+    → Chain (followed E) t s n → (m : ℕ) × Chain (followed E) t s m × (m ≤ n) × (m < length cs)
 chain-shorten {E} cs starts i c =
     let (m, d, h, k) = shorten cs i (walk-map (λ u v w e. (e, rw (← e .2) (starts (e .0) (e .1)))) (chain-walk c)) in
     (m, walk-chain d, h, omega (arith, walk-count d))

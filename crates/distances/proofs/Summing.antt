@@ -46,8 +46,8 @@ distance-back x h = go (decLt x noChain)
     go (no l) = rw (distance-none x (omega arith)) (omega arith)
 
 -- An estimate that tells the least length says the fewest answer, where there are fewer cues than 4,294,967,296.
-pub told-fewest : (E : List Link) (cues s t x : ℕ) → Starts (followed E) cues → 1 ≤ t → t ≤ cues → cues ≤ noChain
-    → Tells each-one (followed E) noChain s t x → fewest E cues s t ≡ distance x
+pub told-fewest : (E : List Link) (cues s t x : ℕ) → Starts E cues → 1 ≤ t → t ≤ cues → cues ≤ noChain
+    → Tells each-one E noChain s t x → fewest E cues s t ≡ distance x
 told-fewest E cues s t x starts low high few told =
     right-same (followed E) s t (fewest E cues s t) (distance x) (fewest-right E cues s t starts low high) (go (decLt x noChain))
   where
@@ -61,13 +61,13 @@ told-fewest E cues s t x starts low high few told =
 module _ (bs : List Block) (good : Good bs) where
   -- In a show.
   pub told-show : joinsOf bs (lastBlock bs) ≡ 0 → count bs ≤ maxTotal → (s t x : ℕ) → 1 ≤ t → t ≤ count bs
-      → Tells each-one (followed (showLinks bs)) noChain s t x → fewest (showLinks bs) (count bs) s t ≡ distance x
+      → Tells each-one (showLinks bs) noChain s t x → fewest (showLinks bs) (count bs) s t ≡ distance x
   told-show closed small s t x low high told =
       told-fewest (showLinks bs) (count bs) s t x (λ l i. show-ends bs good closed l i .0) low high (omega arith) told
 
   -- In a block alone, between its joins.
   pub told-summary : (k i j x : ℕ) → total bs k ≤ maxTotal → Join bs k i → Join bs k j → x ≤ noChain
-      → Tells each-one (followed (blockLinks bs k)) noChain (total bs k + i) (total bs k + j) x → summary bs k i j ≡ x
+      → Tells each-one (blockLinks bs k) noChain (total bs k + i) (total bs k + j) x → summary bs k i j ≡ x
   told-summary k i j x small hi hj most told =
       summary-has bs k i j (hi .1) (hj .1)
       ∙ ap orNone

@@ -1,8 +1,9 @@
 -- Walks over a relation with weights: W u v w says that an edge of weight w leads from u to v. The weight of a walk is the sum of
--- the weights of its edges; a chain is a walk whose edges weigh 1 each.
-use Prim.Native.Nat.{ℕ, _+_}
+-- the weights of its edges; a chain is a walk whose edges are followed links and weigh 1 each.
+use Prim.Native.Nat.{ℕ, _+_, _≤_}
 use mathlib.Core.Path.{_≡_}
 use mathlib.Core.List.{List, List·Memᴰ}
+use Rattle.model.specs.Limits.{maxFollowed}
 use Rattle.model.specs.Blocks.{Link}
 
 -- Walk W t s n is a walk of weight n from s to t. Every index is a variable and the equations are arguments, so that each case of a
@@ -15,9 +16,9 @@ pub data Walk (W : ℕ → ℕ → ℕ → Type 0) (t : ℕ) : ℕ → ℕ → T
 abbrev pub Price : Type 1
 Price = ℕ → ℕ → Type 0
 
--- "Its length is how many links the list has": every link counts 1.
+-- "Its length is how many links the list has": every link that a chain may have counts 1. A note can't be taken.
 abbrev pub each-one : Price
-each-one label w = w ≡ 1
+each-one label w = (label ≤ maxFollowed) × (w ≡ 1)
 
 -- A link of E leads from u to v and is taken for w.
 abbrev pub Linked : Price → List Link → ℕ → ℕ → ℕ → Type 0
