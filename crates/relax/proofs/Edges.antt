@@ -6,19 +6,20 @@ use mathlib.Core.Bool.{Bool, false}
 use mathlib.Core.Logic.{_⊎_, inl, inr}
 use mathlib.Core.List.{List}
 use lib.ListN.{getD}
-use Rattle.model.specs.Limits.{summarySize, summaryWidth}
-use Rattle.model.specs.Blocks.{Block, blockAt, joinsOf, blocksOf}
+use Rattle.model.specs.Limits.{maxFollowed, summarySize, summaryWidth}
+use Rattle.model.specs.Blocks.{Link, Block, blockAt, joinsOf, blocksOf}
 use Rattle.shows.specs.WellFormed.{Cue}
 use Rattle.basics.proofs.Members.{getD-mem}
 use Rattle.shows.proofs.AtBlock.{joins-small}
 use Rattle.shows.proofs.BlockAt.{good-at}
+use Rattle.distances.specs.Walks.{each-one, Linked}
 use Rattle.distances.specs.Tells.{met-by, by-link, by-use}
 use Rattle.verdicts.specs.Index.{linkAt, linksFrom, useAt, usesFrom}
 use Rattle.blocks.specs.Loaded.{Loaded, LinkRows, UseRows, columnAt, LinkRow, UseRow}
 use Rattle.blocks.proofs.Loaded.{mem-linksFrom, mem-usesFrom, linksFrom-mem, usesFrom-mem, loaded-show}
 use Rattle.estimates.specs.Rounds.{orb, One, Still, Round, quiet}
 use Rattle.estimates.specs.Starts.{Meets, estimatesSize}
-use Rattle.relax.specs.Edges.{Span, numbers, UseEdge, Mesh, LinkEdges, UseEdges, BlockEdge}
+use Rattle.relax.specs.Edges.{Span, numbers, UseEdge, Mesh, LinkEdge, LinkEnds, UseEdges, BlockEdge}
 use Rattle.relax.proofs.Rounds.{round-then, span-on, round-loops, round-same}
 
 -- One use, by the row r that names its cues and the weights from place q on.
@@ -70,8 +71,13 @@ module _ {xs t : List ℕ} (g : Loaded xs t) where
   pub cue-few : (k c : ℕ) → Cue (blockAt bs k) c → c < estimatesSize
   cue-few k c h = let b = good-at bs (loaded-show g .good) k in omega (arith, b .own, b .joins)
 
-  pub link-few : {k r : ℕ} → LinkRow xs k r → (linkAt xs r .from < estimatesSize) × (linkAt xs r .to < estimatesSize)
-  link-few {k} {r} row = (cue-few k (linkAt xs r .from) (row .good .from), cue-few k (linkAt xs r .to) (row .good .to))
+  pub link-ends : {k r n : ℕ} → LinkRow xs k r → n ≡ estimatesSize → LinkEnds xs r n
+  link-ends {k} {r} row e =
+      record {
+        there = row .there;
+        from = omega (arith, cue-few k (linkAt xs r .from) (row .good .from));
+        to = omega (arith, cue-few k (linkAt xs r .to) (row .good .to));
+      }
 
   -- The cues that the row of a use names, and the edges between them.
   module _ {k r : ℕ} (row : UseRow xs k r) (b m : ℕ) (eb : b ≡ useAt xs bs r .block) (em : m ≡ joinsOf bs b) where
@@ -127,28 +133,41 @@ module _ {xs t : List ℕ} (g : Loaded xs t) where
               (eu ∙ sym (rw pi at (names (i - 1) li)), ev ∙ sym (rw pj at (names (j - 1) lj)), ew ∙ sym (rw (pi, pj) at (weight (i - 1) (j - 1)))),
             )
 
+-- One link: a note has no edge; any other has one, of weight 1.
+pub link-note : (l : Link) (d : List ℕ) → maxFollowed < l .label → Round (LinkEdge l) d false d
+unfolding LinkEdge
+link-note l d h = quiet refl refl (λ u v w i. absurd (omega (arith, i .2 .0)))
+
+pub link-taken : (l : Link) (x y : ℕ) {d e : List ℕ} {c : Bool} → l .label ≤ maxFollowed → x ≡ l .from → y ≡ l .to → Round (One x y 1) d c e
+    → Round (LinkEdge l) d c e
+unfolding LinkEdge
+link-taken l x y h ex ey o =
+    round-same (λ u v w i. (sym ex ∙ sym (i .0), sym ey ∙ sym (i .1), (h, i .2))) (λ u v w i. (sym (i .0) ∙ sym ex, sym (i .1) ∙ sym ey, i .2 .1)) o
+
 -- Rows of links, and of uses: one more, and all of a block's.
 module _ (xs : List ℕ) where
   abbrev pub LinkSpan : ℕ → ℕ → ℕ → ℕ → ℕ → Type 0
-  LinkSpan = Span (λ r. One (linkAt xs r .from) (linkAt xs r .to) 1)
+  LinkSpan = Span (λ r. LinkEdge (linkAt xs r))
 
-  pub links-on : (a r x y : ℕ) {d e f : List ℕ} {s c t : Bool} → a ≤ r → Round (LinkSpan a r) d s e → x ≡ linkAt xs r .from
-      → y ≡ linkAt xs r .to
-      → Round (One x y 1) e c f → t ≡ orb s c → Round (LinkSpan a (r + 1)) d t f
-  links-on a r x y h s ex ey z o = span-on (λ r. One (linkAt xs r .from) (linkAt xs r .to) 1) a r h s (rw (ex, ey) at z) o
+  pub links-on : (a r : ℕ) {d e f : List ℕ} {s c t : Bool} → a ≤ r → Round (LinkSpan a r) d s e → Round (LinkEdge (linkAt xs r)) e c f
+      → t ≡ orb s c → Round (LinkSpan a (r + 1)) d t f
+  links-on a r h s z o = span-on (λ r. LinkEdge (linkAt xs r)) a r h s z o
 
   pub links-done : (k : ℕ) {a z : ℕ} {d e : List ℕ} {c : Bool} → LinkRows xs k a z → Round (LinkSpan a z) d c e
-      → Round (LinkEdges (blockAt (blocksOf xs) k .links)) d c e
-  unfolding LinkEdges
+      → Round (Linked each-one (blockAt (blocksOf xs) k .links)) d c e
+  unfolding LinkEdge
   links-done k {a} {z} rows o = rw (rows .links) (round-same (λ u v w i. into u v w i) (λ u v w i. back u v w i) o)
     where
-      into : (u v w : ℕ) → LinkSpan a z u v w → LinkEdges (linksFrom xs a (z - a)) u v w
+      into : (u v w : ℕ) → LinkSpan a z u v w → Linked each-one (linksFrom xs a (z - a)) u v w
       into u v w (r, h, l, i) =
           let e : a + (r - a) ≡ r = omega arith in
-          (linkAt xs r, (rw e at (linksFrom-mem xs a (z - a) (r - a) (omega arith))), i)
+          (linkAt xs r, (rw e at (linksFrom-mem xs a (z - a) (r - a) (omega arith))), i .0, i .1, i .2)
 
-      back : (u v w : ℕ) → LinkEdges (linksFrom xs a (z - a)) u v w → LinkSpan a z u v w
-      back u v w (x, m, i) = let (r, h, l, e) = mem-linksFrom xs a (z - a) x m in (r, h, omega (arith, rows .order), (rw e at i))
+      back : (u v w : ℕ) → Linked each-one (linksFrom xs a (z - a)) u v w → LinkSpan a z u v w
+      back u v w (x, m, p, q, o) =
+          let i : LinkEdge x u v w = (p, q, o) in
+          let (r, h, l, e) = mem-linksFrom xs a (z - a) x m in
+          (r, h, omega (arith, rows .order), (rw e at i))
 
   module _ (work : List ℕ) where
     abbrev pub UseSpan : ℕ → ℕ → ℕ → ℕ → ℕ → Type 0
@@ -174,13 +193,13 @@ module _ (xs : List ℕ) where
 
 -- The links and the uses of a block are all its edges.
 pub block-round : (bs : List Block) (work : List ℕ) (k : ℕ) {d g h : List ℕ} {s c o : Bool}
-    → Round (LinkEdges (blockAt bs k .links)) d s g
+    → Round (Linked each-one (blockAt bs k .links)) d s g
     → Round (UseEdges bs work (blockAt bs k .uses)) g c h → o ≡ orb s c → Round (BlockEdge bs work k) d o h
-unfolding LinkEdges UseEdges UseEdge
+unfolding UseEdges UseEdge
 block-round bs work k x y o =
-    round-then (λ u v w (l, m, (eu, ev, ew)). by-link l m (sym eu) (sym ev) ew)
+    round-then (λ u v w (l, m, eu, ev, ew). by-link l m eu ev ew)
     (λ u v w (p, m, (i, j, hi, hj, (eu, ev, ew))). by-use p m i j hi hj (sym ew) (sym eu) (sym ev)) (λ u v w e. back u v w e) x y o
   where
-    back : (u v w : ℕ) → BlockEdge bs work k u v w → LinkEdges (blockAt bs k .links) u v w ⊎ UseEdges bs work (blockAt bs k .uses) u v w
-    back u v w (by-link l m eu ev ew) = inl (l, m, (sym eu, sym ev, ew))
+    back : (u v w : ℕ) → BlockEdge bs work k u v w → Linked each-one (blockAt bs k .links) u v w ⊎ UseEdges bs work (blockAt bs k .uses) u v w
+    back u v w (by-link l m eu ev ew) = inl (l, m, eu, ev, ew)
     back u v w (by-use p m i j hi hj ew eu ev) = inr (p, m, (i, j, hi, hj, (sym eu, sym ev, sym ew)))

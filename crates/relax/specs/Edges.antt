@@ -8,7 +8,8 @@ use Rattle.model.specs.Limits.{summarySize, summaryWidth}
 use Rattle.model.specs.Blocks.{Link, Use, Block, blockAt, joinsOf, ownOf}
 use Rattle.distances.specs.Walks.{each-one}
 use Rattle.distances.specs.Tells.{Join, met-by, Local}
-use Rattle.blocks.specs.Loaded.{columnAt}
+use Rattle.verdicts.specs.Index.{linkAt}
+use Rattle.blocks.specs.Loaded.{IsRow, columnAt}
 use Rattle.estimates.specs.Rounds.{Edges, One, Runs, Still}
 use Rattle.estimates.specs.Starts.{Beginnings, Cell, Started}
 
@@ -31,10 +32,17 @@ unfoldable pub Mesh : List ℕ → List ℕ → ℕ → ℕ → ℕ → Edges
 Mesh xs work r q m u v w =
     (i j : ℕ) × (i < m) × (j < m) × One (columnAt xs r i) (columnAt xs r j) (getD work (q + summaryWidth * i + j) 0) u v w
 
--- The edges of some links, and of some uses.
-unfoldable pub LinkEdges : List Link → Edges
-LinkEdges ls u v w = (l : Link) × List·Memᴰ l ls × One (l .from) (l .to) 1 u v w
+-- The edge of a link, if it is followed; a note has none. (Those of some links are `Linked each-one`.)
+unfoldable pub LinkEdge : Link → Edges
+LinkEdge l u v w = (l .from ≡ u) × (l .to ≡ v) × each-one (l .label) w
 
+-- Row r is there, and the ends of its link have estimates among the n of a list.
+pub record LinkEnds (xs : List ℕ) (r n : ℕ) : Type 0 where
+  pub there : IsRow xs r
+  pub from : linkAt xs r .from < n
+  pub to : linkAt xs r .to < n
+
+-- The edges of some uses.
 unfoldable pub UseEdges : List Block → List ℕ → List Use → Edges
 UseEdges bs work us u v w = (p : Use) × List·Memᴰ p us × UseEdge bs work p u v w
 

@@ -10,6 +10,7 @@ use estimates::gather;
 use estimates::improve;
 use estimates::put;
 use estimates::put_met;
+use model::limits::MAX_FOLLOWED;
 use model::limits::SUMMARY_SIZE;
 use model::limits::SUMMARY_WIDTH;
 ghost use mathlib.Core.Path.{_≡_};
@@ -19,11 +20,13 @@ ghost use mathlib.Core.Bool.{false};
 ghost use lib.ListN.{length};
 ghost use Rattle.model.specs.Limits.{summarySize, summaryWidth};
 ghost use Rattle.model.specs.Blocks.{blocksOf, blockAt};
+ghost use Rattle.distances.specs.Walks.{each-one, Linked};
+ghost use Rattle.verdicts.specs.Index.{linkAt};
 ghost use Rattle.blocks.specs.Loaded.{Loaded, IsBlock};
 ghost use Rattle.estimates.specs.Rounds.{Round};
 ghost use Rattle.estimates.specs.Starts.{Nowhere, Meets, Started, estimatesSize};
 ghost use Rattle.relax.specs.Lines.{Least, Line, Lines, Alike};
-ghost use Rattle.relax.specs.Edges.{Mesh, LinkEdges, UseEdges, BlockEdge, cueCount, SettledOver, Only, SpreadIn};
+ghost use Rattle.relax.specs.Edges.{Mesh, LinkEnds, LinkEdge, UseEdges, BlockEdge, cueCount, SettledOver, Only, SpreadIn};
 
 // The lesser of two numbers.
 fn least(a: u32, b: u32) -> u32
@@ -141,18 +144,29 @@ fn relax_use(xs: &[u32], work: &[u32], r: usize, q: usize, m: usize, d: &mut [u3
     relax_many(xs, work, r, q, m, d)
 }
 
+// The link of row r, if it is followed: a note is not.
+fn relax_link(xs: &[u32], r: usize, d: &mut [u32]) -> bool
+    requires { ⌜ LinkEnds (now xs) r (length (now d)) ⌝ }
+    ensures { λ c. ⌜ Round (LinkEdge (linkAt (now (xs .entry)) r)) (now (d .entry)) c (now (d .exit)) ⌝ }
+{
+    if MAX_FOLLOWED < blocks::label(xs, r) {
+        return false;
+    }
+    let u = blocks::wide(blocks::from(xs, r));
+    let v = blocks::wide(blocks::to(xs, r));
+    improve(d, u, v, 1)
+}
+
 // The links of block k.
 fn relax_links(xs: &[u32], t: &[u32; blocks::INDEX], k: usize, d: &mut [u32]) -> bool
     requires { ⌜ Loaded (now xs) (now t) × IsBlock (now xs) k × (length (now d) ≡ estimatesSize) ⌝ }
-    ensures { λ c. ⌜ Round (LinkEdges (blockAt (blocksOf (now (xs .entry))) k .links)) (now (d .entry)) c (now (d .exit)) ⌝ }
+    ensures { λ c. ⌜ Round (Linked each-one (blockAt (blocksOf (now (xs .entry))) k .links)) (now (d .entry)) c (now (d .exit)) ⌝ }
 {
     let rows = blocks::link_rows(xs, t, k);
     let mut changed = false;
     let mut r = rows.first;
     while r < rows.end {
-        let u = blocks::wide(blocks::from(xs, r));
-        let v = blocks::wide(blocks::to(xs, r));
-        let c = improve(d, u, v, 1);
+        let c = relax_link(xs, r, d);
         changed = either(changed, c);
         r += 1;
     }

@@ -7,7 +7,7 @@ use lib.ListN.{length}
 use Rattle.estimates.specs.Rounds.{Round}
 use Rattle.blocks.proofs.Loaded.{link-row}
 use Rattle.relax.proofs.Rounds.{span-begin}
-use Rattle.relax.proofs.Edges.{LinkSpan, link-few, links-on, links-done}
+use Rattle.relax.proofs.Edges.{LinkSpan, link-ends, links-on, links-done}
 use Rattle.relax.proofs.relax_links.Statement.{statement}
 use Rattle.relax.proofs.relax_links.Tie as tie
 
@@ -21,51 +21,27 @@ abbrev μ-loop : tie.MeasureT-loop
 loop-holds : tie.Need-loop-holds Inv-loop μ-loop
 loop-holds c = (search needs, c .link-rows .ensures .order, search needs, span-begin _ _ _)
 
-from-requires : tie.Need-from-requires Inv-loop μ-loop
-from-requires c κs =
-    let at-link-rows = c .before .before .before in
-    omega (arith, at-link-rows .link-rows .ensures .there)
-
-to-requires : tie.Need-to-requires Inv-loop μ-loop
-to-requires c κs =
-    let at-link-rows = c .before .before .before .before .before in
-    omega (arith, at-link-rows .link-rows .ensures .there)
-
-improve-requires : tie.Need-improve-requires Inv-loop μ-loop
-improve-requires c κs =
-    let at-wide2 = c .before in
-    let at-to = at-wide2 .before in
-    let at-wide = at-to .before in
-    let at-from = at-wide .before in
-    let at-loop = at-from .before .before .before in
+relax-link-requires : tie.Need-relax-link-requires Inv-loop μ-loop
+relax-link-requires c κs =
+    let at-loop = c .before .before .before in
     let at-link-rows = at-loop .before in
     let start = at-link-rows .before .before .before in
-    let few =
-    link-few (start .pre .0)
-    (link-row (start .pre .0) _ (start .pre .1) (at-loop .loop .r) (at-link-rows .link-rows .ensures) (omega arith) (omega arith)) in (
-      omega (arith, few, at-wide .wide .ensures .0, at-from .from .ensures),
-      omega (arith, few, at-wide2 .wide2 .ensures .0, at-to .to .ensures),
-    )
+    link-ends (start .pre .0)
+    (link-row (start .pre .0) _ (start .pre .1) (at-loop .loop .r) (at-link-rows .link-rows .ensures) (omega arith) (omega arith)) (search needs)
 
 add-r : tie.Need-add-r Inv-loop μ-loop
 add-r c =
-    let at-link-rows = c .before .before .before .before .before .before .before .before .before .before .before .before in
+    let at-link-rows = c .before .before .before .before .before .before .before .before in
     omega (arith, at-link-rows .link-rows .ensures .few)
 
 loop-again : tie.Need-loop-again Inv-loop μ-loop
 loop-again c =
-    let at-improve = c .before .before .before in
-    let at-wide2 = at-improve .before .before in
-    let at-to = at-wide2 .before in
-    let at-wide = at-to .before in
-    let at-from = at-wide .before in
-    let at-loop = at-from .before .before .before in (
+    let at-relax-link = c .before .before .before in
+    let at-loop = at-relax-link .before .before .before .before in (
       search needs,
       search needs,
       search needs,
-      links-on _ _ _ _ _ (at-loop .loop .inv .0) (at-loop .loop .inv .3) (at-wide .wide .ensures .0 ∙ at-from .from .ensures)
-          (at-wide2 .wide2 .ensures .0 ∙ at-to .to .ensures)
-          (at-improve .improve .ensures) (c .either .ensures),
+      links-on _ _ _ (at-loop .loop .inv .0) (at-loop .loop .inv .3) (at-relax-link .relax-link .ensures) (c .either .ensures),
     )
 
 returns : tie.Need-returns Inv-loop μ-loop
@@ -78,5 +54,5 @@ returns c =
 pub relax-links-spec : {M : Type 1} → statement M
 relax-links-spec =
     tie.close
-    (tie.spec Inv-loop μ-loop (λ c κs. search needs) loop-holds from-requires (λ c κs. search needs) to-requires (λ c κs. search needs)
-    improve-requires (λ c κs. search needs) add-r (λ c. search needs) loop-again (λ c. search needs) returns)
+    (tie.spec Inv-loop μ-loop (λ c κs. search needs) loop-holds relax-link-requires (λ c κs. search needs) add-r (λ c. search needs) loop-again
+    (λ c. search needs) returns)
