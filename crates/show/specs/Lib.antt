@@ -1,1 +1,2 @@
+pub mod WorkArea
 pub mod Demand
