@@ -45,5 +45,8 @@ pub mod Pages
 pub mod Lists
 -- the row behind a follow-on
 pub mod LinkRows
+pub mod LinksOfRows
 pub mod Winning
 pub mod RowBehind
+-- notes
+pub mod Notes

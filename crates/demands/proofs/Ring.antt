@@ -17,7 +17,7 @@ use Rattle.model.specs.Unfolding.{cueAt, renamed, usesLinks, links, showLinks}
 use Rattle.model.specs.Paths.{ownNumber, usesNumber, copyNumber, numberIn, nowhere, stepThen, usesPlace, placeIn}
 use Rattle.model.specs.Lists.{range}
 use Rattle.model.specs.Behind.{Origin, Stands, Missing, stepInto, tracedInto, rowsTraced, usesTraced, traced, openingRow, showTraced, origins, depthWins, stepsWin, better, winner, best, behind}
-use Rattle.model.specs.Ring.{ring, opening}
+use Rattle.model.specs.Ring.{ring, notedRing, opening}
 use Rattle.shows.specs.Copies.{nthUse, after as copy-after, ends, goes}
 use Rattle.shows.specs.Numbering.{usedBy, blockAfter}
 use Rattle.demands.specs.Replacement.{Node, Edge, Standing, Graph, ownNodes, nodesOf, nth, edge, standing, Step, stay, then, begin, Ended, nodeNumber, nodeAt, byNumbers}
@@ -59,10 +59,14 @@ bs =
     ∷ record { joins = 2; own = 1; links = []; uses = use-of 0 (1 ∷ 3 ∷ []) ∷ use-of 0 (2 ∷ 1 ∷ []) ∷ [] }
     ∷ record { joins = 2; own = 1; links = link-of 1 3 1 ∷ link-of 2 1 1 ∷ []; uses = [] } ∷ []
 
--- Its rows are accepted, and so is a single opening row with one own cue.
+-- Its rows are accepted, and so are those with a note, and a single opening row with one own cue.
 pub ring-accepted : verdict ring ≡ Accepted
 unfolding ifLt ifEq ifTrue cell rowAt rowsFrom rowCount rowsOf start cuesIn mayOpen goesOn mayFollow columnsUsed named every isCue isZero labelFits ownFits inRange differs distinct isBelow linkKey useKey inOrder fault after noBlock blockAt joinsOf ownOf addLink addUse addRow addRows blocksOf sumOver total refusal refused andThen checkLength checkRows openingRows checkBlocks mayStand totalFits verdict
 ring-accepted = refl
+
+pub noted-accepted : verdict notedRing ≡ Accepted
+unfolding ifLt ifEq ifTrue cell rowAt rowsFrom rowCount rowsOf start cuesIn mayOpen goesOn mayFollow columnsUsed named every isCue isZero labelFits ownFits inRange differs distinct isBelow linkKey useKey inOrder fault after noBlock blockAt joinsOf ownOf addLink addUse addRow addRows blocksOf sumOver total refusal refused andThen checkLength checkRows openingRows checkBlocks mayStand totalFits verdict
+noted-accepted = refl
 
 pub opening-accepted : verdict (opening 1) ≡ Accepted
 unfolding ifLt ifEq ifTrue cell rowAt rowsFrom rowCount rowsOf start cuesIn mayOpen goesOn mayFollow columnsUsed named every isCue isZero labelFits ownFits inRange differs distinct isBelow linkKey useKey inOrder fault after noBlock blockAt joinsOf ownOf addLink addUse addRow addRows blocksOf sumOver total refusal refused andThen checkLength checkRows openingRows checkBlocks mayStand totalFits verdict

@@ -1,42 +1,36 @@
 -- What row answers and leaves is what document 02 demands: the rows that stand as a link from s to t are those of the links of the unfolded show, and
 -- the best of them is given.
-use Prim.Native.Nat.{ℕ, _≤_, _<_}
+use Prim.Native.Nat.{ℕ, _≤_}
 use native.Mathlib.Omega.{arith}
 use mathlib.Core.Path.{_≡_, refl, sym, _∙_, ap, ap₂}
 use mathlib.Core.Logic.{_⊎_, inl, inr, _↔_}
 use mathlib.Core.List.{List, [], _∷_, List·Memᴰ, List·Memᴰ·head, List·Memᴰ·tail, List·Memᴰ·cases-cons, List·Memᴰ·not-nil}
 use lib.ListN.{length}
 use Rattle.model.specs.Limits.{maxDepth}
-use Rattle.model.specs.Rows.{rowsOf}
 use Rattle.model.specs.Blocks.{Link, Block, blocksOf, lastBlock, count}
 use Rattle.model.specs.Verdicts.{refusal, verdict}
 use Rattle.model.specs.Unfolding.{renamed, showLinks}
-use Rattle.model.specs.Behind.{Origin, Traced, Behind, Stands, Missing, openingRow, showTraced, origins, behind}
+use Rattle.model.specs.Behind.{Origin, Traced, Behind, Stands, Missing, showTraced, origins, behind}
 use Rattle.model.specs.Lists.{overwrite}
 use Rattle.model.specs.Answers.{ofRow}
 use Rattle.model.specs.Questions.{Outcome, outcome, refuse, answer, rowFound, rowIn, rowAsked}
 use Rattle.model.specs.declared.Verdict.the-variants.{Accepted}
 use Rattle.model.specs.declared.RowAnswer.{RowAnswer}
 use Rattle.model.specs.declared.RowAnswer.the-variants.{Row, Refused}
-use Rattle.basics.proofs.Members.{map-mem, mem-map}
 use Rattle.shows.specs.Accepted.{Show}
 use Rattle.shows.specs.Copies.{Steps, number, show-copy}
-use Rattle.shows.specs.Numbering.{blockAfter}
 use Rattle.shows.specs.Lists.{Leads}
 use Rattle.shows.proofs.Accepted.{accepted-show}
-use Rattle.shows.proofs.Tracing.{link-of, traced-links}
-use Rattle.shows.proofs.TracedByPath.{trace, after-block, after-lower, to-end, from-end}
+use Rattle.shows.proofs.TracedByPath.{trace, after-lower}
 use Rattle.demands.specs.Asking.{AsksRow}
-use Rattle.demands.specs.Acceptance.{nthRow, IsRow, InPlace}
-use Rattle.demands.specs.Blocks.{linksIn}
+use Rattle.demands.specs.Acceptance.{nthRow}
 use Rattle.demands.specs.RowBehind.{copyAt, StandsAs, Wins, link, IsGiven, IsRowBehind}
 use Rattle.demands.proofs.Answers.{row-is, untraced-is}
 use Rattle.demands.proofs.Buffers.{leaves}
 use Rattle.demands.proofs.Outcomes.{on-yes, has-room, has-cue}
-use Rattle.demands.proofs.Acceptance.{accepted-exactly}
-use Rattle.demands.proofs.Blocks.{are-blocks}
 use Rattle.demands.proofs.PartsOfRows.{both-known, both-then, both-else}
-use Rattle.demands.proofs.LinkRows.{rowLink, is-link-row, link-row-is}
+use Rattle.demands.proofs.LinkRows.{rowLink}
+use Rattle.demands.proofs.LinksOfRows.{last-low, trace-row, row-trace, link-trace, trace-link}
 use Rattle.demands.proofs.Winning.{Beats, wins-both, BestOf, no-best, the-best, best-of}
 
 -- The origins of the links from s to t, among links with their origins.
@@ -96,27 +90,19 @@ module _ (xs : List ℕ) (v : verdict xs ≡ Accepted) where
   shown : Show xs
   shown = accepted-show xs v
 
-  -- The block that a path leads to is one of the show's, and the path is no longer than a lent list; the block's links are its link rows.
-  path-low : (path : List ℕ) → Steps (show-copy bs) path → (blockAfter bs (lastBlock bs) path < length bs) × (length path ≤ maxDepth)
-  unfolding lastBlock
-  path-low path s = omega (arith, after-lower bs (shown .good) (lastBlock bs) 0 [] path s, shown .blocks)
-
-  end-links : (path : List ℕ) → Steps (show-copy bs) path → copyAt xs path .block .links ≡ linksIn (blockAfter bs (lastBlock bs) path) (rowsOf xs)
-  end-links path s =
-      ap (λ (b : Block). b .links) (after-block bs (shown .good) (lastBlock bs) 0 [] path s) ∙ are-blocks xs v .links _ (path-low path s .0)
-
-  place : (q : ℕ) → IsRow xs q → InPlace xs q
-  place = accepted-exactly xs .0 v .sequence
+  -- A path down from the show is no longer than a lent list.
+  path-short : (path : List ℕ) → Steps (show-copy bs) path → length path ≤ maxDepth
+  path-short path s = omega (arith, after-lower bs (shown .good) (lastBlock bs) 0 [] path s, shown .blocks, last-low xs v)
 
   -- A link of the unfolded show with its origin: what stands as it.
   module _ (path : List ℕ) (row : ℕ) where
     trace-stands : (l : Link) → List·Memᴰ (trace path row l) (showTraced xs) → StandsAs xs (l .from) (l .to) path row × (nthRow xs row .label ≡ l .label)
     unfolding showTraced renamed
     trace-stands l m =
-        let (s, i) = to-end bs (shown .good) (openingRow xs) row l path (lastBlock bs) 0 [] m in
-        let k = is-link-row xs place (number (copyAt xs path)) _ row l (rw (end-links path s) at i) in (
+        let r = trace-row xs v (lastBlock bs) 0 [] (last-low xs v) path row l m in
+        let k = r .row-is in (
           record {
-            steps = s;
+            steps = r .steps;
             is = k .is;
             links = k .links;
             block = k .block;
@@ -131,17 +117,17 @@ module _ (xs : List ℕ) (v : verdict xs ≡ Accepted) where
     stands-trace s t h =
         let e : link s t (nthRow xs row .label) ≡ renamed (number (copyAt xs path)) (rowLink (nthRow xs row)) =
         ap₂ (λ (a b : ℕ). link a b (nthRow xs row .label)) (sym (h .from)) (sym (h .to)) in
-        let k = link-row-is xs place (number (copyAt xs path)) _ row _ (record { is = h .is; links = h .links; block = h .block; link = e }) in
-        from-end bs (shown .good) (openingRow xs) row _ path (lastBlock bs) 0 [] (h .steps, rw (end-links path (h .steps)) k)
+        row-trace xs v (lastBlock bs) 0 [] (last-low xs v) path row _
+        (record { steps = h .steps; row-is = record { is = h .is; links = h .links; block = h .block; link = e } })
 
   -- The links of the unfolded show are those that have an origin.
   shown-trace : (l : Link) → List·Memᴰ l (showLinks bs) → (x : Traced) × List·Memᴰ x (showTraced xs) × (l ≡ x .link)
   unfolding showLinks showTraced
-  shown-trace l i = map-mem link-of l _ (rw (← traced-links (openingRow xs) bs (lastBlock bs) 0 []) at i)
+  shown-trace l i = link-trace xs (lastBlock bs) 0 [] l i
 
   trace-shown : (x : Traced) → List·Memᴰ x (showTraced xs) → List·Memᴰ (x .link) (showLinks bs)
   unfolding showLinks showTraced
-  trace-shown x i = rw (traced-links (openingRow xs) bs (lastBlock bs) 0 []) at (mem-map link-of i)
+  trace-shown x i = trace-link xs (lastBlock bs) 0 [] x i
 
   module _ (s t : ℕ) where
     stands-shown : (path : List ℕ) (row : ℕ) → StandsAs xs s t path row → List·Memᴰ (link s t (nthRow xs row .label)) (showLinks bs)
@@ -207,8 +193,8 @@ module _ (xs : List ℕ) (v : verdict xs ≡ Accepted) where
           record {
             path = o .path;
             long = refl;
-            leaves = rw q (leaves (o .path) lent (omega (arith, path-low (o .path) (st .steps))));
-            deep = path-low (o .path) (st .steps) .1;
+            leaves = rw q (leaves (o .path) lent (omega (arith, path-short (o .path) (st .steps))));
+            deep = path-short (o .path) (st .steps);
             stands = st;
             shown = stands-shown (o .path) (o .row) st;
             wins = λ way other k. over way other (h _ (stands-origin way other k));

@@ -11,3 +11,4 @@ pub mod Replacement
 pub mod Numbers
 pub mod Lists
 pub mod RowBehind
+pub mod Notes

@@ -8,7 +8,7 @@ use Rattle.model.specs.Blocks.{Link}
 use Rattle.model.specs.Chains.{Chain, here, link, followed}
 use Rattle.distances.specs.Walks.{Walk, stop, step, Price, each-one, Linked}
 use Rattle.distances.proofs.Walks.{next, walk-map, edges}
-use Rattle.distances.proofs.Followed.{followed-is, followed-has}
+use Rattle.shows.proofs.Followed.{followed-is, followed-has}
 
 -- Two chains, one after the other.
 pub chain-append : {E : List Link} {s u t n m : ℕ} → Chain E u s n → Chain E t u m → Chain E t s (n + m)

@@ -3,7 +3,6 @@
 --
 -- 0. The model's fewest is the length of a shortest chain, and a summary that of a shortest chain between joins.
 pub mod Walks
-pub mod Followed
 pub mod Chains
 pub mod Pigeonhole
 pub mod Fewest

@@ -5,9 +5,10 @@ pub mod Passed
 pub mod Tracks
 pub mod Accepted
 pub mod LastRow
--- numbers, lists
+-- numbers, lists, the links that a chain may have
 pub mod Numbering
 pub mod Lists
+pub mod Followed
 -- copies of blocks, by number and by path
 pub mod Ranges
 pub mod BlockAt
