@@ -1,6 +1,6 @@
--- The ring show by computation: its rows are accepted and stand for these blocks; a run of single steps, the second of two uses before the first; and
--- what the demands on unfolding, numbers and the rows behind follow-ons say of it, and of a show with several links between two cues. Nothing here rests on a law, so a definition that does not meet these demands is
--- refused here by itself.
+-- The ring show by computation: its rows are accepted and stand for these blocks; a run of single steps, the second of two uses before the first; and what
+-- the demands on unfolding, numbers, the rows behind follow-ons and notes say of it, of a show with several links between two cues, and of a block with a
+-- note. Nothing here rests on a law, so a definition that does not meet these demands is refused here by itself.
 use Prim.Native.Nat.{ℕ, suc, _≤_, _<_}
 use native.Mathlib.Omega.{arith}
 use mathlib.Core.Path.{_≡_, refl}
@@ -8,6 +8,7 @@ use mathlib.Core.Bool.{Bool, true, false}
 use mathlib.Core.List.{List, [], _∷_, _++_, map}
 use lib.Dec.{eqb}
 use Rattle.model.specs.Choice.{ifLt, ifEq, ifTrue}
+use Rattle.model.specs.Limits.{noChain}
 use Rattle.model.specs.Rows.{cell, rowAt, rowsFrom, rowCount, rowsOf}
 use Rattle.model.specs.Blocks.{Link, Use, Block, noBlock, blockAt, joinsOf, ownOf, addLink, addUse, addRow, addRows, blocksOf, sumOver, total, lastBlock, count}
 use Rattle.model.specs.Rules.{start, cuesIn, mayOpen, goesOn, mayFollow, columnsUsed, named, every, isCue, isZero, labelFits, ownFits, inRange, differs, distinct, isBelow, linkKey, useKey, inOrder, fault, after}
@@ -15,15 +16,18 @@ use Rattle.model.specs.Verdicts.{refusal, refused, andThen, checkLength, checkR
 use Rattle.model.specs.declared.Verdict.the-variants.{Accepted}
 use Rattle.model.specs.Unfolding.{cueAt, renamed, usesLinks, links, showLinks}
 use Rattle.model.specs.Paths.{ownNumber, usesNumber, copyNumber, numberIn, nowhere, stepThen, usesPlace, placeIn}
-use Rattle.model.specs.Lists.{range}
+use Rattle.model.specs.Lists.{range, keep, cuesAfter, isLinked, isOut, isInto}
+use Rattle.model.specs.Chains.{followed, Far, Unreachable, isIn, successors, searchFrom, fewest}
+use Rattle.model.specs.Summaries.{blockLinks, orNone, summary}
 use Rattle.model.specs.Behind.{Origin, Stands, Missing, stepInto, tracedInto, rowsTraced, usesTraced, traced, openingRow, showTraced, origins, depthWins, stepsWin, better, winner, best, behind}
-use Rattle.model.specs.Ring.{ring, notedRing, opening}
+use Rattle.model.specs.Ring.{ringWith, ring, notedRing, opening}
 use Rattle.shows.specs.Copies.{nthUse, after as copy-after, ends, goes}
 use Rattle.shows.specs.Numbering.{usedBy, blockAfter}
 use Rattle.demands.specs.Replacement.{Node, Edge, Standing, Graph, ownNodes, nodesOf, nth, edge, standing, Step, stay, then, begin, Ended, nodeNumber, nodeAt, byNumbers}
 use Rattle.demands.specs.Numbers.{node, Before, own-order, own-first, use-order, same-use}
 use Rattle.demands.specs.Acceptance.{here}
 use Rattle.demands.specs.RowBehind.{StandsAs, Wins, by-depth, by-step, by-row}
+use Rattle.demands.specs.Notes.{fewestOfAll, summaryOfAll}
 
 -- How often a thing stands in a list, and that two lists have each thing as often.
 module _ {A : Type 0} (same : A → A → Bool) where
@@ -230,3 +234,24 @@ several-rows = (refl, refl)
 
 several-wins : Wins (1 ∷ []) 2 (2 ∷ []) 2 × Wins (1 ∷ []) 2 (1 ∷ []) 3 × Wins [] 5 (3 ∷ []) 2
 several-wins = let h : 1 < 2 = omega arith in (by-step refl (here h), by-row refl (omega arith), by-depth (omega arith))
+
+-- The ring with a note from cue 2 to cue 1: no chain has it, so none leads there, though by all links one does; with label 254 it is followed. The
+-- lists and the row behind it still show it.
+ring-note : (fewest (showLinks (blocksOf notedRing)) 5 2 1 ≡ Unreachable)
+    × (fewestOfAll (showLinks (blocksOf notedRing)) 5 2 1 ≡ Far 1)
+    × (fewest (showLinks (blocksOf (ringWith 254))) 5 2 1 ≡ Far 1)
+    × (cuesAfter (isOut (showLinks (blocksOf notedRing)) 2) 5 0 ≡ 1 ∷ [])
+    × (cuesAfter (isInto (showLinks (blocksOf notedRing)) 1) 5 0 ≡ 2 ∷ [])
+    × (behind notedRing 2 1 ≡ Stands (at-path [] 8))
+unfolding ifLt ifEq ifTrue cell rowAt rowsFrom rowCount rowsOf noBlock blockAt joinsOf addLink addUse addRow addRows blocksOf sumOver total lastBlock cueAt renamed usesLinks links showLinks followed isIn successors searchFrom fewest fewestOfAll range keep cuesAfter isLinked isOut isInto openingRows stepInto tracedInto rowsTraced usesTraced traced openingRow showTraced origins depthWins stepsWin better winner best behind
+ring-note = (refl, refl, refl, refl, refl, refl)
+
+-- Block 0 with two joins and a note from the first to the second, which the show uses from its cue 1 to its cue 2: no chain in the block, none in the show.
+abbrev noted : List Block
+noted =
+    record { joins = 0; own = 2; links = []; uses = use-of 0 (1 ∷ 2 ∷ []) ∷ [] }
+    ∷ record { joins = 2; own = 0; links = link-of 1 2 255 ∷ []; uses = [] } ∷ []
+
+noted-summary : (summary noted 0 1 2 ≡ noChain) × (summaryOfAll noted 0 1 2 ≡ 1) × (fewest (showLinks noted) 2 1 2 ≡ Unreachable)
+unfolding ifLt blockAt joinsOf sumOver total lastBlock cueAt renamed usesLinks links showLinks range followed isIn successors searchFrom fewest fewestOfAll blockLinks orNone summary summaryOfAll
+noted-summary = (refl, refl, refl)

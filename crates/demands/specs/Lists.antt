@@ -15,7 +15,7 @@ use Rattle.shows.specs.Lists.{Leads, Rising}
 use Rattle.demands.specs.Buffers.{Leaves}
 
 -- "List out, or in, of cue v": cue u is linked to v, by a link of the unfolded show that leads from v to u, or from u to v. "All labels
--- count as follow-ons."
+-- count as follow-ons." "Lists and the unfolding program still show notes" (02, Paper 3).
 abbrev pub LinkedOut : List ℕ → ℕ → ℕ → Type 0
 LinkedOut xs v u = Leads (showLinks (blocksOf xs)) v u
 
