@@ -1,6 +1,6 @@
 -- Demands 2 and 3, of the answers that the entry points give, in the words of documents 01 and 02. What an entry point is asked and answers is known by
--- its promise (crates/demands/specs/Asking); the words are those of crates/demands/specs, a page for each part, and, for the text of a file, of
--- crates/shows/specs/Files and crates/basics/specs/Values.
+-- its promise (crates/demands/specs/Asking); the words are those of crates/demands/specs, a page for each part; for the text of a file, of
+-- crates/shows/specs/Files and crates/basics/specs/Values; for the work area, of WorkArea beside this page and crates/distances/specs/Demand.
 use Prim.Native.Nat.{ℕ, _*_, _≤_}
 use mathlib.Core.Path.{_≡_}
 use mathlib.Core.Bool.{Bool}
@@ -11,7 +11,7 @@ use Rattle.model.specs.Blocks.{Link, blocksOf, count}
 use Rattle.model.specs.Unfolding.{showLinks}
 use Rattle.model.specs.Chains.{Chain, followed}
 use Rattle.model.specs.Answers.{ofWrite, ofCount, ofLocate, ofNumber, ofList, ofRow, ofFewest}
-use Rattle.model.specs.Ring.{ring, opening, paddedFile}
+use Rattle.model.specs.Ring.{ring, notedRing, opening, paddedFile}
 use Rattle.model.specs.declared.ReadAnswer.{ReadAnswer}
 use Rattle.model.specs.declared.ReadAnswer.the-variants.{Read}
 use Rattle.model.specs.declared.WriteAnswer.{WriteAnswer}
@@ -36,6 +36,8 @@ use Rattle.demands.specs.Replacement.{Unfolds}
 use Rattle.demands.specs.Numbers.{IsCount, IsLocated, IsNumber}
 use Rattle.demands.specs.Lists.{LinkedOut, LinkedIn, IsList, Pages, ArePages}
 use Rattle.demands.specs.RowBehind.{StandsAs, IsRowBehind}
+use Rattle.demands.specs.Notes.{NoNotes, ChainLinks, OldFigure}
+use Rattle.show.specs.WorkArea.{IsWorkArea}
 
 -- Demand 2.
 
@@ -109,20 +111,36 @@ pub record Demand2 : Type 0 where
 
 -- Demand 3.
 
--- The links of the unfolded show.
-abbrev pub unfolded : List ℕ → List Link
-unfolded xs = followed (showLinks (blocksOf xs))
+-- The links of the unfolded show that a chain may have: `ChainLinks` says which they are.
+abbrev pub followedLinks : List ℕ → List Link
+followedLinks xs = followed (showLinks (blocksOf xs))
 
 -- The answer r from cue s to cue t.
 pub record IsFewest (xs : List ℕ) (s t : ℕ) (r : FewestAnswer) : Type 0 where
   -- A number exactly when the unfolded show has a chain from s to t: then it is the length of such a chain.
-  pub found : (m : ℕ) → Chain (unfolded xs) t s m → (n : ℕ) × (r ≡ Steps n)
-  pub chain : (n : ℕ) → r ≡ Steps n → Chain (unfolded xs) t s n
+  pub found : (m : ℕ) → Chain (followedLinks xs) t s m → (n : ℕ) × (r ≡ Steps n)
+  pub chain : (n : ℕ) → r ≡ Steps n → Chain (followedLinks xs) t s n
   -- Otherwise none.
-  pub none : r ≡ None → NoChain (unfolded xs) s t
-  pub lost : NoChain (unfolded xs) s t → r ≡ None
+  pub none : r ≡ None → NoChain (followedLinks xs) s t
+  pub lost : NoChain (followedLinks xs) s t → r ≡ None
   -- No such chain is shorter.
-  pub least : (n m : ℕ) → r ≡ Steps n → Chain (unfolded xs) t s m → n ≤ m
+  pub least : (n m : ℕ) → r ≡ Steps n → Chain (followedLinks xs) t s m → n ≤ m
   -- 0 exactly where s is t.
   pub still : r ≡ Steps 0 → s ≡ t
   pub stays : s ≡ t → r ≡ Steps 0
+
+-- Of rows that keep the rules, for cues of the show and a work area that is long enough: which links a chain may have, in the fewest answer and the
+-- summaries; the answer; and what it leaves in the work area.
+pub record FewestExact (xs : List ℕ) : Type 0 where
+  pub chain-links : ChainLinks xs
+  pub answers : (s t : ℕ) (work after : List ℕ) (r : FewestAnswer) → 1 ≤ s → s ≤ count (blocksOf xs) → 1 ≤ t → t ≤ count (blocksOf xs)
+      → 16384 ≤ length work → AsksFewest xs s t work r after → IsFewest xs s t r
+  pub leaves : (s t : ℕ) (work after : List ℕ) (r : FewestAnswer) → 1 ≤ s → s ≤ count (blocksOf xs) → 1 ≤ t → t ≤ count (blocksOf xs)
+      → 16384 ≤ length work → AsksFewest xs s t work r after → IsWorkArea xs work after
+
+-- All of it, and the old figure where there are no notes (02, Paper 3); there is a show with a note, and one without. (Refusals: demand 2.)
+pub record Demand3 : Type 0 where
+  pub exact : (xs : List ℕ) → Lawful xs → FewestExact xs
+  pub old-figure : OldFigure
+  pub a-note : Lawful notedRing × (NoNotes notedRing → ⊥)
+  pub no-note : Lawful ring × NoNotes ring
