@@ -78,7 +78,7 @@ pub demand-3 : Demand3
 demand-3 =
     record {
       exact = λ xs l. let v = accepted-exactly xs .1 l in
-          record { chain-links = chain-links xs v; answers = is-fewest xs v; leaves = leaves-summaries xs v };
+          record { chain-links = chain-links xs v; fewest = is-fewest xs v; work-area = leaves-summaries xs v };
       old-figure = old-figure;
       a-note = (accepted-exactly notedRing .0 noted-accepted, ring-noted);
       no-note = (accepted-exactly ring .0 ring-accepted, ring-unnoted);

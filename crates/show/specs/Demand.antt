@@ -133,9 +133,9 @@ pub record IsFewest (xs : List ℕ) (s t : ℕ) (r : FewestAnswer) : Type 0 wher
 -- summaries; the answer; and what it leaves in the work area.
 pub record FewestExact (xs : List ℕ) : Type 0 where
   pub chain-links : ChainLinks xs
-  pub answers : (s t : ℕ) (work after : List ℕ) (r : FewestAnswer) → 1 ≤ s → s ≤ count (blocksOf xs) → 1 ≤ t → t ≤ count (blocksOf xs)
+  pub fewest : (s t : ℕ) (work after : List ℕ) (r : FewestAnswer) → 1 ≤ s → s ≤ count (blocksOf xs) → 1 ≤ t → t ≤ count (blocksOf xs)
       → 16384 ≤ length work → AsksFewest xs s t work r after → IsFewest xs s t r
-  pub leaves : (s t : ℕ) (work after : List ℕ) (r : FewestAnswer) → 1 ≤ s → s ≤ count (blocksOf xs) → 1 ≤ t → t ≤ count (blocksOf xs)
+  pub work-area : (s t : ℕ) (work after : List ℕ) (r : FewestAnswer) → 1 ≤ s → s ≤ count (blocksOf xs) → 1 ≤ t → t ≤ count (blocksOf xs)
       → 16384 ≤ length work → AsksFewest xs s t work r after → IsWorkArea xs work after
 
 -- All of it, and the old figure where there are no notes (02, Paper 3); there is a show with a note, and one without. (Refusals: demand 2.)
