@@ -6,6 +6,8 @@ pub const COLUMNS: usize = 11;
 pub const JOINS: usize = 8;
 /// Own cues of a block.
 pub const OWN: usize = 255;
+/// The highest label of a link that a chain may have; one with a higher label is a note.
+pub const FOLLOWED: u32 = 254;
 /// Blocks of a show.
 pub const BLOCKS: usize = 128;
 /// Rows of a show.

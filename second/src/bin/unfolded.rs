@@ -7,7 +7,7 @@ use std::process::{Command, ExitCode, Stdio};
 use std::thread;
 
 use second::gen::prng::Prng;
-use second::gen::{damage, edges, known, padding, random};
+use second::gen::{damage, edges, known, notes, padding, random};
 use second::limits::BYTES;
 use second::naive::file::print;
 use second::naive::print::printed;
@@ -36,6 +36,9 @@ fn named() -> Vec<(String, Vec<u8>)> {
     let mut files = Vec::new();
     let mut shows = vec![
         ("ring", known::ring()),
+        ("ring with a note", known::ring_back(2, notes::NOTE)),
+        ("ring of notes", notes::alone(known::ring())),
+        ("notes beside links", notes::beside()),
         ("tower of 31", known::tower(31)),
         ("tower of 32", known::tower(32)),
         ("knot", known::knot()),

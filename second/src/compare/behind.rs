@@ -24,7 +24,7 @@ pub const CASES: &[Case] = &[
 ];
 
 /// The link from s to t comes from this row, in the copy at this path.
-fn found(s: u32, t: u32, row: u32, path: &[u32]) -> Asked {
+pub fn found(s: u32, t: u32, row: u32, path: &[u32]) -> Asked {
     let answer = Answer::with_numbers(&[row, path.len() as u32], path);
     (Question::Row { s, t, room: PATH + 3 }, Ok(answer))
 }
@@ -38,21 +38,25 @@ fn too_short(s: u32, t: u32, room: usize) -> Asked {
 }
 
 /// A show that can be unfolded, with answers that are known.
-fn answered(checker: &mut Checker, rows: Vec<u32>, answers: &[Asked]) {
+pub fn answered(checker: &mut Checker, rows: Vec<u32>, answers: &[Asked]) {
     with_answers(checker, rows.clone(), answers);
     in_full(checker, rows);
 }
 
-fn ring(checker: &mut Checker) {
-    let mut answers = vec![
+/// The rows behind the five links of the ring.
+pub fn ring_rows() -> [Asked; 5] {
+    [
         found(2, 1, 8, &[]),
         found(4, 2, 2, &[1, 1]),
         found(3, 4, 3, &[1, 1]),
         found(5, 3, 2, &[1, 2]),
         found(1, 5, 3, &[1, 2]),
-        refused(1, 2, 14),
-        refused(5, 1, 14),
-    ];
+    ]
+}
+
+fn ring(checker: &mut Checker) {
+    let mut answers: Vec<Asked> = ring_rows().into();
+    answers.extend([refused(1, 2, 14), refused(5, 1, 14)]);
     answers.extend((1..=5).map(|cue| refused(cue, cue, 14)));
     let none = [0, 6, u32::MAX];
     for no_cue in none {

@@ -122,18 +122,20 @@ fn no_path(path: &[u32], own: u32) -> Asked {
     (Question::Number { path: path.to_vec(), own }, Err(Refusal::new(13, 0)))
 }
 
-fn listed(outward: bool, v: u32, n: u32, cues: &[u32]) -> Asked {
+/// The cues linked with v, above n; few enough for a page of five.
+pub fn listed(outward: bool, v: u32, n: u32, cues: &[u32]) -> Asked {
     let answer = Answer::with_numbers(&[cues.len() as u32, 0], cues);
     (Question::List { outward, v, n, room: 5 }, Ok(answer))
 }
 
-fn steps(s: u32, t: u32, steps: Option<u32>, work: &[u32]) -> Asked {
+/// The fewest steps from s to t, or none, with this work area.
+pub fn steps(s: u32, t: u32, steps: Option<u32>, work: &[u32]) -> Asked {
     let given = [steps.is_some().into(), steps.unwrap_or(0)];
     (Question::Fewest { s, t, room: WORK + 3 }, Ok(Answer::with_numbers(&given, work)))
 }
 
 /// A work area from the summaries of all blocks; each gives its lines from join to join.
-fn work_area(summaries: &[Vec<Vec<u32>>]) -> Vec<u32> {
+pub fn work_area(summaries: &[Vec<Vec<u32>>]) -> Vec<u32> {
     let mut work = vec![0; WORK];
     for (summary, block) in summaries.iter().zip(work.chunks_mut(STRIDE)) {
         block.fill(NO_CHAIN);

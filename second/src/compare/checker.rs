@@ -37,10 +37,21 @@ impl<'a> Checker<'a> {
         call: Call,
         result: &Result<Answer, Refusal>,
     ) -> Option<Outcome> {
-        let actual = Outcome::actual(self.subject, input, &call)?;
-        let refusal = result.as_ref().err().map_or(0, |refusal| refusal.number);
-        self.census[refusal as usize] += 1;
         let expected = Outcome::expected(&call, result);
+        self.hold(input, call, expected)
+    }
+
+    /// Compares a call with the same call on another input, where it must leave the same.
+    pub fn compare_with(&mut self, other: &Input, input: &Input, call: Call) -> Option<Outcome> {
+        let expected = Outcome::actual(self.subject, other, &call)?;
+        self.hold(input, call, expected)
+    }
+
+    fn hold(&mut self, input: &Input, call: Call, expected: Outcome) -> Option<Outcome> {
+        let actual = Outcome::actual(self.subject, input, &call)?;
+        if let Some(calls) = self.census.get_mut((expected.returned >> 32) as usize) {
+            *calls += 1;
+        }
         if actual != expected && self.failure.is_none() {
             let (input, actual) = (input.clone(), actual.clone());
             self.failure = Some(Box::new(Failure { input, call, expected, actual }));

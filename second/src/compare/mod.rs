@@ -3,6 +3,7 @@
 pub mod behind;
 pub mod big;
 pub mod checker;
+pub mod notes;
 pub mod outcome;
 pub mod padded;
 pub mod questions;
@@ -12,5 +13,5 @@ pub mod round;
 
 /// Every fixed case.
 pub fn fixed() -> impl Iterator<Item = &'static big::Case> {
-    big::CASES.iter().chain(padded::CASES).chain(behind::CASES)
+    big::CASES.iter().chain(padded::CASES).chain(behind::CASES).chain(notes::CASES)
 }

@@ -1,6 +1,8 @@
 //! Which questions are asked about a show.
 
 use super::checker::Subjected;
+use super::outcome::Call;
+use crate::gen::notes;
 use crate::gen::prng::Prng;
 use crate::limits::{GIVEN, PATH, WORK};
 use crate::plain;
@@ -10,6 +12,8 @@ use crate::question::{Input, Question};
 const SMALL: u32 = 24;
 /// How many random numbers or pairs are asked about a larger show.
 const SAMPLE: u32 = 60;
+/// How many pairs, of cues that are linked and of others, are asked with notes and without.
+const PAIRS: usize = 8;
 
 impl Subjected<'_, '_> {
     /// Asks for the contents of a file, with room of several lengths, and goes its round.
@@ -147,6 +151,23 @@ impl Subjected<'_, '_> {
         if !linked.is_empty() {
             let (s, t) = *prng.pick(&linked);
             self.ask_rooms(prng, Question::Row { s, t, room: 0 });
+        }
+    }
+
+    /// The fewest steps between some cues that are linked and some others, and all summaries, are
+    /// the same on the rows without the notes. That needs no unfolding.
+    pub fn ask_without_notes(&mut self, prng: &mut Prng) {
+        let (Ok(show), Input::Rows(rows)) = (&self.known, &self.input) else { return };
+        let numbers = self.numbers(prng, show.count());
+        let mut pairs = linked(prng, rows, &numbers);
+        prng.shuffle(&mut pairs);
+        pairs.truncate(PAIRS);
+        let cue = |prng: &mut Prng| prng.within(1, show.count());
+        pairs.extend((0..PAIRS).map(|_| (cue(prng), cue(prng))));
+        let without = Input::Rows(notes::left_out(rows));
+        for (s, t) in pairs {
+            let call = Call { question: Question::Fewest { s, t, room: WORK }, given: GIVEN };
+            self.checker.compare_with(&without, &self.input, call);
         }
     }
 }

@@ -2,7 +2,7 @@
 
 use super::checker::{Checker, Subjected};
 use crate::gen::prng::Prng;
-use crate::gen::{damage, padding, random};
+use crate::gen::{damage, notes, padding, random};
 use crate::limits::TOTAL;
 use crate::naive::file::print;
 use crate::question::Input;
@@ -59,13 +59,14 @@ fn larger_show(checker: &mut Checker, prng: &mut Prng) {
     ask_rows(checker, prng, rows);
 }
 
-/// A show of many rows, whole or damaged. Most are too large to unfold.
+/// A show of many rows with notes among them, whole or damaged. Most are too large to unfold.
 fn long_show(checker: &mut Checker, prng: &mut Prng) {
     let length = *prng.pick(&[100, 500, 1023, 1024, 1025]);
     let per_block = 5 + prng.below(40);
     let small = prng.one_in(8);
     let total = if small { 300 } else { TOTAL };
     let mut rows = random::sized(prng, length, per_block, total);
+    notes::some(prng, &mut rows);
     if prng.one_in(2) {
         damage::rows(prng, &mut rows);
     }
@@ -75,13 +76,16 @@ fn long_show(checker: &mut Checker, prng: &mut Prng) {
         asked.ask_rows(prng);
     } else {
         asked.ask_folded(prng);
+        asked.ask_without_notes(prng);
     }
 }
 
 /// A show in which many rows lie behind a link.
 fn tangled_show(checker: &mut Checker, prng: &mut Prng) {
     let rows = random::show(prng, &random::TANGLED);
-    Subjected::new(checker, Input::Rows(rows)).ask_folded(prng);
+    let mut asked = Subjected::new(checker, Input::Rows(rows));
+    asked.ask_folded(prng);
+    asked.ask_without_notes(prng);
 }
 
 fn damaged_file(checker: &mut Checker, prng: &mut Prng) {

@@ -10,6 +10,11 @@ pub fn ring() -> Vec<u32> {
 
 /// The ring with `blocks` blocks below the show, each twice as long as the one before.
 pub fn long_ring(blocks: u32) -> Vec<u32> {
+    ring_back(blocks, 2)
+}
+
+/// The long ring with this label for its link back.
+pub fn ring_back(blocks: u32, label: u32) -> Vec<u32> {
     let mut build = Build::default();
     let mut below = build.open(2, 1);
     build.link(1, 1, 3);
@@ -21,7 +26,7 @@ pub fn long_ring(blocks: u32) -> Vec<u32> {
         build.take(used, &[2, 1]);
     }
     build.open(0, 2);
-    build.link(2, 2, 1);
+    build.link(label, 2, 1);
     build.take(below, &[1, 2]);
     build.numbers()
 }

@@ -1,11 +1,12 @@
-//! Shows to ask about: the named ones, random ones, padded files, and damaged files
-//! and rows.
+//! Shows to ask about: the named ones, random ones, those with notes, padded files, and damaged
+//! files and rows.
 
 pub mod behind;
 pub mod build;
 pub mod damage;
 pub mod edges;
 pub mod known;
+pub mod notes;
 pub mod padding;
 pub mod prng;
 pub mod random;

@@ -3,6 +3,7 @@
 use std::collections::BTreeSet;
 
 use super::build::Build;
+use super::notes;
 use super::prng::Prng;
 use crate::limits::BLOCKS;
 
@@ -40,7 +41,7 @@ struct Done {
     total: u64,
 }
 
-/// A random show of this shape.
+/// A random show of this shape, with notes among its links.
 pub fn show(prng: &mut Prng, shape: &Shape) -> Vec<u32> {
     let blocks = prng.within(shape.blocks.0, shape.blocks.1);
     let (mut build, mut done) = (Build::default(), Vec::new());
@@ -53,7 +54,9 @@ pub fn show(prng: &mut Prng, shape: &Shape) -> Vec<u32> {
         let counts = Counts { joins, own, links, uses, total: shape.total };
         block(prng, &mut build, &mut done, &counts);
     }
-    build.numbers()
+    let mut rows = build.numbers();
+    notes::some(prng, &mut rows);
+    rows
 }
 
 fn own_cues(prng: &mut Prng, most: u32, last: bool) -> u32 {
@@ -64,7 +67,7 @@ fn own_cues(prng: &mut Prng, most: u32, last: bool) -> u32 {
 }
 
 /// A random show of exactly this many rows, with about `per_block` rows to a block and at
-/// most `total` cues.
+/// most `total` cues. A link of it is a note only where its label, any of 255, happens to be the last.
 pub fn sized(prng: &mut Prng, rows: usize, per_block: usize, total: u64) -> Vec<u32> {
     let blocks = (rows / per_block).clamp(1, BLOCKS);
     let (mut build, mut done) = (Build::default(), Vec::new());

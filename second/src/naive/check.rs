@@ -1,6 +1,6 @@
 //! The check of rows: refusals 4 to 10.
 
-use crate::limits::{Refusal, Row, BLOCKS, COLUMNS, JOINS, OWN, ROWS, TOTAL};
+use crate::limits::{Refusal, Row, BLOCKS, COLUMNS, FOLLOWED, JOINS, OWN, ROWS, TOTAL};
 
 /// A follow-on between two cues of a block.
 #[derive(Clone, Copy, Debug, PartialEq, Eq, PartialOrd, Ord)]
@@ -8,6 +8,13 @@ pub struct Link {
     pub from: u32,
     pub to: u32,
     pub label: u32,
+}
+
+impl Link {
+    /// Whether a chain may have it; a note is in none.
+    pub fn is_followed(&self) -> bool {
+        self.label <= FOLLOWED
+    }
 }
 
 /// A use of a lower block; its cues in the order of that block's joins.

@@ -1,5 +1,7 @@
 //! The cases of the specification, for the naive tool.
 
+mod notes;
+
 use super::ask::Show;
 use super::behind::origins;
 use super::print::printed;

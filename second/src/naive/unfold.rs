@@ -19,6 +19,7 @@ pub struct Unfolding {
     pub links: BTreeSet<Link>,
     out: Vec<BTreeSet<u32>>,
     into: Vec<BTreeSet<u32>>,
+    followed: Vec<BTreeSet<u32>>,
 }
 
 /// A copy still to be put in: its block, the cues its joins meet, its place.
@@ -72,13 +73,17 @@ impl Unfolding {
         inner.collect()
     }
 
-    /// Collects the linked cues of every cue, both ways.
+    /// Collects the linked cues of every cue, both ways, and those that a chain goes on to.
     fn join_up(&mut self, nodes: usize) {
         self.out = vec![BTreeSet::new(); nodes + 1];
         self.into = self.out.clone();
+        self.followed = self.out.clone();
         for link in &self.links {
             self.out[link.from as usize].insert(link.to);
             self.into[link.to as usize].insert(link.from);
+            if link.is_followed() {
+                self.followed[link.from as usize].insert(link.to);
+            }
         }
     }
 
@@ -88,14 +93,14 @@ impl Unfolding {
         &side[v as usize]
     }
 
-    /// The length of a shortest chain from s to every cue, breadth first.
+    /// The length of a shortest chain from s to every cue, breadth first. No chain has a note.
     pub fn steps_from(&self, s: u32) -> Vec<Option<u32>> {
         let mut steps = vec![None; self.out.len()];
         steps[s as usize] = Some(0);
         let mut edge = vec![s];
         for length in 1.. {
             let mut next = Vec::new();
-            for to in edge.iter().flat_map(|cue| &self.out[*cue as usize]) {
+            for to in edge.iter().flat_map(|cue| &self.followed[*cue as usize]) {
                 if steps[*to as usize].is_none() {
                     steps[*to as usize] = Some(length);
                     next.push(*to);

@@ -3,7 +3,7 @@
 
 use super::check::{Block, Copy, Show, EMPTY};
 use super::{checked, is_cue};
-use crate::limits::{Refusal, Row, JOINS, NO_CHAIN, PATH, STRIDE, WORK};
+use crate::limits::{Refusal, Row, FOLLOWED, JOINS, NO_CHAIN, PATH, STRIDE, WORK};
 
 /// A label for each cue of a block; more places than cues, so that no index is outside.
 type Labels = [u32; 512];
@@ -125,11 +125,11 @@ struct Search<'a> {
 }
 
 impl Search<'_> {
-    /// Lowers the labels along links and uses until nothing changes.
+    /// Lowers the labels along links and uses until nothing changes. Notes lower none.
     fn relax(&self, block: &Block, labels: &mut Labels) {
         loop {
             let mut changed = false;
-            for row in self.show.links(block) {
+            for row in self.show.links(block).iter().filter(|row| row[2] <= FOLLOWED) {
                 let steps = labels[row[3] as usize % 512].saturating_add(1);
                 changed |= lower(labels, row[4], steps);
             }

@@ -2,11 +2,12 @@
 
 use crate::naive::check::{check, Block};
 
-/// The links of the unfolded show, as pairs.
+/// The links of the unfolded show that a chain may have, as pairs.
 fn unfold(blocks: &[Block], k: usize, base: u32, met: &[u32], links: &mut Vec<(u32, u32)>) -> u32 {
     let block = &blocks[k];
     let number = |cue: u32| block.number(base, met, cue);
-    links.extend(block.links.iter().map(|link| (number(link.from), number(link.to))));
+    let followed = block.links.iter().filter(|link| link.is_followed());
+    links.extend(followed.map(|link| (number(link.from), number(link.to))));
     let mut next = base + block.own;
     for taken in &block.uses {
         let mut inner = [0; 8];
@@ -60,10 +61,15 @@ fn by_start(count: usize, links: &[(u32, u32)]) -> (Vec<u32>, Vec<u32>) {
 
 #[cfg(test)]
 mod tests {
+    use crate::gen::{known, notes};
+
     #[test]
     fn the_long_ring() {
-        let rows = crate::gen::known::long_ring(8);
+        let rows = known::long_ring(8);
         assert_eq!(super::fewest(&rows, 1, 2), Some(256));
         assert_eq!(super::fewest(&rows, 2, 1), Some(1));
+        let noted = known::ring_back(8, notes::NOTE);
+        assert_eq!(super::fewest(&noted, 1, 2), Some(256));
+        assert_eq!(super::fewest(&noted, 2, 1), None);
     }
 }

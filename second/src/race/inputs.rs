@@ -1,7 +1,7 @@
 //! What is timed: for each question, the inputs of the table of figures.
 
 use crate::gen::prng::Prng;
-use crate::gen::{known, padding, random};
+use crate::gen::{known, notes, padding, random};
 use crate::limits::{JOINS, PATH, TOTAL, WORK};
 use crate::naive::file::print;
 use crate::question::{Input, Question};
@@ -132,6 +132,13 @@ fn some_pairs(rows: &[u32]) -> Vec<Question> {
     cues.iter().zip(ends).map(|(s, t)| pair(*s, *t)).collect()
 }
 
+/// The same show with notes among its links.
+fn noted((name, rows): &Named) -> Named {
+    let mut rows = rows.clone();
+    notes::some(&mut Prng::new(7, 0), &mut rows);
+    (format!("{name}, one link in four a note"), rows)
+}
+
 /// Shows of 1,024 rows with many joins.
 fn hard() -> [Named; 2] {
     [named("dense", known::dense()), named("five blocks in 1024 rows", known::five_blocks())]
@@ -152,6 +159,8 @@ fn fewest(usual: &[Named; 4], lengths: &[Named; 3]) -> Vec<Entry> {
     let shows = [&long_pairs].into_iter().chain(lengths).chain(&hard);
     entries.extend(shows.map(|show| entry("fewest", show, some_pairs(&show.1))));
     entries.push(entry("fewest", &bad_order, vec![pair(255, 1)]));
+    let noted = noted(&lengths[2]);
+    entries.push(entry("fewest", &noted, some_pairs(&noted.1)));
     entries
 }
 
