@@ -31,9 +31,9 @@
 #include <stdint.h>
 
 /* The version of this header and of the library. The second number is raised by each change of what the functions answer. */
-#define SHOW_VERSION "0.3.0"
+#define SHOW_VERSION "0.4.0"
 #define SHOW_VERSION_MAJOR 0
-#define SHOW_VERSION_MINOR 3
+#define SHOW_VERSION_MINOR 4
 #define SHOW_VERSION_PATCH 0
 
 /* A compiler that can warns where what a function returns is not looked at. */
@@ -61,6 +61,7 @@ extern "C" {
 #define SHOW_MAX_OWN 255                              /* own cues of a block, at most */
 #define SHOW_MAX_JOINS 8                              /* joins of a block, at most */
 #define SHOW_MAX_LABEL 255                            /* label of a link, at most; the least is 1 */
+#define SHOW_MAX_FOLLOWED 254                         /* label of a link that chains follow, at most; with 255 it is a note */
 #define SHOW_MAX_CUES 2147483647                      /* cues of a show, at most */
 #define SHOW_PATH_LEN 127                             /* least length of a list lent for a path; steps of a path, at most */
 #define SHOW_WORK_LEN 16384                           /* least length of a work area */
@@ -155,7 +156,7 @@ SHOW_NODISCARD uint64_t show_locate(const uint32_t *rows, size_t rows_len, uint3
 SHOW_NODISCARD uint64_t show_number(const uint32_t *rows, size_t rows_len, const uint32_t *path, size_t path_len, uint32_t own,
                                     uint32_t *given, size_t given_len);
 
-/* The cues that follow on from cue v by one link, those above n: rising, each once, as many as the page has room for.
+/* The cues that follow on from cue v by one link, notes included, those above n: rising, each once, as many as the page has room for.
  *   given      cues written, 1 if there are more and 0 if not
  *   n          any number: 0 for the first page, then the last cue of the page before.
  *   page       output. No page is too short: one of length 0 (it may be NULL) only says whether there are any. A loop over pages
@@ -171,6 +172,8 @@ SHOW_NODISCARD uint64_t show_list_in(const uint32_t *rows, size_t rows_len, uint
 
 /* The fewest follow-ons from cue s to cue t.
  *   given      1 and their number, or 0 and 0 if no chain leads from s to t
+ *   Notes      Links with label 255, above SHOW_MAX_FOLLOWED, are notes and are not followed: no chain has one, and the summaries in
+ *              work leave them out. Lists and show_row show them.
  *   work       at least SHOW_WORK_LEN; what stands there does not matter. After an answer it holds the fewest from join i to join j
  *              inside block k (joins from 1, blocks from 0) at SHOW_SUMMARY_LEN * k + 8 * (i - 1) + (j - 1), SHOW_NO_CHAIN for none
  *              and for a join that the block does not have, and 0 behind the last block up to SHOW_WORK_LEN numbers.

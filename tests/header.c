@@ -97,6 +97,19 @@ static void links(void) {
     tell(numbers[0] == 99 && given[0] == 97 && given[1] == 0 && given[2] == 98, "a refused row changes nothing");
 }
 
+/* A link is followed up to the last label that is; the one above it makes it a note, which a list and a row show. */
+static void notes(void) {
+    uint32_t noted[MANY];
+    memcpy(noted, rows, sizeof rows);
+    noted[SHOW_ROW_LEN + 2] = SHOW_MAX_FOLLOWED;
+    tell(show_fewest(noted, MANY, 1, 2, numbers, SHOW_WORK_LEN, given, SHOW_GIVEN_LEN) == 0 && given[0] == 1, "the last label followed");
+    noted[SHOW_ROW_LEN + 2] = SHOW_MAX_FOLLOWED + 1;
+    tell(SHOW_MAX_FOLLOWED + 1 == SHOW_MAX_LABEL, "the label of a note is the last one");
+    tell(show_fewest(noted, MANY, 1, 2, numbers, SHOW_WORK_LEN, given, SHOW_GIVEN_LEN) == 0 && given[0] == 0 && given[1] == 0, "no note");
+    tell(show_list_out(noted, MANY, 1, 0, numbers, 1, given, SHOW_GIVEN_LEN) == 0 && given[0] == 1 && numbers[0] == 2, "a list has it");
+    tell(show_row(noted, MANY, 1, 2, numbers, SHOW_PATH_LEN, given, SHOW_GIVEN_LEN) == 0 && given[0] == 2, "a note has a row");
+}
+
 /* What the constants say is enough is enough, and one less is too short. */
 static void sizes(void) {
     tell(show_read((const uint8_t *)text, LENGTH, numbers, MANY, given, SHOW_GIVEN_LEN) == 0 && given[0] == 2, "read exactly");
@@ -123,6 +136,7 @@ int main(void) {
     pages(show_list_out, 1, 2);
     pages(show_list_in, 2, 1);
     links();
+    notes();
     sizes();
     printf("%u passed, %u failed\n", passed, failed);
     return failed != 0;

@@ -1,6 +1,6 @@
 //! The blocks of a show, out of its rows.
 
-use show::{Loaded, ROW_LEN};
+use show::{Loaded, MAX_FOLLOWED, ROW_LEN};
 
 /// A row: block, kind, label, and the columns a to h.
 pub type Row = [u32; ROW_LEN];
@@ -21,6 +21,13 @@ pub struct Link {
     pub to: u32,
     /// Its label.
     pub label: u32,
+}
+
+impl Link {
+    /// Whether it is a note, which no chain has.
+    pub fn is_note(&self) -> bool {
+        self.label > MAX_FOLLOWED
+    }
 }
 
 /// A use of an earlier block.

@@ -122,7 +122,8 @@ pub const COMMANDS: [Command; 10] = [
         option: None,
         takes: &["S", "T"],
         says: "the fewest follow-ons from cue S to cue T, or none",
-        prints: "`fewest` and the fewest follow-ons that lead from cue S to cue T, or `none`.",
+        prints: "`fewest` and the fewest follow-ons that lead from cue S to cue T, or `none`.\n\
+            Notes, links with label 255, are not followed.",
         question: |behind| Ok(Question::Fewest(behind.number(0)?, behind.number(1)?)),
     },
     Command {
@@ -152,8 +153,9 @@ pub const COMMANDS: [Command; 10] = [
         takes: &[],
         says: "the blocks, or the unfolded show, as text for Graphviz",
         prints: "text from which `dot -Tsvg` of Graphviz draws the blocks of the show or,\n\
-            with --unfolded, its copies, cues and links. Over 1,000 cues or 10,000 links are not\n\
-            drawn unfolded: the exit status is 2, since that is no refusal of the library.",
+            with --unfolded, its copies, cues and links. Notes, links with label 255, are dashed.\n\
+            Over 1,000 cues or 10,000 links are not drawn unfolded: the exit status is 2, since that\n\
+            is no refusal of the library.",
         question: |behind| Ok(Question::Picture { unfolded: behind.option }),
     },
 ];

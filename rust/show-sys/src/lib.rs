@@ -31,6 +31,8 @@ pub const MAX_OWN: u32 = 255;
 pub const MAX_JOINS: usize = 8;
 /// Label of a link, at most; the least is 1.
 pub const MAX_LABEL: u32 = 255;
+/// Label of a link that chains follow, at most; with 255 it is a note.
+pub const MAX_FOLLOWED: u32 = 254;
 /// Least length of a list lent for a path.
 pub const PATH_LEN: usize = 127;
 /// Least length of a work area.
@@ -114,7 +116,8 @@ extern "C" {
         given_len: usize,
     ) -> u64;
 
-    /// The fewest follow-ons from cue s to cue t. given: 1 and their number, or 0 and 0.
+    /// The fewest follow-ons from cue s to cue t; notes are not followed. given: 1 and their number,
+    /// or 0 and 0.
     pub fn show_fewest(
         rows: *const u32,
         rows_len: usize,

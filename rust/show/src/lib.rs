@@ -33,8 +33,8 @@ mod refused;
 pub use linked::Linked;
 pub use refused::{Place, Refused};
 pub use show_sys::{
-    MAX_BLOCKS, MAX_CUES, MAX_FILE, MAX_JOINS, MAX_LABEL, MAX_OWN, MAX_ROWS, MAX_VALUE, NO_CHAIN,
-    PATH_LEN, ROWS_LEN, ROW_LEN, STACK_LEN, SUMMARY_LEN, WORK_LEN,
+    MAX_BLOCKS, MAX_CUES, MAX_FILE, MAX_FOLLOWED, MAX_JOINS, MAX_LABEL, MAX_OWN, MAX_ROWS,
+    MAX_VALUE, NO_CHAIN, PATH_LEN, ROWS_LEN, ROW_LEN, STACK_LEN, SUMMARY_LEN, WORK_LEN,
 };
 
 /// The version of this crate, which is that of the library's header too.
@@ -212,7 +212,8 @@ impl<'a> Rows<'a> {
         Ok(n)
     }
 
-    /// The cues that follow on from cue `v` by one link, rising, each once; or [`Refused::NoSuchCue`].
+    /// The cues that follow on from cue `v` by one link, notes included, rising, each once; or
+    /// [`Refused::NoSuchCue`].
     ///
     /// The iterator asks for a page at a time, so a list of millions needs no memory. A refusal is
     /// said here; the pages behind the first are asked of the same rows and cannot be refused.
@@ -241,9 +242,25 @@ impl<'a> Rows<'a> {
     /// from the one to the other. `work` has at least [`WORK_LEN`] numbers, whatever they are, or it is
     /// [`Refused::TooShort`]. Also [`Refused::NoSuchCue`], of `s` or `t`.
     ///
+    /// Links with label 255, above [`MAX_FOLLOWED`], are notes and are not followed: no chain has one, in
+    /// the show or in a block. Lists and [`row`](Rows::row) show them.
+    ///
     /// Afterwards they hold the fewest from each join to each join inside each block: those from
     /// join i to join j of block k at [`SUMMARY_LEN`]` * k + 8 * (i - 1) + (j - 1)`, [`NO_CHAIN`] for
     /// none and for a join that the block does not have.
+    ///
+    /// ```
+    /// use show::{Rows, MAX_FOLLOWED, WORK_LEN};
+    ///
+    /// // Two own cues and a link between them, with this label.
+    /// let linked = |label| [[0, 0, 0, 2, 0, 0, 0, 0, 0, 0, 0], [0, 1, label, 1, 2, 0, 0, 0, 0, 0, 0]];
+    /// let (link, note) = (linked(MAX_FOLLOWED), linked(MAX_FOLLOWED + 1));
+    /// let [link, note] = [&link, &note].map(|rows| Rows::new(rows.as_flattened()));
+    /// assert_eq!(link.fewest(1, 2, &mut [0; WORK_LEN])?, Some(1));
+    /// assert_eq!(note.fewest(1, 2, &mut [0; WORK_LEN])?, None);
+    /// assert_eq!(note.linked_out(1)?.collect::<Vec<_>>(), [2]);
+    /// # Ok::<(), show::Refused>(())
+    /// ```
     pub fn fewest(&self, s: u32, t: u32, work: &mut [u32]) -> Result<Option<u32>, Refused> {
         let (rows, rows_len) = self.lent();
         let (len, to) = (work.len(), work.as_mut_ptr());

@@ -29,6 +29,7 @@ fn lengths_and_limits() {
         ("SHOW_MAX_OWN", show::MAX_OWN as usize),
         ("SHOW_MAX_JOINS", show::MAX_JOINS),
         ("SHOW_MAX_LABEL", show::MAX_LABEL as usize),
+        ("SHOW_MAX_FOLLOWED", show::MAX_FOLLOWED as usize),
         ("SHOW_MAX_CUES", show::MAX_CUES as usize),
         ("SHOW_PATH_LEN", show::PATH_LEN),
         ("SHOW_WORK_LEN", show::WORK_LEN),

@@ -67,7 +67,7 @@ fn own_cues(prng: &mut Prng, most: u32, last: bool) -> u32 {
 }
 
 /// A random show of exactly this many rows, with about `per_block` rows to a block and at
-/// most `total` cues. A link of it is a note only where its label, any of 255, happens to be the last.
+/// most `total` cues. Few of its links are notes: those that happen to have the last of 255 labels.
 pub fn sized(prng: &mut Prng, rows: usize, per_block: usize, total: u64) -> Vec<u32> {
     let blocks = (rows / per_block).clamp(1, BLOCKS);
     let (mut build, mut done) = (Build::default(), Vec::new());

@@ -2,7 +2,7 @@
 //! meet the cues they name.
 
 use super::dot::{raised, Picture};
-use crate::blocks::{Block, Link, Use};
+use crate::blocks::{Block, Use};
 
 /// What the shapes mean.
 const KEY: [&str; 2] = [
@@ -15,12 +15,15 @@ const MEETING: &str = "fontsize=10, dir=none, style=dashed, color=\"#707070\", w
 
 /// One frame for each block.
 pub fn drawn(name: &str, blocks: &[Block]) -> String {
-    let mut picture = Picture::new(&format!("{name}: the blocks"), &KEY);
+    let links = blocks.iter().flat_map(|block| &block.links);
+    let mut picture = Picture::new(&format!("{name}: the blocks"), &KEY, links);
     for (block, k) in blocks.iter().zip(0..) {
         let show = if k + 1 == blocks.len() { ", the show" } else { "" };
         picture.frame(&k.to_string(), &format!("block {k}{show}: total {}", block.total));
         cues(&mut picture, block, k);
-        block.links.iter().for_each(|link| arrow(&mut picture, link, k));
+        for link in &block.links {
+            picture.arrow(link, |number| cue(k, number));
+        }
         for (taken, step) in block.uses.iter().zip(1..) {
             meeting(&mut picture, taken, k, step);
         }
@@ -43,11 +46,6 @@ fn cues(picture: &mut Picture, block: &Block, k: usize) {
         let look = format!("label=\"{number}\\njoin {join}\", shape=doublecircle, margin=0");
         picture.line(&format!("{} [{look}];", cue(k, number)));
     }
-}
-
-fn arrow(picture: &mut Picture, link: &Link, k: usize) {
-    let (from, to) = (cue(k, link.from), cue(k, link.to));
-    picture.line(&format!("{from} -> {to} [label=\"{}\"];", link.label));
 }
 
 /// A use stands behind the first cue it names and before the others.

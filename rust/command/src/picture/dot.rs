@@ -1,5 +1,7 @@
 //! Lines of Graphviz text, set in by how deep they stand.
 
+use crate::blocks::Link;
+
 /// What all pictures have in common: rows from left to right, round cues.
 const LOOK: [&str; 4] = [
     "graph [rankdir=LR, newrank=true, labelloc=t, labeljust=l, nodesep=0.35, bgcolor=white];",
@@ -11,6 +13,9 @@ const LOOK: [&str; 4] = [
 /// The end of a line that begins at the left.
 const END: &str = "<BR ALIGN=\"LEFT\"/>";
 
+/// What a dashed arrow means; said only where there is one.
+const NOTE: &str = "dashed arrow: note, which is not followed";
+
 /// The grounds of frames, the next one for each frame inside another.
 const GROUNDS: [&str; 3] = ["#f4f1ea", "#e6edf5", "#e9f3e6"];
 
@@ -21,13 +26,19 @@ pub struct Picture {
 }
 
 impl Picture {
-    /// An empty picture with its title and what its shapes mean.
-    pub fn new(title: &str, key: &[&str]) -> Picture {
+    /// An empty picture with its title and what its shapes mean. Nothing is said of notes if none of
+    /// its links is one.
+    pub fn new<'a>(
+        title: &str,
+        key: &[&str],
+        links: impl IntoIterator<Item = &'a Link>,
+    ) -> Picture {
         let mut picture = Picture { text: String::new(), depth: 0 };
         picture.open("digraph");
         LOOK.iter().for_each(|line| picture.line(line));
         let head = format!("<FONT POINT-SIZE=\"16\">{}</FONT>{END}", escaped(title));
-        let rest: String = key.iter().map(|line| format!("{line}{END}")).collect();
+        let note = links.into_iter().any(Link::is_note).then_some(&NOTE);
+        let rest: String = key.iter().chain(note).map(|line| format!("{line}{END}")).collect();
         picture.line(&format!("fontsize=12; label=<{head}{rest}>;"));
         picture
     }
@@ -37,6 +48,13 @@ impl Picture {
         self.text.push_str(&"  ".repeat(self.depth));
         self.text.push_str(line);
         self.text.push('\n');
+    }
+
+    /// Adds a link with its label, between two cues that are called so. That of a note is dashed.
+    pub fn arrow(&mut self, link: &Link, called: impl Fn(u32) -> String) {
+        let (from, to) = (called(link.from), called(link.to));
+        let dashed = if link.is_note() { ", style=dashed" } else { "" };
+        self.line(&format!("{from} -> {to} [label=\"{}\"{dashed}];", link.label));
     }
 
     /// Opens a frame around what follows.

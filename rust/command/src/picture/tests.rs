@@ -1,8 +1,9 @@
-//! The pictures of the ring, where cues stand, and what is not drawn.
+//! The pictures of the ring, where cues stand, what is dashed, and what is not drawn.
 
 use second::gen::prng::Prng;
-use second::gen::{known, random};
+use second::gen::{known, notes, random};
 use second::naive::ask::Show;
+use second::naive::check::Link;
 use second::naive::file::print;
 use show::{Loaded, Rows, ROWS_LEN};
 
@@ -119,11 +120,51 @@ fn every_link_is_drawn_with_its_label() {
     for rows in shows() {
         let show = Show::of_rows(&rows).expect("an accepted show");
         let links = show.unfolding().links.iter();
-        let expected: Vec<String> = links
-            .map(|link| format!("{} -> {} [label=\"{}\"];", link.from, link.to, link.label))
-            .collect();
+        let expected: Vec<String> =
+            links.map(|link| format!("{} -> {} {}", link.from, link.to, look(link))).collect();
         assert_eq!(arrows(&drawn(&rows)), expected);
     }
+}
+
+/// How a link is drawn.
+fn look(link: &Link) -> String {
+    let dashed = if link.is_followed() { "" } else { ", style=dashed" };
+    format!("[label=\"{}\"{dashed}];", link.label)
+}
+
+#[test]
+fn every_link_of_a_block_is_drawn_with_its_label() {
+    for rows in shows() {
+        let show = Show::of_rows(&rows).expect("an accepted show");
+        let mut expected = Vec::new();
+        for (block, k) in show.blocks.iter().zip(0..) {
+            let drawn =
+                |link: &Link| format!("b{k}c{} -> b{k}c{} {}", link.from, link.to, look(link));
+            expected.extend(block.links.iter().map(drawn));
+        }
+        let mut arrows = arrows(&of(&rows, |show| blocks("show", show)));
+        arrows.retain(|line| !line.contains("dir=none"));
+        assert_eq!(arrows, expected);
+    }
+}
+
+/// The picture of the ring with a note in the place of its link from 2 to 1: that arrow is dashed,
+/// and a line more says what that means.
+fn with_note(picture: &str, end: &str) -> String {
+    let arrow = |look: &str| format!(" -> {end} [{look}];");
+    let line = "dashed arrow: note, which is not followed<BR ALIGN=\"LEFT\"/>";
+    let noted = picture.replace(&arrow("label=\"2\""), &arrow("label=\"255\", style=dashed"));
+    noted.replace("<BR ALIGN=\"LEFT\"/>>;", &format!("<BR ALIGN=\"LEFT\"/>{line}>;"))
+}
+
+#[test]
+fn a_note_of_the_ring_is_dashed() {
+    let noted = known::ring_back(2, notes::NOTE);
+    assert_eq!(of(&noted, |ring| blocks("ring", ring)), with_note(RING_BLOCKS, "b2c1"));
+    let unfolded = of(&noted, |ring| unfolded("ring", ring));
+    assert_eq!(unfolded, Ok(with_note(RING_UNFOLDED, "1")));
+    let followed = of(&known::ring_back(2, notes::NOTE - 1), |ring| blocks("ring", ring));
+    assert_eq!(followed, RING_BLOCKS.replace("-> b2c1 [label=\"2\"]", "-> b2c1 [label=\"254\"]"));
 }
 
 #[test]

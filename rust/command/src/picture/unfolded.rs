@@ -8,12 +8,12 @@ const KEY: &str = "frame: copy with its path; circle: cue; arrow: link with its 
 
 /// Frames by the file, links as given.
 pub fn drawn(name: &str, blocks: &[Block], links: &[Link]) -> String {
-    let picture = Picture::new(&format!("{name}: unfolded"), &[KEY]);
+    let picture = Picture::new(&format!("{name}: unfolded"), &[KEY], links);
     let mut copies = Copies { blocks, picture, numbered: 0 };
     copies.put_in(blocks.len() - 1, &[]);
     let mut picture = copies.picture;
-    for Link { from, to, label } in links {
-        picture.line(&format!("{from} -> {to} [label=\"{label}\"];"));
+    for link in links {
+        picture.arrow(link, |number| number.to_string());
     }
     picture.text()
 }

@@ -7,13 +7,14 @@ use std::process::{Command, Stdio};
 use second::gen::known;
 use show_command::commands::COMMANDS;
 
-use crate::common::{file_of, ring, said, started};
+use crate::common::{file_of, noted_ring, ring, said, started};
 
 const RING: &str = "shows/ring.csv";
+const NOTED: &str = "shows/noted_ring.csv";
 const BLOCKS: &str = include_str!("../../src/picture/ring-blocks.dot");
 const UNFOLDED: &str = include_str!("../../src/picture/ring-unfolded.dot");
 
-/// Every command on the ring, with what it prints.
+/// Every command on the ring, and some on the ring with a note, with what they print.
 const ANSWERS: &[(&[&str], &str)] = &[
     (&["check", RING], "blocks,rows,cues\n3,9,5\n"),
     (&["count", RING], "cues\n5\n"),
@@ -27,6 +28,12 @@ const ANSWERS: &[(&[&str], &str)] = &[
     (&["in", RING, "1"], "from\n2\n"),
     (&["fewest", RING, "1", "2"], "fewest\n4\n"),
     (&["fewest", RING, "3", "3"], "fewest\n0\n"),
+    (&["fewest", RING, "4", "3"], "fewest\n4\n"),
+    (&["fewest", NOTED, "4", "3"], "fewest\nnone\n"),
+    (&["fewest", NOTED, "2", "1"], "fewest\nnone\n"),
+    (&["fewest", NOTED, "1", "2"], "fewest\n4\n"),
+    (&["out", NOTED, "2"], "to\n1\n"),
+    (&["in", NOTED, "1"], "from\n2\n"),
     (&["fewest", "shows/tower31.csv", "1", "2"], "fewest\nnone\n"),
     (&["count", "shows/tower31.csv"], "cues\n2147483647\n"),
     (
@@ -37,13 +44,18 @@ const ANSWERS: &[(&[&str], &str)] = &[
         &["row", RING, "4", "2"],
         "row,line,depth,path,block,kind,label,a,b,c,d,e,f,g,h\n2,3,2,1.1,0,1,1,1,3,0,0,0,0,0,0\n",
     ),
+    (
+        &["row", NOTED, "2", "1"],
+        "row,line,depth,path,block,kind,label,a,b,c,d,e,f,g,h\n8,9,0,-,2,1,255,2,1,0,0,0,0,0,0\n",
+    ),
     (&["links", "shows/tower31.csv"], "cues\n2147483647\n"),
+    (&["links", NOTED], "from,to,label\n1,5,1\n2,1,255\n3,4,1\n4,2,1\n5,3,1\n"),
     (&["links", RING], "from,to,label\n1,5,1\n2,1,2\n3,4,1\n4,2,1\n5,3,1\n"),
     (&["picture", RING], BLOCKS),
     (&["picture", "--unfolded", RING], UNFOLDED),
     (&["picture", RING, "--unfolded"], UNFOLDED),
-    (&["--version"], "show 0.3.0\n"),
-    (&["-V"], "show 0.3.0\n"),
+    (&["--version"], "show 0.4.0\n"),
+    (&["-V"], "show 0.4.0\n"),
 ];
 
 #[test]
@@ -60,11 +72,13 @@ fn the_version_is_that_of_the_library() {
 
 #[test]
 fn a_dash_is_standard_input() {
-    for (words, printed) in ANSWERS.iter().filter(|(words, _)| words.contains(&RING)) {
-        let words: Vec<&str> =
-            words.iter().map(|word| if *word == RING { "-" } else { word }).collect();
-        let printed = printed.replace(">ring:", ">standard input:");
-        assert_eq!(said(&words, &ring()), (0, printed, String::new()), "{words:?}");
+    for (name, file) in [(RING, ring()), (NOTED, noted_ring())] {
+        for (words, printed) in ANSWERS.iter().filter(|(words, _)| words.contains(&name)) {
+            let words: Vec<&str> =
+                words.iter().map(|word| if *word == name { "-" } else { word }).collect();
+            let printed = printed.replace(">ring:", ">standard input:");
+            assert_eq!(said(&words, &file), (0, printed, String::new()), "{words:?}");
+        }
     }
 }
 
@@ -145,6 +159,14 @@ fn help_lists_every_command() {
         }
     }
     assert!(all.lines().all(|line| line.len() <= 108), "a line of the help is too long");
+}
+
+#[test]
+fn help_says_which_label_is_not_followed() {
+    let note = format!("with label {}, are", show::MAX_FOLLOWED + 1);
+    for word in ["fewest", "picture"] {
+        assert!(said(&[word, "--help"], b"").1.contains(&note), "{word}");
+    }
 }
 
 #[test]

@@ -24,6 +24,11 @@ pub fn ring() -> Vec<u8> {
     file_of(&second::gen::known::ring())
 }
 
+/// The file of the ring with a note for its link back.
+pub fn noted_ring() -> Vec<u8> {
+    file_of(&second::gen::known::ring_back(2, second::gen::notes::NOTE))
+}
+
 /// The library's refusal of a file.
 pub fn refusal(file: &[u8]) -> Option<Refused> {
     Rows::read(file, &mut [0; ROWS_LEN]).err()
