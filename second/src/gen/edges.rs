@@ -6,25 +6,8 @@ use crate::limits::{Row, BLOCKS, COLUMNS, JOINS};
 
 /// Values around every limit.
 const VALUES: [u32; 19] = [
-    0,
-    1,
-    2,
-    3,
-    4,
-    8,
-    9,
-    127,
-    128,
-    254,
-    255,
-    256,
-    263,
-    264,
-    65_535,
-    65_536,
-    65_537,
-    1 << 31,
-    u32::MAX,
+    0, 1, 2, 3, 4, 8, 9, 127, 128, 254, 255, 256, 263, 264, 65_535, 65_536, 65_537, 0x80000000,
+    0xFFFFFFFF,
 ];
 /// Bytes that could be taken for others.
 const BYTES: &[u8] = b"\r\n ,+-./:019a\0\t\xFF";
