@@ -1,5 +1,5 @@
 -- The laws of chains and distances, and how they make the fewest question's answer exact without unfolding. A price is what a link weighs:
--- 1 for follow-ons (each-one). A copy is a block in its place, and its parts are the copies of its uses (shows/specs/Copies).
+-- 1 if it is followed, and a note has none (each-one). A copy is a block in its place, and its parts are the copies of its uses (shows/specs/Copies).
 --
 -- 0. The model's fewest is the length of a shortest chain, and a summary that of a shortest chain between joins.
 pub mod Walks

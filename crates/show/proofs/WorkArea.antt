@@ -11,7 +11,6 @@ use Rattle.model.specs.Verdicts.{verdict}
 use Rattle.model.specs.Summaries.{summaries, summary, workAfter}
 use Rattle.model.specs.declared.Verdict.the-variants.{Accepted}
 use Rattle.shows.proofs.Accepted.{accepted-show}
-use Rattle.distances.specs.Demand.{Summarised}
 use Rattle.distances.proofs.Fewest.{summary-right}
 use Rattle.distances.proofs.Places.{summaries-at, summaries-length}
 use Rattle.show.specs.WorkArea.{IsWorkArea}
