@@ -105,7 +105,7 @@ static void notes(void) {
     tell(show_fewest(noted, MANY, 1, 2, numbers, SHOW_WORK_LEN, given, SHOW_GIVEN_LEN) == 0 && given[0] == 1, "the last label followed");
     noted[SHOW_ROW_LEN + 2] = SHOW_MAX_FOLLOWED + 1;
     tell(SHOW_MAX_FOLLOWED + 1 == SHOW_MAX_LABEL, "the label of a note is the last one");
-    tell(show_fewest(noted, MANY, 1, 2, numbers, SHOW_WORK_LEN, given, SHOW_GIVEN_LEN) == 0 && given[0] == 0 && given[1] == 0, "no note");
+    tell(show_fewest(noted, MANY, 1, 2, numbers, SHOW_WORK_LEN, given, SHOW_GIVEN_LEN) == 0 && !given[0] && !given[1], "no chain there");
     tell(show_list_out(noted, MANY, 1, 0, numbers, 1, given, SHOW_GIVEN_LEN) == 0 && given[0] == 1 && numbers[0] == 2, "a list has it");
     tell(show_row(noted, MANY, 1, 2, numbers, SHOW_PATH_LEN, given, SHOW_GIVEN_LEN) == 0 && given[0] == 2, "a note has a row");
 }
