@@ -172,8 +172,8 @@ SHOW_NODISCARD uint64_t show_list_in(const uint32_t *rows, size_t rows_len, uint
 
 /* The fewest follow-ons from cue s to cue t.
  *   given      1 and their number, or 0 and 0 if no chain leads from s to t
- *   Notes      Links with label 255, above SHOW_MAX_FOLLOWED, are notes and are not followed: no chain has one, and the summaries in
- *              work leave them out. Lists and show_row show them.
+ *   Label 255  A link with this label, above SHOW_MAX_FOLLOWED, is a note and is not followed: no chain has it, and the summaries in
+ *              work leave it out. Lists and show_row show it.
  *   work       at least SHOW_WORK_LEN; what stands there does not matter. After an answer it holds the fewest from join i to join j
  *              inside block k (joins from 1, blocks from 0) at SHOW_SUMMARY_LEN * k + 8 * (i - 1) + (j - 1), SHOW_NO_CHAIN for none
  *              and for a join that the block does not have, and 0 behind the last block up to SHOW_WORK_LEN numbers.

@@ -24,7 +24,8 @@ use Rattle.model.specs.declared.Verdict.{Verdict}
 use Rattle.model.specs.declared.Verdict.the-variants.{Accepted, Refused}
 use Rattle.basics.proofs.Members.{getD-mem, flat-same, range-bounds, every-mem}
 use Rattle.shows.proofs.Followed.{followed-is, followed-has, followed-all}
-use Rattle.demands.specs.Notes.{NoNotes, ChainsHave, ChainLinks, fewestOfAll, summaryOfAll, summariesOfAll, workOfAll, fewestBefore, OldFigure}
+use Rattle.demands.specs.Acceptance.{nthRow, IsRow}
+use Rattle.demands.specs.Notes.{IsNote, NoNotes, ChainsHave, ChainLinks, fewestOfAll, summaryOfAll, summariesOfAll, workOfAll, fewestBefore, OldFigure}
 use Rattle.demands.proofs.Acceptance.{accepted-exactly}
 use Rattle.demands.proofs.LinksOfRows.{last-low, label-row}
 
@@ -102,6 +103,6 @@ pub ring-unnoted : NoNotes ring
 unfolding every ifTrue
 ring-unnoted = small-unnoted ring refl
 
-pub ring-noted : NoNotes notedRing → ⊥
+pub ring-noted : (r : ℕ) × IsRow notedRing r × IsNote (nthRow notedRing r)
 unfolding cell rowAt rowCount
-ring-noted n = n 8 (omega arith) (refl, refl)
+ring-noted = (8, omega arith, (refl, refl))

@@ -246,12 +246,22 @@ ring-note : (fewest (showLinks (blocksOf notedRing)) 5 2 1 ≡ Unreachable)
 unfolding ifLt ifEq ifTrue cell rowAt rowsFrom rowCount rowsOf noBlock blockAt joinsOf addLink addUse addRow addRows blocksOf sumOver total lastBlock cueAt renamed usesLinks links showLinks followed isIn successors searchFrom fewest fewestOfAll range keep cuesAfter isLinked isOut isInto openingRows stepInto tracedInto rowsTraced usesTraced traced openingRow showTraced origins depthWins stepsWin better winner best behind
 ring-note = (refl, refl, refl, refl, refl, refl)
 
--- Block 0 with two joins and a note from the first to the second, which the show uses from its cue 1 to its cue 2: no chain in the block, none in the show.
-abbrev noted : List Block
-noted =
-    record { joins = 0; own = 2; links = []; uses = use-of 0 (1 ∷ 2 ∷ []) ∷ [] }
-    ∷ record { joins = 2; own = 0; links = link-of 1 2 255 ∷ []; uses = [] } ∷ []
+-- Block 0 with two joins and a link of this label from the first to the second; block 1 uses it between its own two joins, and the show uses block 1 from
+-- its cue 1 to its cue 2.
+abbrev through : ℕ → List Block
+through label =
+    record { joins = 0; own = 2; links = []; uses = use-of 1 (1 ∷ 2 ∷ []) ∷ [] }
+    ∷ record { joins = 2; own = 0; links = []; uses = use-of 0 (1 ∷ 2 ∷ []) ∷ [] }
+    ∷ record { joins = 2; own = 0; links = link-of 1 2 label ∷ []; uses = [] } ∷ []
 
-noted-summary : (summary noted 0 1 2 ≡ noChain) × (summaryOfAll noted 0 1 2 ≡ 1) × (fewest (showLinks noted) 2 1 2 ≡ Unreachable)
+-- With a note: no chain in either block, none in the show, though by all links there is one. With label 254: one link, in the block that has it and in the
+-- one that uses that.
+noted-summaries : (summary (through 255) 0 1 2 ≡ noChain)
+    × (summary (through 255) 1 1 2 ≡ noChain)
+    × (summaryOfAll (through 255) 1 1 2 ≡ 1)
+    × (fewest (showLinks (through 255)) 2 1 2 ≡ Unreachable)
+    × (summary (through 254) 0 1 2 ≡ 1)
+    × (summary (through 254) 1 1 2 ≡ 1)
+    × (summary (through 254) 1 2 1 ≡ noChain)
 unfolding ifLt blockAt joinsOf sumOver total lastBlock cueAt renamed usesLinks links showLinks range followed isIn successors searchFrom fewest fewestOfAll blockLinks orNone summary summaryOfAll
-noted-summary = (refl, refl, refl)
+noted-summaries = (refl, refl, refl, refl, refl, refl, refl)

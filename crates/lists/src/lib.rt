@@ -61,7 +61,7 @@ pub struct Listed {
 }
 
 // A copy that the walk comes to, whatever its joins meet: its block, the number that its own cues
-// follow, and the cue of it whose links are followed.
+// follow, and the cue of it whose links are listed.
 pub struct Visit {
     pub block: usize,
     pub base: u32,
@@ -69,7 +69,7 @@ pub struct Visit {
 }
 
 // The copy inside such a one that the use of a row makes: the block that has the use, the row, the
-// number that the cues of the copy follow, and the cue of the block whose links are followed.
+// number that the cues of the copy follow, and the cue of the block whose links are listed.
 pub struct Inner {
     pub block: usize,
     pub row: usize,
@@ -140,7 +140,7 @@ fn give_own(q: Ask, s: &[u8], at: usize, own: usize, base: u32, page: &mut [u32]
     g
 }
 
-// Gives the page the own cues of a copy that the cue followed is linked to, by the record from `at`
+// Gives the page the own cues of a copy that the cue is linked to, by the record from `at`
 // on.
 fn give_block(
     xs: &[u32],
@@ -187,7 +187,7 @@ fn door(xs: &[u32], t: &[u32; INDEX], q: Ask, m: &[u8], y: Inner, w: usize) -> u
     JOINS
 }
 
-// Gives the page the cues that the cue followed is linked to in the copies of a copy's uses.
+// Gives the page the cues that the cue is linked to in the copies of a copy's uses.
 fn walk(
     xs: &[u32],
     t: &[u32; INDEX],

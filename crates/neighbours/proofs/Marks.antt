@@ -176,17 +176,17 @@ pub mark-zero : (own d : ℕ) (s : List ℕ) → d ≤ 0 → Added own (IsCue d)
 mark-zero own d s h = added-none s s refl (λ u k y. omega (arith, y .is, k))
 
 -- The flag for what is inside is no mark.
-added-noted : {own : ℕ} {P : ℕ → Type 0} (s w : List ℕ) → length s ≡ recordSize → Added own P s w → Added own P s (set w insideAt 1)
-added-noted {own} {P} s w l a =
+added-flagged : {own : ℕ} {P : ℕ → Type 0} (s w : List ℕ) → length s ≡ recordSize → Added own P s w → Added own P s (set w insideAt 1)
+added-flagged {own} {P} s w l a =
     record {
       long = length-set w insideAt 1 ∙ a .long;
-      coarse = λ c. record { at = λ u y z f. noted };
-      stays = λ f. noted;
+      coarse = λ c. record { at = λ u y z f. flagged };
+      stays = λ f. flagged;
       at = λ u h. (λ x. a .at u h .0 (sym (same u h (decLt own u)) ∙ x), λ y. same u h (decLt own u) ∙ a .at u h .1 y);
     }
   where
-    noted : _≡_ {A = ℕ} (getD (set w insideAt 1) insideAt 0) 1
-    noted = getD-set-same w insideAt 1 0 (omega (arith, a .long))
+    flagged : _≡_ {A = ℕ} (getD (set w insideAt 1) insideAt 0) 1
+    flagged = getD-set-same w insideAt 1 0 (omega (arith, a .long))
 
     same : (u : ℕ) → HasMark own u → Dec (own < u) → markOf own (set w insideAt 1) u ≡ markOf own w u
     same u h (yes y) = mark-join-is own u (set w insideAt 1) y ∙ getD-set-other w insideAt (u - own - 1) 1 0 (λ e. omega arith) ∙ sym (mark-join-is own u w y)
@@ -317,7 +317,7 @@ module _ (xs : List ℕ) (k r c j joins i : ℕ) (o : UseRow xs k r) (y : j ≡ 
     pub use-inside : (s w : List ℕ) → length s ≡ recordSize → i < joins → Added own (ByRow xs m r (recordAt j i) joins) s w → UseMarked own m u c s (set w insideAt 1)
     use-inside s w l h b =
         record {
-          added = added-noted s w l (use-yes s w h b);
+          added = added-flagged s w l (use-yes s w h b);
           quiet = λ n. absurd (n (getD-set-same w insideAt 1 0 (omega (arith, b .long))));
         }
 

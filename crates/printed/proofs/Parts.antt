@@ -97,6 +97,6 @@ module _ (xs t : List ℕ) (cues : ℕ) (g : Prints xs t cues) (u p : ℕ) (m : 
       }
 
 -- What the table of the next cue asks for.
-pub follow-asks : (xs t : List ℕ) (cues u l : ℕ) → Prints xs t cues → u < cues → l ≡ marksSize
+pub cue-asks : (xs t : List ℕ) (cues u l : ℕ) → Prints xs t cues → u < cues → l ≡ marksSize
     → Loaded xs t × (1 ≤ u + 1) × (u + 1 ≤ count (blocksOf xs)) × (count (blocksOf xs) ≤ printedCues) × (l ≡ marksSize)
-follow-asks xs t cues u l g h e = (g .loaded, omega arith, omega (arith, g .all), omega (arith, g .all, g .few), e)
+cue-asks xs t cues u l g h e = (g .loaded, omega arith, omega (arith, g .all), omega (arith, g .all, g .few), e)

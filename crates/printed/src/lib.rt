@@ -117,7 +117,7 @@ pub fn part(
         };
     }
     let u = from + 1;
-    triples::follow(xs, t, u, m);
+    triples::mark_cue(xs, t, u, m);
     let filled = printing::fill(m, u, LABEL_PLACES, end, out);
     At {
         from: u,

@@ -25,7 +25,7 @@ use Rattle.model.specs.declared.FewestAnswer.{FewestAnswer}
 use Rattle.model.specs.declared.FewestAnswer.the-variants.{Steps, None}
 use Rattle.distances.specs.Demand.{NoChain}
 use Rattle.demands.specs.Asking.{AsksRead, AsksWrite, AsksCount, AsksLocate, AsksNumber, AsksOut, AsksIn, AsksRow, AsksFewest}
-use Rattle.demands.specs.Acceptance.{Lawful, ChecksRows}
+use Rattle.demands.specs.Acceptance.{nthRow, IsRow, Lawful, ChecksRows}
 use Rattle.demands.specs.Words.{Words}
 use Rattle.demands.specs.Blocks.{AreBlocks}
 use Rattle.demands.specs.Refusals.{LocateRefuses, ListRefuses, RowRefuses, FewestRefuses}
@@ -36,7 +36,7 @@ use Rattle.demands.specs.Replacement.{Unfolds}
 use Rattle.demands.specs.Numbers.{IsCount, IsLocated, IsNumber}
 use Rattle.demands.specs.Lists.{LinkedOut, LinkedIn, IsList, Pages, ArePages}
 use Rattle.demands.specs.RowBehind.{StandsAs, IsRowBehind}
-use Rattle.demands.specs.Notes.{NoNotes, ChainLinks, OldFigure}
+use Rattle.demands.specs.Notes.{IsNote, NoNotes, ChainLinks, OldFigure}
 use Rattle.show.specs.WorkArea.{IsWorkArea}
 
 -- Demand 2.
@@ -142,5 +142,5 @@ pub record FewestExact (xs : List ℕ) : Type 0 where
 pub record Demand3 : Type 0 where
   pub exact : (xs : List ℕ) → Lawful xs → FewestExact xs
   pub old-figure : OldFigure
-  pub a-note : Lawful notedRing × (NoNotes notedRing → ⊥)
+  pub a-note : Lawful notedRing × ((r : ℕ) × IsRow notedRing r × IsNote (nthRow notedRing r))
   pub no-note : Lawful ring × NoNotes ring

@@ -8,7 +8,7 @@ use Rattle.distances.specs.Demand.{Summarised}
 
 pub record IsWorkArea (xs work after : List ℕ) : Type 0 where
   -- "its first 64 × blocks numbers hold the summaries: for block k, join i to join j (both from 1) at place 64 × k + 8 × (i − 1) + (j − 1),
-  -- counted from 0, the fewest follow-ons inside that block's own unfolding."
+  -- counted from 0, the fewest follow-ons inside that block's own unfolding." (That unfolding is the model's: `Summaries.blockLinks`.)
   pub summaries : (k i j : ℕ) → k < length (blocksOf xs) → 1 ≤ i → i ≤ 8 → 1 ≤ j → j ≤ 8
       → Summarised (blocksOf xs) k i j (getD after (64 * k + 8 * (i - 1) + (j - 1)) 0)
   -- "The others up to 16,384 are 0; beyond that nothing changes."

@@ -96,7 +96,7 @@ fn list(rows: &[u32], inward: bool, v: u32, n: u32, page: &mut [u32]) -> ListAns
     }
 }
 
-// The cues that follow on from cue v, those above n: as many as the page has room for, rising, and whether there are more.
+// The cues that follow on from cue v, by links or by notes, those above n: as many as the page has room for, rising, and whether there are more.
 pub fn list_out(rows: &[u32], v: u32, n: u32, page: &mut [u32]) -> ListAnswer
     ensures { λ r. ⌜ outcome (ofList r) (now (page .exit)) ≡ outAsked (now (rows .entry)) v n (now (page .entry)) ⌝ }
 {
@@ -122,7 +122,7 @@ pub fn row(rows: &[u32], s: u32, t: u32, path: &mut [u32]) -> RowAnswer
     }
 }
 
-// The fewest follow-ons from cue s to cue t, or none. The work area holds the summaries of all blocks afterwards.
+// The fewest follow-ons from cue s to cue t, or none; notes are not followed. The work area holds the summaries of all blocks afterwards.
 pub fn fewest(rows: &[u32], s: u32, t: u32, work: &mut [u32]) -> FewestAnswer
     ensures { λ r. ⌜ outcome (ofFewest r) (now (work .exit)) ≡ fewestAsked (now (rows .entry)) s t (now (work .entry)) ⌝ }
 {

@@ -316,5 +316,5 @@ module _ {xs t rows : List ℕ} (u : ℕ) (place : Place) (at : (place .cue ≡ 
   pub aims : Loaded xs t → count (blocksOf xs) ≤ printedCues → Aims xs t rows place
   aims g few = record { loaded = g; found = at .1; few = few }
 
-  pub follow-done : (m : List ℕ) → TableTo xs (place .cue) labelPlaces m → Marked (showLinks (blocksOf xs)) u (count (blocksOf xs)) m
-  follow-done m was = rw (at .0) at (marks-end (showLinks (blocksOf xs)) (place .cue) (count (blocksOf xs)) m was)
+  pub cue-done : (m : List ℕ) → TableTo xs (place .cue) labelPlaces m → Marked (showLinks (blocksOf xs)) u (count (blocksOf xs)) m
+  cue-done m was = rw (at .0) at (marks-end (showLinks (blocksOf xs)) (place .cue) (count (blocksOf xs)) m was)

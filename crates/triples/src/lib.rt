@@ -1,5 +1,5 @@
 // The links from one cue as a table of marks, without unfolding: for the program that prints them.
-// `follow` makes it.
+// `mark_cue` makes it.
 use blocks::INDEX;
 use blocks::Place;
 use blocks::wide;
@@ -164,7 +164,7 @@ fn clear(m: &mut [u8; MARKS])
 }
 
 // Makes the table of cue u of a show with at most 1,000 cues.
-pub fn follow(xs: &[u32], t: &[u32; INDEX], u: u32, m: &mut [u8; MARKS])
+pub fn mark_cue(xs: &[u32], t: &[u32; INDEX], u: u32, m: &mut [u8; MARKS])
     requires { ⌜ Loaded (now xs) (now t) × (1 ≤ u) × (u ≤ count (blocksOf (now xs))) × (count (blocksOf (now xs)) ≤ printedCues) × (length (now m) ≡ marksSize) ⌝ }
     ensures { λ _. ⌜ Marked (showLinks (blocksOf (now (xs .entry)))) u (count (blocksOf (now (xs .entry)))) (now (m .exit)) ⌝ }
 {

@@ -13,7 +13,7 @@ use Rattle.model.specs.declared.Verdict.the-variants.{Accepted}
 use Rattle.basics.proofs.Choices.{eq-then, eq-else}
 use Rattle.verdicts.specs.Index.{indexSize}
 use Rattle.rules.specs.Faults.{faultOf}
-use Rattle.verdicts.specs.Passing.{manyOf, Many, noted, nextState, seenTo, stateTo, tableTo, Fine, Scanned}
+use Rattle.verdicts.specs.Passing.{manyOf, Many, rowIndexed, nextState, seenTo, stateTo, tableTo, Fine, Scanned}
 use Rattle.verdicts.specs.declared.State.{State}
 use Rattle.verdicts.proofs.Indexing.{fault-is}
 
@@ -68,7 +68,7 @@ module _ (xs : List ℕ) (n : ℕ) (t : List ℕ) (s : State) (r : ℕ) (g : Goi
           rw (w, checkRows, z, e, v)
 
   pub going-on : (q many k : ℕ) (t′ : List ℕ) (s′ : State) → r < n → FaultFound q many k → k ≡ 0
-      → t′ ≡ noted t (getD xs (r * rowSize) 0) (getD xs (r * rowSize + 1) 0) (getD xs (r * rowSize + 2) 0) (getD xs (r * rowSize + 3) 0) r
+      → t′ ≡ rowIndexed t (getD xs (r * rowSize) 0) (getD xs (r * rowSize + 1) 0) (getD xs (r * rowSize + 2) 0) (getD xs (r * rowSize + 3) 0) r
       → s′ ≡ nextState xs (r * rowSize) s → GoingRows xs n t′ s′ (r + 1)
   unfolding checkRows tableTo stateTo seenTo
   going-on q many k t′ s′ h f z et es =

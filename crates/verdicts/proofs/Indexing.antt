@@ -20,7 +20,7 @@ use Rattle.shows.proofs.Tracks.{Tracks, tracks-step}
 use Rattle.rules.specs.Faults.{faultOf}
 use Rattle.rules.proofs.Model.{fault-law}
 use Rattle.verdicts.specs.Index.{linkAt, useAt, blockFrom}
-use Rattle.verdicts.specs.Passing.{putAt, notedOpen, notedUse, noted, joinsAt, manyOf, Many, seenTo, stateTo, tableTo, blocksTo, Fine}
+use Rattle.verdicts.specs.Passing.{putAt, openIndexed, useIndexed, rowIndexed, joinsAt, manyOf, Many, seenTo, stateTo, tableTo, blocksTo, Fine}
 use Rattle.verdicts.proofs.Known.{KnownRows, known, after-before}
 use Rattle.verdicts.proofs.Tables.{TableFor, table-start, open-table, link-table, use-table}
 
@@ -118,17 +118,17 @@ module _ (xs : List ℕ) (all : List Block) (r : ℕ) (k : KnownRows xs r) (ok :
       passed-lt (s .before .kind) 2 true (passed (goesOn s w) _ e .1) .0
 
   -- What the table holds after the row, by its kind.
-  pub noted-open : w .kind ≡ 0 → tableTo xs (suc r) ≡ notedOpen (tableTo xs r) (w .block * 4) r (cell xs r 3)
-  unfolding tableTo noted rowAt cell
-  noted-open q = rw block-is (eq-then _ _ _ _ q)
+  pub open-indexed : w .kind ≡ 0 → tableTo xs (suc r) ≡ openIndexed (tableTo xs r) (w .block * 4) r (cell xs r 3)
+  unfolding tableTo rowIndexed rowAt cell
+  open-indexed q = rw block-is (eq-then _ _ _ _ q)
 
-  pub noted-link : w .kind ≡ 1 → tableTo xs (suc r) ≡ putAt (putAt (tableTo xs r) (w .block * 4 + 2) (r + 1)) (w .block * 4 + 1) (r + 1)
-  unfolding tableTo noted rowAt cell
-  noted-link q = rw block-is (eq-else _ _ _ _ (λ e. omega arith) ∙ eq-then _ _ _ _ q)
+  pub link-indexed : w .kind ≡ 1 → tableTo xs (suc r) ≡ putAt (putAt (tableTo xs r) (w .block * 4 + 2) (r + 1)) (w .block * 4 + 1) (r + 1)
+  unfolding tableTo rowIndexed rowAt cell
+  link-indexed q = rw block-is (eq-else _ _ _ _ (λ e. omega arith) ∙ eq-then _ _ _ _ q)
 
-  pub noted-use : w .kind ≡ 2 → tableTo xs (suc r) ≡ notedUse (putAt (tableTo xs r) (w .block * 4 + 2) (r + 1)) (w .block * 4) (w .label)
-  unfolding tableTo noted rowAt cell
-  noted-use q = rw block-is (eq-else _ _ _ _ (λ e. omega arith) ∙ eq-else _ _ _ _ (λ e. omega arith))
+  pub use-indexed : w .kind ≡ 2 → tableTo xs (suc r) ≡ useIndexed (putAt (tableTo xs r) (w .block * 4 + 2) (r + 1)) (w .block * 4) (w .label)
+  unfolding tableTo rowIndexed rowAt cell
+  use-indexed q = rw block-is (eq-else _ _ _ _ (λ e. omega arith) ∙ eq-else _ _ _ _ (λ e. omega arith))
 
   blocks-open : w .kind ≡ 0 → addRow bs w ≡ record { joins = cell xs r 2; own = cell xs r 3; links = []; uses = [] } ∷ bs
   unfolding addRow rowAt
@@ -162,7 +162,7 @@ module _ (xs : List ℕ) (all : List Block) (r : ℕ) (k : KnownRows xs r) (ok :
       let own : cell xs r 3 ≤ maxOwn = head-own (rw (blocks-open q) at (tracked .good)) in
       let room : length bs < maxBlocks = omega (arith, count-is) in
       let at : w .block ≡ length bs = h ∙ count-is in
-      table-cast (sym (rw at at (noted-open q))) (sym (blocks-open q)) (sym q) (open-table xs all (tableTo xs r) r bs (s .before .kind) T room own)
+      table-cast (sym (rw at at (open-indexed q))) (sym (blocks-open q)) (sym q) (open-table xs all (tableTo xs r) r bs (s .before .kind) T room own)
 
   -- The row's own block is the last one opened.
   current : (b : Block) (earlier : List Block) → bs ≡ b ∷ earlier → w .block + 1 ≡ length (s .joins) → w .block ≡ length earlier
@@ -175,7 +175,7 @@ module _ (xs : List ℕ) (all : List Block) (r : ℕ) (k : KnownRows xs r) (ok :
       let few : length bs ≤ maxBlocks = k .tracks .few in
       let f : length bs ≡ suc (length earlier) = ap length e in
       let room : length earlier < maxBlocks = omega arith in
-      table-cast (sym (rw at at (noted-link q))) (sym (blocks-link q ∙ ap (addLink (linkAt xs r)) e)) (sym q)
+      table-cast (sym (rw at at (link-indexed q))) (sym (blocks-link q ∙ ap (addLink (linkAt xs r)) e)) (sym q)
       (link-table xs all (tableTo xs r) r b earlier (s .before .kind) (rw e at T) room (before-uses q))
 
   use-cues : w .label < length bs → take (joinsOf bs (w .label)) (w .columns) ≡ useAt xs all r .at
@@ -187,7 +187,7 @@ module _ (xs : List ℕ) (all : List Block) (r : ℕ) (k : KnownRows xs r) (ok :
   label-is = refl
 
   next-use : (b : Block) (earlier : List Block) → bs ≡ b ∷ earlier → Now → w .kind ≡ 2 → w .block + 1 ≡ length (s .joins) → Next
-  unfolding addUse notedUse
+  unfolding addUse useIndexed
   next-use b earlier e T q h =
       let at : w .block ≡ length earlier = current b earlier e h in
       let few : length bs ≤ maxBlocks = k .tracks .few in
@@ -196,7 +196,7 @@ module _ (xs : List ℕ) (all : List Block) (r : ℕ) (k : KnownRows xs r) (ok :
       let u : Use = record { block = w .label; at = take (joinsOf bs (w .label)) (w .columns) } in
       let g : addRow bs w ≡ addUse u (b ∷ earlier) = blocks-use q ∙ ap (addUse u) e in
       let lower : w .label < length earlier = last-lower (b .uses) u refl (rw g at (tracked .good)) in
-      table-cast (sym (rw at at (noted-use q))) (sym g) (sym q)
+      table-cast (sym (rw at at (use-indexed q))) (sym g) (sym q)
       (use-table xs all (tableTo xs r) r b earlier (s .before .kind) (rw e at T) room (w .label) lower (take (joinsOf bs (w .label)) (w .columns))
       (use-cues (omega arith)) label-is)
 

@@ -20,10 +20,10 @@ use Rattle.basics.proofs.Choices.{eq-then, eq-else, lt-then, lt-else, true-then
 use Rattle.shows.proofs.Accepted.{opening-length, other-length}
 use Rattle.shows.proofs.Passed.{faultless, Kind, opens, links, uses, kind-of}
 use Rattle.verdicts.specs.Index.{blockFrom, IndexedBlock, Indexed}
-use Rattle.verdicts.specs.Passing.{capped, notedOpen, notedUse, joinsAt, ownAt, standsAt, fitsAt, passesAt, rowNumber, placeFrom, placed, seenTo, tableTo, blocksTo, Fine}
+use Rattle.verdicts.specs.Passing.{capped, openIndexed, useIndexed, joinsAt, ownAt, standsAt, fitsAt, passesAt, rowNumber, placeFrom, placed, seenTo, tableTo, blocksTo, Fine}
 use Rattle.verdicts.proofs.Known.{KnownRows, known, blocks-all}
 use Rattle.verdicts.proofs.Tables.{TableFor, open-first, open-other, put-other, capped-fit, capped-over}
-use Rattle.verdicts.proofs.Indexing.{tables, kept, noted-open, noted-link, noted-use}
+use Rattle.verdicts.proofs.Indexing.{tables, kept, open-indexed, link-indexed, use-indexed}
 
 -- The rows and the openings, one row more.
 rows-snoc : (xs : List ℕ) (r n : ℕ) → rowsFrom xs r (suc n) ≡ rowsFrom xs r n ++ (rowAt xs (r + n) ∷ [])
@@ -103,8 +103,8 @@ module _ (xs : List ℕ) (r : ℕ) (f : Fine xs r) (ok : fault (seenTo xs r) (ro
       os : openings xs (suc r) ≡ openings xs r ++ ((r + 1) ∷ [])
       os = openings-next xs r ∙ ap (λ (l : List ℕ). openings xs r ++ l) (eq-then (w .kind) 0 ((r + 1) ∷ []) [] q)
 
-      t : tableTo xs (suc r) ≡ notedOpen (tableTo xs r) (length (blocksTo xs r) * 4) r (cell xs r 3)
-      t = rw at at (noted-open xs (blocksTo xs (r + 0)) r k ok same q)
+      t : tableTo xs (suc r) ≡ openIndexed (tableTo xs r) (length (blocksTo xs r) * 4) r (cell xs r 3)
+      t = rw at at (open-indexed xs (blocksTo xs (r + 0)) r k ok same q)
 
       count : length (openings xs (suc r)) ≡ length (addRow (blocksTo xs r) w)
       count = rw os (omega (arith, length-append (openings xs r) ((r + 1) ∷ []), F .many, opening-length (blocksTo xs r) w q))
@@ -129,15 +129,15 @@ module _ (xs : List ℕ) (r : ℕ) (f : Fine xs r) (ok : fault (seenTo xs r) (ro
   link-firsts : w .kind ≡ 1 → Firsts xs (suc r)
   link-firsts q =
       other-firsts (λ e. omega arith)
-      (λ j h. rw (noted-link xs (blocksTo xs (r + 0)) r k ok same q)
+      (λ j h. rw (link-indexed xs (blocksTo xs (r + 0)) r k ok same q)
       (put-other _ (w .block * 4 + 1) (r + 1) (j * 4) (apart j (w .block) 1 (omega arith) (omega arith))
       ∙ put-other (tableTo xs r) (w .block * 4 + 2) (r + 1) (j * 4) (apart j (w .block) 2 (omega arith) (omega arith))))
 
   use-firsts : w .kind ≡ 2 → Firsts xs (suc r)
-  unfolding notedUse
+  unfolding useIndexed
   use-firsts q =
       other-firsts (λ e. omega arith)
-      (λ j h. rw (noted-use xs (blocksTo xs (r + 0)) r k ok same q)
+      (λ j h. rw (use-indexed xs (blocksTo xs (r + 0)) r k ok same q)
       (put-other _ (w .block * 4 + 3) _ (j * 4) (apart j (w .block) 3 (omega arith) (omega arith))
       ∙ put-other (tableTo xs r) (w .block * 4 + 2) (r + 1) (j * 4) (apart j (w .block) 2 (omega arith) (omega arith))))
 

@@ -14,7 +14,7 @@ use Rattle.model.specs.Blocks.{Link, Use, Block, blockAt, sumOver, total}
 use Rattle.basics.proofs.Choices.{lt-then, lt-else}
 use Rattle.shows.proofs.AtBlock.{blockAt-hit, blockAt-skip, total-hit, total-skip}
 use Rattle.verdicts.specs.Index.{indexSize, linkAt, linksFrom, useAt, usesFrom, blockFrom}
-use Rattle.verdicts.specs.Passing.{capped, putAt, notedOpen}
+use Rattle.verdicts.specs.Passing.{capped, putAt, openIndexed}
 
 -- Numbers put into the table.
 module _ (t : List ℕ) (i v : ℕ) where
@@ -135,32 +135,32 @@ module _ (t : List ℕ) (a r own : ℕ) (size : length t ≡ indexSize) (room : 
   size₃ : length t₃ ≡ indexSize
   size₃ = put-length t₂ (a + 2) (r + 1) ∙ size₂
 
-  open-size : length (notedOpen t a r own) ≡ indexSize
-  unfolding notedOpen
+  open-size : length (openIndexed t a r own) ≡ indexSize
+  unfolding openIndexed
   open-size = put-length t₃ (a + 3) own ∙ size₃
 
-  pub open-first : getD (notedOpen t a r own) a 0 ≡ r
-  unfolding notedOpen
+  pub open-first : getD (openIndexed t a r own) a 0 ≡ r
+  unfolding openIndexed
   open-first =
       put-other t₃ (a + 3) own a (λ e. omega arith) ∙ put-other t₂ (a + 2) (r + 1) a (λ e. omega arith)
       ∙ put-other t₁ (a + 1) (r + 1) a (λ e. omega arith) ∙ put-same t a r size (omega arith)
 
-  open-links : getD (notedOpen t a r own) (a + 1) 0 ≡ r + 1
-  unfolding notedOpen
+  open-links : getD (openIndexed t a r own) (a + 1) 0 ≡ r + 1
+  unfolding openIndexed
   open-links =
       put-other t₃ (a + 3) own (a + 1) (λ e. omega arith) ∙ put-other t₂ (a + 2) (r + 1) (a + 1) (λ e. omega arith)
       ∙ put-same t₁ (a + 1) (r + 1) size₁ (omega arith)
 
-  open-uses : getD (notedOpen t a r own) (a + 2) 0 ≡ r + 1
-  unfolding notedOpen
+  open-uses : getD (openIndexed t a r own) (a + 2) 0 ≡ r + 1
+  unfolding openIndexed
   open-uses = put-other t₃ (a + 3) own (a + 2) (λ e. omega arith) ∙ put-same t₂ (a + 2) (r + 1) size₂ (omega arith)
 
-  open-total : getD (notedOpen t a r own) (a + 3) 0 ≡ own
-  unfolding notedOpen
+  open-total : getD (openIndexed t a r own) (a + 3) 0 ≡ own
+  unfolding openIndexed
   open-total = put-same t₃ (a + 3) own size₃ room
 
-  pub open-other : (j : ℕ) → j < a → getD (notedOpen t a r own) j 0 ≡ getD t j 0
-  unfolding notedOpen
+  pub open-other : (j : ℕ) → j < a → getD (openIndexed t a r own) j 0 ≡ getD t j 0
+  unfolding openIndexed
   open-other j h =
       put-other t₃ (a + 3) own j (λ e. omega arith) ∙ put-other t₂ (a + 2) (r + 1) j (λ e. omega arith)
       ∙ put-other t₁ (a + 1) (r + 1) j (λ e. omega arith) ∙ put-other t a r j (λ e. omega arith)
@@ -180,7 +180,7 @@ module _ (xs : List ℕ) (all : List Block) (t : List ℕ) (r : ℕ) (bs : List 
 
   module _ (room : length bs < maxBlocks) (small : cell xs r 3 ≤ maxOwn) where
     abbrev pub t′ : List ℕ
-    t′ = notedOpen t (length bs * 4) r (cell xs r 3)
+    t′ = openIndexed t (length bs * 4) r (cell xs r 3)
 
     fits : length bs * 4 + 3 < indexSize
     fits = omega arith

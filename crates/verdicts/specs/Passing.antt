@@ -43,17 +43,17 @@ unfoldable pub putAt : List ℕ → ℕ → ℕ → List ℕ
 putAt t i v = ifLt i indexSize (set t i v) t
 
 -- The table after row r: by what an opening, a link or a use puts in at its block.
-unfoldable pub notedOpen : List ℕ → ℕ → ℕ → ℕ → List ℕ
-notedOpen t at r own = putAt (putAt (putAt (putAt t at r) (at + 1) (r + 1)) (at + 2) (r + 1)) (at + 3) own
+unfoldable pub openIndexed : List ℕ → ℕ → ℕ → ℕ → List ℕ
+openIndexed t at r own = putAt (putAt (putAt (putAt t at r) (at + 1) (r + 1)) (at + 2) (r + 1)) (at + 3) own
 
-unfoldable pub notedUse : List ℕ → ℕ → ℕ → List ℕ
-notedUse t at k = putAt t (at + 3) (capped (getD t (at + 3) 0 + getD t (k * 4 + 3) 0))
+unfoldable pub useIndexed : List ℕ → ℕ → ℕ → List ℕ
+useIndexed t at k = putAt t (at + 3) (capped (getD t (at + 3) 0 + getD t (k * 4 + 3) 0))
 
-unfoldable pub noted : List ℕ → ℕ → ℕ → ℕ → ℕ → ℕ → List ℕ
-noted t block kind label own r =
-    ifEq kind 0 (notedOpen t (block * 4) r own)
+unfoldable pub rowIndexed : List ℕ → ℕ → ℕ → ℕ → ℕ → ℕ → List ℕ
+rowIndexed t block kind label own r =
+    ifEq kind 0 (openIndexed t (block * 4) r own)
     (ifEq kind 1 (putAt (putAt t (block * 4 + 2) (r + 1)) (block * 4 + 1) (r + 1))
-    (notedUse (putAt t (block * 4 + 2) (r + 1)) (block * 4) label))
+    (useIndexed (putAt t (block * 4 + 2) (r + 1)) (block * 4) label))
 
 unfoldable pub nextState : List ℕ → ℕ → State → State
 nextState xs p s =
@@ -73,7 +73,7 @@ stateTo xs (suc r) = nextState xs (r * rowSize) (stateTo xs r)
 unfoldable pub tableTo : List ℕ → ℕ → List ℕ
 tableTo xs zero = replicate indexSize 0
 tableTo xs (suc r) =
-    noted (tableTo xs r) (getD xs (r * rowSize) 0) (getD xs (r * rowSize + 1) 0) (getD xs (r * rowSize + 2) 0) (getD xs (r * rowSize + 3) 0) r
+    rowIndexed (tableTo xs r) (getD xs (r * rowSize) 0) (getD xs (r * rowSize + 1) 0) (getD xs (r * rowSize + 2) 0) (getD xs (r * rowSize + 3) 0) r
 
 unfoldable pub blocksTo : List ℕ → ℕ → List Block
 blocksTo xs zero = []

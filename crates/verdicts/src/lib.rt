@@ -7,7 +7,7 @@ ghost use mathlib.Core.Bool.{true};
 ghost use Prim.Native.Nat.{_+_, _*_, _-_, _≤_, _<_};
 ghost use lib.ListN.{length, getD, replicate};
 ghost use Rattle.verdicts.specs.Index.{indexSize};
-ghost use Rattle.verdicts.specs.Passing.{capped, joinsAt, manyOf, Many, cuesOf, putAt, notedOpen, notedUse, noted, nextState, Scanned, ownAt, standsAt, passesAt, rowNumber, placeFrom, rowsIn, judged, IsChecked};
+ghost use Rattle.verdicts.specs.Passing.{capped, joinsAt, manyOf, Many, cuesOf, putAt, openIndexed, useIndexed, rowIndexed, nextState, Scanned, ownAt, standsAt, passesAt, rowNumber, placeFrom, rowsIn, judged, IsChecked};
 ghost use Rattle.model.specs.Limits.{rowSize, maxRows};
 ghost use Rattle.model.specs.Verdicts.{refused};
 use model::Refusal;
@@ -136,9 +136,9 @@ fn cues_of(own: u32, joins: u32) -> u32
 }
 
 // What an opening at row r puts into the table.
-fn note_open(t: &mut [u32; INDEX], at: usize, r: u32, own: u32)
+fn index_open(t: &mut [u32; INDEX], at: usize, r: u32, own: u32)
     requires { ⌜ (r < maxRows) × (at < 17179869184) ⌝ }
-    ensures { λ _. ⌜ now (t .exit) ≡ notedOpen (now (t .entry)) at r own ⌝ }
+    ensures { λ _. ⌜ now (t .exit) ≡ openIndexed (now (t .entry)) at r own ⌝ }
 {
     put(t, at, r);
     put(t, at + 1, r + 1);
@@ -147,9 +147,9 @@ fn note_open(t: &mut [u32; INDEX], at: usize, r: u32, own: u32)
 }
 
 // What a use of block k adds to the total.
-fn note_use(t: &mut [u32; INDEX], at: usize, k: usize)
+fn index_use(t: &mut [u32; INDEX], at: usize, k: usize)
     requires { ⌜ (at < 17179869184) × (k < 4294967296) ⌝ }
-    ensures { λ _. ⌜ now (t .exit) ≡ notedUse (now (t .entry)) at k ⌝ }
+    ensures { λ _. ⌜ now (t .exit) ≡ useIndexed (now (t .entry)) at k ⌝ }
 {
     let used = get(t, k * ENTRY + 3);
     let total = add_totals(get(t, at + 3), used);
@@ -157,13 +157,13 @@ fn note_use(t: &mut [u32; INDEX], at: usize, k: usize)
 }
 
 // The table after row r, which has passed.
-fn note(t: &mut [u32; INDEX], block: u32, kind: u32, label: u32, own: u32, r: u32)
+fn index_row(t: &mut [u32; INDEX], block: u32, kind: u32, label: u32, own: u32, r: u32)
     requires { ⌜ r < maxRows ⌝ }
-    ensures { λ _. ⌜ now (t .exit) ≡ noted (now (t .entry)) block kind label own r ⌝ }
+    ensures { λ _. ⌜ now (t .exit) ≡ rowIndexed (now (t .entry)) block kind label own r ⌝ }
 {
     let at = block as usize * ENTRY;
     if kind == 0 {
-        note_open(t, at, r, own);
+        index_open(t, at, r, own);
         return;
     }
     put(t, at + 2, r + 1);
@@ -171,7 +171,7 @@ fn note(t: &mut [u32; INDEX], block: u32, kind: u32, label: u32, own: u32, r: u3
         put(t, at + 1, r + 1);
         return;
     }
-    note_use(t, at, label as usize);
+    index_use(t, at, label as usize);
 }
 
 // What is carried on after the row at p, which has passed.
@@ -234,7 +234,7 @@ pub fn pass(xs: &[u32], n: usize, t: &mut [u32; INDEX]) -> Scan
                 blocks: s.blocks,
             };
         }
-        note(t, xs[p], xs[p + 1], xs[p + 2], xs[p + 3], r as u32);
+        index_row(t, xs[p], xs[p + 1], xs[p + 2], xs[p + 3], r as u32);
         s = next_state(xs, p, s);
         r += 1;
     }

@@ -106,7 +106,8 @@ pub const COMMANDS: [Command; 10] = [
         option: None,
         takes: &["CUE"],
         says: "the cues that follow on from CUE",
-        prints: "`to` and the cues that follow on from CUE by one link, rising, one in a line.",
+        prints: "`to` and the cues that follow on from CUE by one link, notes included, rising, one\n\
+            in a line.",
         question: |behind| Ok(Question::Out(behind.number(0)?)),
     },
     Command {
@@ -114,7 +115,8 @@ pub const COMMANDS: [Command; 10] = [
         option: None,
         takes: &["CUE"],
         says: "the cues from which CUE follows on",
-        prints: "`from` and the cues from which CUE follows on by one link, rising, one in a line.",
+        prints: "`from` and the cues from which CUE follows on by one link, notes included, rising,\n\
+            one in a line.",
         question: |behind| Ok(Question::In(behind.number(0)?)),
     },
     Command {

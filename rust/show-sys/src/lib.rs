@@ -92,7 +92,7 @@ extern "C" {
         given_len: usize,
     ) -> u64;
 
-    /// The cues above n that follow on from cue v. given: cues written, 1 if there are more.
+    /// The cues above n that follow on from cue v, by links or by notes. given: cues written, 1 if there are more.
     pub fn show_list_out(
         rows: *const u32,
         rows_len: usize,
@@ -104,7 +104,7 @@ extern "C" {
         given_len: usize,
     ) -> u64;
 
-    /// The cues above n from which cue v follows on. given: as above.
+    /// The cues above n from which cue v follows on, in the same way. given: as above.
     pub fn show_list_in(
         rows: *const u32,
         rows_len: usize,

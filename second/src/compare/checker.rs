@@ -49,9 +49,7 @@ impl<'a> Checker<'a> {
 
     fn hold(&mut self, input: &Input, call: Call, expected: Outcome) -> Option<Outcome> {
         let actual = Outcome::actual(self.subject, input, &call)?;
-        if let Some(calls) = self.census.get_mut((expected.returned >> 32) as usize) {
-            *calls += 1;
-        }
+        self.census[(expected.returned >> 32) as usize] += 1;
         if actual != expected && self.failure.is_none() {
             let (input, actual) = (input.clone(), actual.clone());
             self.failure = Some(Box::new(Failure { input, call, expected, actual }));

@@ -8,9 +8,16 @@ use crate::limits::{Row, COLUMNS, FOLLOWED};
 /// The label of a note.
 pub const NOTE: u32 = FOLLOWED + 1;
 
-/// Turns one link in four into a note, by chance.
+/// Turns one link in four into a note, by chance. Those that cannot become one are made up for by
+/// the others.
 pub fn some(prng: &mut Prng, rows: &mut [u32]) {
-    turned(rows, |_| prng.one_in(4));
+    let mut able = 0;
+    turned(&mut rows.to_vec(), |_| {
+        able += 1;
+        false
+    });
+    let links = rows.as_chunks::<COLUMNS>().0.iter().filter(|row| is_link(row)).count();
+    turned(rows, |_| prng.below(4 * able) < links);
 }
 
 /// The show with notes for its links.
@@ -111,7 +118,7 @@ mod tests {
     }
 
     #[test]
-    fn about_one_link_in_four_of_random_shows_is_a_note() {
+    fn one_link_in_four_of_random_shows_is_a_note() {
         let mut all = [0; 2];
         for (shape, case) in random::SHAPES.iter().cycle().zip(0..500) {
             let rows = random::show(&mut Prng::new(41, case), shape);
@@ -119,7 +126,9 @@ mod tests {
             assert_eq!(counts(&left_out(&rows)), [links - notes, 0]);
             all = [all[0] + links, all[1] + notes];
         }
-        assert!(all[0] > 4000 && (4..=5).contains(&(all[0] / all[1])), "links and notes: {all:?}");
+        let [links, notes] = all;
+        let near = links * 19 / 20..links * 21 / 20;
+        assert!(links > 4000 && near.contains(&(4 * notes)), "{notes} notes of {links} links");
     }
 
     #[test]

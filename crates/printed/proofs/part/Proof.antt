@@ -1,7 +1,7 @@
 -- `printed::part` meets its contract.
 use native.Mathlib.Omega.{arith}
 use borrow.Author.Needs.{needs}
-use Rattle.printed.proofs.Parts.{part-here, part-next, part-none, follow-asks}
+use Rattle.printed.proofs.Parts.{part-here, part-next, part-none, cue-asks}
 use Rattle.printed.proofs.part.Statement.{statement}
 use Rattle.printed.proofs.part.Tie as tie
 
@@ -21,10 +21,10 @@ returns-2 c =
     let pre = c .before .before .before .before .before .pre in
     part-none _ _ _ (pre .0) _ _ _ (pre .1) _ (c .before .before .wide .ensures) _ (c .before .if1 .left) (c .if2 .taken)
 
-follow-requires : tie.Need-follow-requires
-follow-requires c κs =
+mark-cue-requires : tie.Need-mark-cue-requires
+mark-cue-requires c κs =
     let pre = c .before .before .before .before .before .before .pre in
-    follow-asks _ _ _ _ _ (pre .0) (c .before .if2 .left) (pre .1 .long)
+    cue-asks _ _ _ _ _ (pre .0) (c .before .if2 .left) (pre .1 .long)
 
 fill-requires-2 : tie.Need-fill-requires-2
 fill-requires-2 c κs =
@@ -35,11 +35,11 @@ returns-3 : tie.Need-returns-3
 returns-3 c =
     let pre = c .before .before .before .before .before .before .before .before .before .before .before .before .pre in
     part-next _ _ _ (pre .0) _ _ _ (pre .1) _ (c .before .before .before .before .before .before .before .before .before .wide .ensures) _ _ _ _ _
-    (c .before .before .before .before .before .follow .ensures) (c .before .before .fill2 .ensures) (c .before .before .before .before .before .before .before .before .if1 .left)
+    (c .before .before .before .before .before .mark-cue .ensures) (c .before .before .fill2 .ensures) (c .before .before .before .before .before .before .before .before .if1 .left)
     (c .before .before .before .before .before .before .before .if2 .left)
 
 pub part-spec : {M : Type 1} → statement M
 part-spec =
     tie.close
     (tie.spec (λ c κs. search needs) (λ c. search needs) (λ c. search needs) fill-requires (λ c. search needs) returns returns-2 (λ c. search needs)
-    follow-requires fill-requires-2 (λ c. search needs) returns-3)
+    mark-cue-requires fill-requires-2 (λ c. search needs) returns-3)

@@ -23,7 +23,7 @@ next-state-requires : tie.Need-next-state-requires Inv-loop μ-loop
 next-state-requires c κs = (omega arith, going-blocks _ _ _ _ _ (c .before .before .before .before .before .before .before .before .before .before .before .before .loop .inv) (omega arith))
 
 loop-again : tie.Need-loop-again Inv-loop μ-loop
-loop-again c = going-on _ _ _ _ _ (c .before .before .before .before .before .before .before .before .before .before .before .before .before .loop .inv) _ _ _ _ _ (omega arith) (record { before = c .before .before .before .before .before .before .before .before .before .row-before .ensures; joins = c .before .before .before .before .before .before .before .before .before .before .many-of .ensures; number = c .before .before .before .before .before .before .before .before .fault .ensures }) (c .before .before .before .before .before .before .before .if1 .left) (c .before .note .ensures) (c .next-state .ensures)
+loop-again c = going-on _ _ _ _ _ (c .before .before .before .before .before .before .before .before .before .before .before .before .before .loop .inv) _ _ _ _ _ (omega arith) (record { before = c .before .before .before .before .before .before .before .before .before .row-before .ensures; joins = c .before .before .before .before .before .before .before .before .before .before .many-of .ensures; number = c .before .before .before .before .before .before .before .before .fault .ensures }) (c .before .before .before .before .before .before .before .if1 .left) (c .before .index-row .ensures) (c .next-state .ensures)
 
 returns-2 : tie.Need-returns-2 Inv-loop μ-loop
 returns-2 c = scanned-done _ _ _ _ _ (c .before .loop .inv) (omega arith)

@@ -1,15 +1,15 @@
--- `verdicts::note_open` meets its contract.
+-- `verdicts::index_open` meets its contract.
 use borrow.Author.Needs.{needs}
-use Rattle.verdicts.specs.Passing.{notedOpen}
-use Rattle.verdicts.proofs.note_open.Statement.{statement}
-use Rattle.verdicts.proofs.note_open.Tie as tie
+use Rattle.verdicts.specs.Passing.{openIndexed}
+use Rattle.verdicts.proofs.index_open.Statement.{statement}
+use Rattle.verdicts.proofs.index_open.Tie as tie
 
 returns : tie.Need-returns
-unfolding notedOpen
+unfolding openIndexed
 returns c = cc
 
-pub note-open-spec : {M : Type 1} → statement M
-note-open-spec =
+pub index-open-spec : {M : Type 1} → statement M
+index-open-spec =
     tie.close
     (tie.spec (λ c κs. search needs) (λ c. search needs) (λ c. search needs) (λ c κs. search needs) (λ c. search needs) (λ c. search needs)
     (λ c κs. search needs) (λ c. search needs) (λ c κs. search needs) returns)
