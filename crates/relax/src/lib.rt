@@ -1,5 +1,5 @@
-// Bellman-Ford over one block: estimates of its cues are relaxed over its links, and over the
-// summaries of the blocks that it uses, until a whole round changes nothing.
+// Bellman-Ford over one block: estimates of its cues are relaxed over its links, notes left out,
+// and over the summaries of the blocks that it uses, until a whole round changes nothing.
 //
 // Others call `clear_block`, `settle` and `from_cue`. Up to `relax_use` this is about one use: two
 // cues edge by edge, more of them eight estimates at a time.
