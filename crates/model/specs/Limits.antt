@@ -40,6 +40,13 @@ maxBytes = 65536
 abbrev pub maxRows : ℕ
 maxRows = 1024
 
+-- "Each desk ships a built-in table of 168 rows, sixteen blocks numbered 0 to 15" (02, Paper 4).
+abbrev pub deskRows : ℕ
+deskRows = 168
+
+abbrev pub deskBlocks : ℕ
+deskBlocks = 16
+
 -- "No total may exceed 2,147,483,647."
 abbrev pub maxTotal : ℕ
 maxTotal = 2147483647

@@ -12,6 +12,7 @@ use Rattle.model.specs.Rows.{rowCount, rowsOf, fileText}
 use Rattle.model.specs.Rules.{isCue}
 use Rattle.model.specs.Blocks.{Block, blocksOf, lastBlock, count}
 use Rattle.model.specs.Verdicts.{refusal, verdict, readFile, numbersOf, fileVerdict}
+use Rattle.model.specs.Desk.{withDesk, deskFileVerdict}
 use Rattle.model.specs.Unfolding.{showLinks}
 use Rattle.model.specs.Paths.{Place, numberIn, placeIn}
 use Rattle.model.specs.Lists.{cuesAfter, isOut, isInto, overwrite}
@@ -60,6 +61,12 @@ readInto xs out =
 
 unfoldable pub readAsked : List ℕ → List ℕ → Outcome
 readAsked file out = onAccepted (fileVerdict file) (λ r. refuse r out) (readInto (numbersOf (readFile file)) out)
+
+-- 02, Paper 4: "A second way of reading puts these rows before the file's"; "The limits on rows and blocks count them, and so do the rows and blocks
+-- given".
+unfoldable pub deskReadAsked : List ℕ → List ℕ → Outcome
+deskReadAsked file out =
+    onAccepted (deskFileVerdict file) (λ r. refuse r out) (readInto (withDesk (numbersOf (readFile file))) out)
 
 -- "write rows as a file, giving its length".
 unfoldable pub writeInto : List ℕ → List ℕ → Outcome

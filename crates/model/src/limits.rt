@@ -20,6 +20,10 @@ pub const MAX_BYTES: usize = 65536;
 
 pub const MAX_ROWS: usize = 1024;
 
+pub const DESK_ROWS: usize = 168;
+
+pub const DESK_BLOCKS: u32 = 16;
+
 pub const MAX_TOTAL: u32 = 2147483647;
 
 pub const MAX_DEPTH: usize = 127;
@@ -34,5 +38,7 @@ pub const NO_CHAIN: u32 = 4294967295;
 
 pub const PRINTED_CUES: u32 = 1000;
 
-// What follows from them: the numbers of all rows of the largest show.
+// What follows from them: the numbers of all rows of the largest show, and of the rows that come with the desk.
 pub const ROOM: usize = MAX_ROWS * ROW_SIZE;
+
+pub const DESK_SIZE: usize = DESK_ROWS * ROW_SIZE;

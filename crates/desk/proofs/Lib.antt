@@ -1,0 +1,2 @@
+-- The laws of the built-in table in the code.
+pub mod Rows

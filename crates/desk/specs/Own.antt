@@ -1,0 +1,14 @@
+-- What the second way of reading asks of a file's own rows, as tests.
+use Prim.Native.Nat.{ℕ, _-_}
+use mathlib.Core.Bool.{Bool, true, false}
+use Rattle.model.specs.Choice.{ifLt, ifEq}
+use Rattle.model.specs.Limits.{maxRows, deskRows, deskBlocks}
+use Rattle.model.specs.Rows.{Row}
+
+-- A file may have so many rows of its own.
+unfoldable pub ownFits : ℕ → Bool
+ownFits many = ifLt many 1 false (ifLt (maxRows - deskRows) many false true)
+
+-- A row opens the first block behind those of the table.
+unfoldable pub opensFirst : Row → Bool
+opensFirst w = ifEq (w .kind) 0 (ifEq (w .block) deskBlocks true false) false

@@ -1,0 +1,2 @@
+-- The laws of numbers that are copied and moved.
+pub mod Copying
