@@ -34,7 +34,7 @@ use Rattle.blocks.proofs.Loaded.{loaded-show}
 use Rattle.paths.specs.Locating.{placeOf}
 use Rattle.answers.specs.Asked.{readNumbers}
 use Rattle.answers.proofs.Outcomes.{said-yes, said-no, no-room, has-room, no-cue, has-cue, cue-yes}
-use Rattle.answers.proofs.RefusalPlaces.{place-few}
+use Rattle.shows.proofs.RefusalPlaces.{place-few}
 
 -- Locating.
 pub locate-room : (bs : List Block) (n : ℕ) (path : List ℕ) → length path < maxDepth

@@ -1,6 +1,5 @@
 -- The laws of the answers.
 pub mod Outcomes
-pub mod RefusalPlaces
 pub mod Answering
 pub mod Linked
 pub mod Distances

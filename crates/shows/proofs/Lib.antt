@@ -5,6 +5,7 @@ pub mod Passed
 pub mod Tracks
 pub mod Accepted
 pub mod LastRow
+pub mod RefusalPlaces
 -- numbers, lists, the links that a chain may have
 pub mod Numbering
 pub mod Lists
@@ -23,3 +24,6 @@ pub mod Lines
 pub mod FlatRows
 pub mod Files
 pub mod RoundTrips
+-- the built-in table, and rows behind it
+pub mod DeskTable
+pub mod Desk
