@@ -46,7 +46,7 @@ use Rattle.basics.proofs.Choices.{passed-eq}
 use Rattle.shows.proofs.FlatRows.{first-values, rows-first}
 
 -- Every row has eight columns.
-eights : List Row → Bool
+unfoldable pub eights : List Row → Bool
 eights [] = true
 eights (w ∷ ws) = ifEq (length (w .columns)) 8 (eights ws) false
 
@@ -58,7 +58,7 @@ row-back : (w : Row) (xs : List ℕ) → length (w .columns) ≡ 8 → rowAt (ro
 unfolding ofValues rowValues
 row-back w xs e = ap ofValues (first-values (rowValues w) xs (omega arith))
 
-row-long : (w : Row) → length (w .columns) ≡ 8 → length (rowValues w) ≡ rowSize
+pub row-long : (w : Row) → length (w .columns) ≡ 8 → length (rowValues w) ≡ rowSize
 unfolding rowValues
 row-long w e = omega arith
 
@@ -101,7 +101,7 @@ pub with-row : (xs : List ℕ) (r : ℕ) → rowAt (withDesk xs) (deskRows + r) 
 unfolding rowAt
 with-row xs r = simp (with-cell xs r)
 
-table-eights : eights builtIn ≡ true
+pub table-eights : eights builtIn ≡ true
 unfolding eights builtIn flatMap range plainRun plainOpening plainLink ifEq
 table-eights = refl
 
