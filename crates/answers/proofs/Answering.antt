@@ -77,18 +77,6 @@ pub number-some : (n m : ℕ) → n ≡ m → (n ≡ 0 → ⊥) → ofNumber (Nu
 unfolding ofNumber numbered
 number-some n m q e = rw (← q) (sym (eq-else _ _ _ _ e))
 
--- A list copied to the beginning of another, number by number.
-pub copy-on : (from to now : List ℕ) (i : ℕ) → length from ≤ length to → i < length from → now ≡ take i from ++ drop i to
-    → set now i (getD from i 0) ≡ take (i + 1) from ++ drop (i + 1) to
-copy-on from to now i h l e =
-    let one : i + 1 ≡ suc i = omega arith in
-    rw (e, one, take-suc from i 0 l, drop-cons to i 0 (omega arith))
-    (set-at (take i from) (getD to i 0) (drop (suc i) to) (getD from i 0) i (length-take-le i from (omega arith)) ∙ sym (append-snoc (take i from) (getD from i 0) (drop (suc i) to)))
-
-pub copy-done : (from to now : List ℕ) (i : ℕ) → length from ≤ i → i ≤ length from → now ≡ take i from ++ drop i to → now ≡ overwrite from to
-unfolding overwrite
-copy-done from to now i h l e = let q : i ≡ length from = omega arith in e ∙ rw (q, take-length from)
-
 -- Writing.
 abbrev text : List ℕ → List ℕ
 text xs = fileText (rowsFrom xs 0 (length xs / rowSize))

@@ -1,6 +1,7 @@
 -- The laws of the answers.
 pub mod Outcomes
 pub mod Answering
+pub mod DeskRows
 pub mod Linked
 pub mod Distances
 pub mod RowsBehind

@@ -1,7 +1,7 @@
 // The answers to the questions about rows that were checked: each promise is an equation with the model's definition of the question, for
 // a loaded show.
 //
-// `read_rows`, `write_rows`, `locate_in`, `number_in`, `list_of`, `row_in`, `fewest_in`.
+// `read_rows`, `read_desk_rows`, `write_rows`, `locate_in`, `number_in`, `list_of`, `row_in`, `fewest_in`.
 use behind::RowAt;
 use blocks::INDEX;
 use model::FewestAnswer;
@@ -13,6 +13,7 @@ use model::Refusal;
 use model::RowAnswer;
 use model::Verdict;
 use model::WriteAnswer;
+use model::limits::DESK_ROWS;
 use model::limits::MAX_DEPTH;
 use model::limits::NO_CHAIN;
 use model::limits::ROW_SIZE;
@@ -20,19 +21,22 @@ use model::limits::WORK_SIZE;
 ghost use mathlib.Core.Path.{_≡_};
 ghost use Prim.Native.Nat.{_≤_, _<_};
 ghost use lib.ListN.{length};
-ghost use Rattle.model.specs.Limits.{maxRows, maxDepth, workSize};
+ghost use Rattle.model.specs.Limits.{maxRows, maxDepth, deskRows, workSize};
 ghost use Rattle.model.specs.Answers.{ofRead, ofWrite, ofLocate, ofNumber, ofList, ofRow, ofFewest};
 ghost use Rattle.model.specs.Rows.{rowsOf, fileText};
 ghost use Rattle.model.specs.Verdicts.{verdict, byLine};
+ghost use Rattle.model.specs.Desk.{byOwnLine};
 ghost use Rattle.model.specs.declared.Verdict.the-variants.{Accepted};
 ghost use Rattle.model.specs.Blocks.{blocksOf};
-ghost use Rattle.model.specs.Lists.{overwrite};
 ghost use Rattle.model.specs.Rules.{isCue};
 ghost use Rattle.model.specs.Behind.{behind};
 ghost use Rattle.model.specs.Questions.{outcome, readInto, writeInto, locateIn, numbered, showNumber, rowFound, rowIn, fewestIn};
 ghost use Rattle.blocks.specs.Loaded.{Loaded};
 ghost use Rattle.behind.specs.Ways.{RowBehind};
-ghost use Rattle.answers.specs.Asked.{readNumbers, listOf, areCues, ShowCue, between};
+ghost use Rattle.answers.specs.Asked.{readNumbers, ownNumbers, deskNumbers, BehindTable, listOf, areCues, ShowCue, between};
+
+// The rows of the built-in table, in 32 bits.
+const DESK_ROWS_32: u32 = DESK_ROWS as u32;
 
 // A place of the show in 32 bits.
 fn narrow(x: usize) -> u32
@@ -117,15 +121,17 @@ fn by_line(refusal: Refusal) -> Refusal
     }
 }
 
-// The numbers of one list written to the beginning of another.
-fn copy(from: &[u32], to: &mut [u32])
-    requires { ⌜ length (now from) ≤ length (now to) ⌝ }
-    ensures { λ _. ⌜ now (to .exit) ≡ overwrite (now (from .entry)) (now (to .entry)) ⌝ }
+// The refusal of a row of all, by its line in a file whose rows stand behind the built-in table.
+fn by_own_line(refusal: Refusal) -> Refusal
+    requires { ⌜ (refusal .place ≤ maxRows) × (5 ≤ refusal .number → deskRows < refusal .place) ⌝ }
+    ensures { λ r. ⌜ r ≡ byOwnLine refusal ⌝ }
 {
-    let mut i = 0;
-    while i < from.len() {
-        to[i] = from[i];
-        i += 1;
+    if refusal.number < 5 {
+        return refusal;
+    }
+    Refusal {
+        number: refusal.number,
+        place: refusal.place + 1 - DESK_ROWS_32,
     }
 }
 
@@ -140,7 +146,7 @@ fn hand_out(numbers: &[u32], table: &[u32; INDEX], rows: &mut [u32]) -> ReadAnsw
             place: 0,
         });
     }
-    copy(numbers, rows);
+    rows::copy(numbers, rows);
     let many = narrow(numbers.len() / ROW_SIZE);
     let blocks = narrow(blocks::last(numbers, table) + 1);
     ReadAnswer::Read(many, blocks, blocks::count(numbers, table))
@@ -154,6 +160,25 @@ pub fn read_rows(numbers: &[u32], rows: &mut [u32]) -> ReadAnswer
     match verdicts::check(numbers, &mut table) {
         Verdict::Accepted => hand_out(numbers, &table, rows),
         Verdict::Refused(refusal) => ReadAnswer::Refused(by_line(refusal)),
+    }
+}
+
+// The rows that a file has behind those of the built-in table, checked and handed out, the table's before them.
+pub fn read_desk_rows(numbers: &[u32], rows: &mut [u32]) -> ReadAnswer
+    requires { ⌜ BehindTable (now numbers) ⌝ }
+    ensures { λ r. ⌜ outcome (ofRead r) (now (rows .exit)) ≡ deskNumbers (ownNumbers (now (numbers .entry))) (now (rows .entry)) ⌝ }
+{
+    let opens = desk::opens_first(numbers);
+    if !opens {
+        return ReadAnswer::Refused(Refusal {
+            number: 5,
+            place: 2,
+        });
+    }
+    let mut table = [0u32; INDEX];
+    match verdicts::check(numbers, &mut table) {
+        Verdict::Accepted => hand_out(numbers, &table, rows),
+        Verdict::Refused(refusal) => ReadAnswer::Refused(by_own_line(refusal)),
     }
 }
 
@@ -234,7 +259,7 @@ fn row_behind(rows: &[u32], table: &[u32; INDEX], s: u32, t: u32, path: &mut [u3
     }
     let depth = at.depth;
     paths::positions(rows, table, depth, &mut way);
-    copy(&way[0..depth], path);
+    rows::copy(&way[0..depth], path);
     RowAnswer::Row(at.row, narrow(depth))
 }
 

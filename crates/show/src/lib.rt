@@ -3,7 +3,7 @@
 // afterwards, refused calls included. What is lent to be read stays as it was.
 ghost use mathlib.Core.Path.{_≡_};
 ghost use Rattle.model.specs.Answers.{ofRead, ofWrite, ofCount, ofLocate, ofNumber, ofList, ofRow, ofFewest};
-ghost use Rattle.model.specs.Questions.{outcome, readAsked, writeAsked, countAsked, locateAsked, numberAsked, outAsked, inAsked, rowAsked, fewestAsked};
+ghost use Rattle.model.specs.Questions.{outcome, readAsked, deskReadAsked, writeAsked, countAsked, locateAsked, numberAsked, outAsked, inAsked, rowAsked, fewestAsked};
 ghost use Rattle.answers.specs.Asked.{listAsked};
 use blocks::INDEX;
 use codec::Parsed;
@@ -17,6 +17,7 @@ use model::Refusal;
 use model::RowAnswer;
 use model::Verdict;
 use model::WriteAnswer;
+use model::limits::DESK_ROWS;
 use model::limits::MAX_ROWS;
 use model::limits::ROOM;
 use model::limits::ROW_SIZE;
@@ -70,6 +71,28 @@ pub fn read(file: &[u8], rows: &mut [u32]) -> ReadAnswer
             }
             let end = many * ROW_SIZE;
             answers::read_rows(&numbers[0..end], rows)
+        }
+    }
+}
+
+// A file read the second way, the rows that come with the desk before its own: how many rows, blocks and cues there are in all.
+pub fn read_desk(file: &[u8], rows: &mut [u32]) -> ReadAnswer
+    ensures { λ r. ⌜ outcome (ofRead r) (now (rows .exit)) ≡ deskReadAsked (now (file .entry)) (now (rows .entry)) ⌝ }
+{
+    let mut numbers = [0u32; ROOM];
+    match codec::parse(file, &mut numbers) {
+        Parsed::Refused(refusal) => ReadAnswer::Refused(refusal),
+        Parsed::Rows(many) => {
+            let fits = desk::fits(many);
+            if !fits {
+                return ReadAnswer::Refused(Refusal {
+                    number: 4,
+                    place: 0,
+                });
+            }
+            desk::put_before(&mut numbers, many);
+            let end = (DESK_ROWS + many) * ROW_SIZE;
+            answers::read_desk_rows(&numbers[0..end], rows)
         }
     }
 }

@@ -9,7 +9,9 @@ use Rattle.model.specs.Verdicts.{refusal, verdict, Numbers, readFile, fileVerdi
 use Rattle.model.specs.Rows.{rowCount}
 use Rattle.model.specs.Lists.{overwrite}
 use Rattle.model.specs.Answers.{Returned, returned, given, ofRead, ofCount, ofList, flag}
-use Rattle.model.specs.Questions.{Outcome, outcome, refuse, onAccepted, withRoom, readInto, readAsked, countAsked}
+use Rattle.model.specs.Desk.{withDesk, deskFileVerdict}
+use Rattle.model.specs.Questions.{Outcome, outcome, refuse, onAccepted, withRoom, readInto, readAsked, deskReadAsked, countAsked}
+use Rattle.shows.proofs.DeskTable.{with-length}
 use Rattle.model.specs.declared.Refusal.{Refusal}
 use Rattle.model.specs.declared.Verdict.{Verdict}
 use Rattle.model.specs.declared.Verdict.the-variants.{Accepted, Refused}
@@ -22,7 +24,7 @@ use Rattle.model.specs.declared.ListAnswer.the-variants.{Page}
 use Rattle.basics.proofs.Choices.{lt-then, lt-else}
 use Rattle.shows.proofs.Accepted.{accepted-show}
 use Rattle.shows.proofs.RoundTrips.{accepted-file}
-use Rattle.show_c.specs.Interface.{code, givenAfter, withGiven, alsoGiven, shortOf, Told, Wrote}
+use Rattle.show_c.specs.Interface.{code, IsRefused, givenAfter, withGiven, alsoGiven, shortOf, Told, Wrote}
 
 -- A refusal as one number.
 abbrev pub number : Refusal → ℕ
@@ -147,23 +149,39 @@ none-read f x Accepted e =
     rw (e, q, lt-then (length (x ∷ [])) (length ys) _ _ (one-short f ys e q))
 none-read f x (Refused r) e = rw e
 
-module _ (f : List ℕ) (x : ℕ) (a : ReadAnswer) (after : List ℕ) (e : outcome (ofRead a) after ≡ readAsked f (x ∷ [])) where
-  said : ofRead a ≡ onAccepted (fileVerdict f) (λ r. returned r) (returned (refusal 11 0))
-  said = ap (λ (o : Outcome). o .answer) e ∙ none-read f x (fileVerdict f) refl
+none-read-desk : (f : List ℕ) (x : ℕ) (v : Verdict) → deskFileVerdict f ≡ v
+    → deskReadAsked f (x ∷ []) .answer ≡ onAccepted v (λ r. returned r) (returned (refusal 11 0))
+unfolding deskReadAsked onAccepted readInto withRoom refuse
+none-read-desk f x Accepted e =
+    let ys : List ℕ = numbersOf (readFile f) in
+    rw (e, lt-then (length (x ∷ [])) (length (withDesk ys)) _ _ (omega (arith, with-length ys)))
+none-read-desk f x (Refused r) e = rw e
 
-  some-refusal : (v : Verdict) → (r : Refusal) × (onAccepted v (λ r. returned r) (returned (refusal 11 0)) ≡ returned r)
-  unfolding onAccepted
-  some-refusal Accepted = (refusal 11 0, refl)
-  some-refusal (Refused r) = (r, refl)
+-- What is said of a file there.
+abbrev NoneRead : ReadAnswer → Verdict → Type 0
+NoneRead a v = ofRead a ≡ onAccepted v (λ r. returned r) (returned (refusal 11 0))
 
-  pub file-short : (k l m : ℕ) → a ≡ Read k l m → 47244640256 ≡ shortOf (fileVerdict f)
-  unfolding ofRead
-  file-short k l m q =
-      let (r, z) = some-refusal (fileVerdict f) in
-      absurd (no-values k (l ∷ m ∷ []) r (rw q at said ∙ z))
+module _ (f : List ℕ) (x : ℕ) (a : ReadAnswer) (after : List ℕ) where
+  pub file-unread : outcome (ofRead a) after ≡ readAsked f (x ∷ []) → NoneRead a (fileVerdict f)
+  file-unread e = ap (λ (o : Outcome). o .answer) e ∙ none-read f x (fileVerdict f) refl
 
-  pub file-refused : (r : Refusal) (c : ℕ) → a ≡ ReadRefused r → c ≡ number r → c ≡ shortOf (fileVerdict f)
-  unfolding ofRead shortOf
-  file-refused r c q h =
-      let (s, z) = some-refusal (fileVerdict f) in
-      h ∙ rw z (same-code r s (rw q at said ∙ z))
+  pub desk-unread : outcome (ofRead a) after ≡ deskReadAsked f (x ∷ []) → NoneRead a (deskFileVerdict f)
+  desk-unread e = ap (λ (o : Outcome). o .answer) e ∙ none-read-desk f x (deskFileVerdict f) refl
+
+pub unread-refused : (a : ReadAnswer) (v : Verdict) → NoneRead a v → IsRefused (ofRead a)
+unfolding onAccepted
+unread-refused a Accepted e = record { refusal = refusal 11 0; said = e }
+unread-refused a (Refused r) e = record { refusal = r; said = e }
+
+pub unread-code : (a : ReadAnswer) (v : Verdict) (c : ℕ) → NoneRead a v → c ≡ code (ofRead a) → c ≡ shortOf v
+unfolding shortOf
+unread-code a v c e h = h ∙ ap code e
+
+-- An answer is no refusal; and the number of a refusal.
+pub unread-never : (a : ReadAnswer) (k l m c : ℕ) → IsRefused (ofRead a) → a ≡ Read k l m → c ≡ code (ofRead a)
+unfolding ofRead
+unread-never a k l m c s q = absurd (no-values k (l ∷ m ∷ []) (s .refusal) (rw q at (s .said)))
+
+pub unread-is : (a : ReadAnswer) (r : Refusal) (c : ℕ) → a ≡ ReadRefused r → c ≡ number r → c ≡ code (ofRead a)
+unfolding ofRead code returned
+unread-is a r c q h = rw q h

@@ -8,11 +8,17 @@ use Rattle.model.specs.Verdicts.{refusal}
 use Rattle.model.specs.Lists.{overwrite}
 use Rattle.model.specs.Answers.{Returned, returned}
 use Rattle.model.specs.Questions.{Outcome, refuse, onAccepted}
+use Rattle.model.specs.declared.Refusal.{Refusal}
 use Rattle.model.specs.declared.Verdict.{Verdict}
 
 -- 0 for an answer; the refusal's number in the upper 32 bits and its place in the lower ones.
 unfoldable pub code : Returned → ℕ
 code r = r .number * 4294967296 + r .place
+
+-- Nothing but a refusal was returned.
+pub record IsRefused (r : Returned) : Type 0 where
+  pub refusal : Refusal
+  pub said : r ≡ returned refusal
 
 -- The values of an answer stand first in `given`; a refusal has none.
 unfoldable pub givenAfter : Returned → List ℕ → List ℕ

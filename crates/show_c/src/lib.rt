@@ -5,10 +5,11 @@ ghost use mathlib.Core.List.{[], _∷_};
 ghost use Prim.Native.Nat.{_+_, _*_, _≤_, _<_};
 ghost use lib.ListN.{length};
 ghost use Rattle.model.specs.Lists.{overwrite};
-ghost use Rattle.model.specs.Answers.{flag, ofList};
+ghost use Rattle.model.specs.Answers.{flag, ofRead, ofList};
 ghost use Rattle.model.specs.Verdicts.{verdict, fileVerdict};
-ghost use Rattle.model.specs.Questions.{readAsked, writeAsked, countAsked, locateAsked, numberAsked, outAsked, inAsked, rowAsked, fewestAsked};
-ghost use Rattle.show_c.specs.Interface.{givenSize, withGiven, alsoGiven, shortOf, Told, Wrote};
+ghost use Rattle.model.specs.Desk.{deskFileVerdict};
+ghost use Rattle.model.specs.Questions.{readAsked, deskReadAsked, writeAsked, countAsked, locateAsked, numberAsked, outAsked, inAsked, rowAsked, fewestAsked};
+ghost use Rattle.show_c.specs.Interface.{givenSize, code, IsRefused, withGiven, alsoGiven, shortOf, Told, Wrote};
 use model::CountAnswer;
 use model::FewestAnswer;
 use model::ListAnswer;
@@ -46,15 +47,30 @@ fn short_rows(rows: &[u32]) -> u64
     }
 }
 
-// What is said of a file there: nothing is read to a list of one number.
+// The refusal of a file that was read to a list of one number, for which nothing is short enough.
+fn unread(answer: ReadAnswer) -> u64
+    requires { ⌜ IsRefused (ofRead answer) ⌝ }
+    ensures { λ c. ⌜ c ≡ code (ofRead answer) ⌝ }
+{
+    match answer {
+        ReadAnswer::Read(_, _, _) => 0,
+        ReadAnswer::Refused(r) => refused(r),
+    }
+}
+
+// What is said of a file there, read the first way and the second.
 fn short_file(file: &[u8]) -> u64
     ensures { λ c. ⌜ c ≡ shortOf (fileVerdict (now (file .entry))) ⌝ }
 {
     let mut none = [0u32; 1];
-    match show::read(file, &mut none) {
-        ReadAnswer::Read(_, _, _) => 47244640256,
-        ReadAnswer::Refused(r) => refused(r),
-    }
+    unread(show::read(file, &mut none))
+}
+
+fn short_desk_file(file: &[u8]) -> u64
+    ensures { λ c. ⌜ c ≡ shortOf (deskFileVerdict (now (file .entry))) ⌝ }
+{
+    let mut none = [0u32; 1];
+    unread(show::read_desk(file, &mut none))
 }
 
 // 1 for yes, 0 for no.
@@ -90,6 +106,17 @@ fn tell_3(given: &mut [u32], a: u32, b: u32, c: u32) -> u64
 {
     given[2] = c;
     tell_2(given, a, b)
+}
+
+// What is told of a file that was read: rows, blocks, cues.
+fn tell_read(answer: ReadAnswer, given: &mut [u32]) -> u64
+    requires { ⌜ givenSize ≤ length (now given) ⌝ }
+    ensures { λ c. ⌜ Told c (now (given .entry)) (now (given .exit)) (ofRead answer) ⌝ }
+{
+    match answer {
+        ReadAnswer::Read(many, blocks, cues) => tell_3(given, many, blocks, cues),
+        ReadAnswer::Refused(r) => refused(r),
+    }
 }
 
 // What is told of a list: cues written, whether there are more (0 or 1).
@@ -167,10 +194,18 @@ pub extern "C" fn show_read(file: &[u8], rows: &mut [u32], given: &mut [u32]) ->
     if given.len() < GIVEN_SIZE {
         return short_file(file);
     }
-    match show::read(file, rows) {
-        ReadAnswer::Read(many, blocks, cues) => tell_3(given, many, blocks, cues),
-        ReadAnswer::Refused(r) => refused(r),
+    tell_read(show::read(file, rows), given)
+}
+
+// given: rows, blocks, cues
+#[no_mangle]
+pub extern "C" fn show_read_desk(file: &[u8], rows: &mut [u32], given: &mut [u32]) -> u64
+    ensures { λ c. ⌜ Wrote c (now (given .entry)) (now (given .exit)) (now (rows .exit)) (alsoGiven (now (given .entry)) (deskFileVerdict (now (file .entry))) (now (rows .entry)) (deskReadAsked (now (file .entry)) (now (rows .entry)))) ⌝ }
+{
+    if given.len() < GIVEN_SIZE {
+        return short_desk_file(file);
     }
+    tell_read(show::read_desk(file, rows), given)
 }
 
 // given: cues written, whether there are more (0 or 1)
