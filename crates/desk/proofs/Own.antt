@@ -3,7 +3,7 @@ use Prim.Native.Nat.{ℕ, _+_, _-_, _≤_, _<_}
 use native.Mathlib.Omega.{arith}
 use native.Mathlib.Decide.{ℕ-discrete, decLt}
 use mathlib.Core.Path.{_≡_, sym, _∙_}
-use mathlib.Core.Bool.{true, false, false≢true}
+use mathlib.Core.Bool.{Bool, true, false, false≢true}
 use mathlib.Core.List.{List}
 use Rattle.model.specs.Choice.{ifLt, ifEq}
 use Rattle.model.specs.Limits.{maxRows, deskRows, deskBlocks}
@@ -13,6 +13,14 @@ use Rattle.model.specs.Desk.{checkOwn, checkFirst}
 use Rattle.model.specs.declared.Verdict.the-variants.{Accepted}
 use Rattle.basics.proofs.Choices.{lt-then, lt-else, eq-then, eq-else, passed-eq, passed-not-lt}
 use Rattle.desk.specs.Own.{ownFits, opensFirst}
+
+-- So many rows of its own fit.
+pub fits-few : (n : ℕ) (t : Bool) → t ≡ ownFits n → t ≡ true → deskRows + n ≤ maxRows
+unfolding ownFits
+fits-few n t q e =
+    let (a, k) = passed-not-lt n 1 _ (sym q ∙ e) in
+    let (b, z) = passed-not-lt (maxRows - deskRows) n true k in
+    omega arith
 
 pub own-yes : (xs : List ℕ) (n : ℕ) → n ≡ rowCount xs → ownFits n ≡ true → checkOwn xs ≡ Accepted
 unfolding checkOwn ownFits

@@ -219,6 +219,7 @@ fn put_built_in(table: &[[u32; ROW_SIZE]; DESK_ROWS], numbers: &mut [u32])
 pub fn put_before(numbers: &mut [u32; ROOM], many: usize)
     requires { ⌜ deskRows + many ≤ maxRows ⌝ }
     ensures { λ _. ⌜ take ((deskRows + many) * rowSize) (now (numbers .exit)) ≡ withDesk (take (many * rowSize) (now (numbers .entry))) ⌝ }
+    ensures { λ _. ⌜ length (now (numbers .exit)) ≡ maxRows * rowSize ⌝ }
 {
     rows::move_up(numbers, many * ROW_SIZE, DESK_SIZE);
     put_built_in(&BUILT_IN, numbers);

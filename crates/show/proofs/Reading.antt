@@ -50,16 +50,21 @@ unfolding readNumbers verdict checkLength andThen inLines onAccepted refused byL
 too-many xs out e h = rw (eq-then (length xs % rowSize) 0 _ _ e, lt-else (rowCount xs) 1 _ _ (omega arith), lt-then maxRows (rowCount xs) _ _ h)
 
 module _ (f out ys : List ℕ) where
-  pub read-unread : (p : Parsed) (r : Refusal) → Parses (readFile f) p ys → p ≡ Unparsed r → outcome (ofRead (ReadRefused r)) out ≡ readAsked f out
+  -- What is not read, where that is refused.
+  pub refused-unread : (asked : Outcome) → ((r : Refusal) → readFile f ≡ Unread r → asked ≡ refuse r out)
+      → (p : Parsed) (r : Refusal) → Parses (readFile f) p ys → p ≡ Unparsed r → outcome (ofRead (ReadRefused r)) out ≡ asked
   unfolding ofRead Parses refuse
-  read-unread p r P e = go (readFile f) refl P
+  refused-unread asked u p r P e = go (readFile f) refl P
     where
-      go : (k : Reading) → readFile f ≡ k → Parses k p ys → outcome (ofRead (ReadRefused r)) out ≡ readAsked f out
+      go : (k : Reading) → readFile f ≡ k → Parses k p ys → outcome (ofRead (ReadRefused r)) out ≡ asked
       go (Numbers xs) q P = absurd (let z : _≡_ {A = ℕ} 0 1 = cc (sym e ∙ P .0) in omega arith)
-      go (Unread s) q P = let same : r ≡ s = cc (sym e ∙ P) in rw (asked-unread f out s q, same)
+      go (Unread s) q P = let same : r ≡ s = cc (sym e ∙ P) in rw (u s q, same)
+
+  pub read-unread : (p : Parsed) (r : Refusal) → Parses (readFile f) p ys → p ≡ Unparsed r → outcome (ofRead (ReadRefused r)) out ≡ readAsked f out
+  read-unread = refused-unread (readAsked f out) (asked-unread f out)
 
   -- The rows that were parsed.
-  record Parsed-rows (n : ℕ) : Type 0 where
+  pub record Parsed-rows (n : ℕ) : Type 0 where
     pub xs : List ℕ
     pub reads : readFile f ≡ Numbers xs
     pub many : n ≡ rowCount xs
@@ -67,7 +72,7 @@ module _ (f out ys : List ℕ) where
     pub size : length ys ≡ maxRows * rowSize
     pub stored : take (length xs) ys ≡ take (maxRows * rowSize) xs
 
-  parsed-rows : (p : Parsed) (n : ℕ) → Parses (readFile f) p ys → p ≡ Rows n → Parsed-rows n
+  pub parsed-rows : (p : Parsed) (n : ℕ) → Parses (readFile f) p ys → p ≡ Rows n → Parsed-rows n
   unfolding Parses
   parsed-rows p n P e = go (readFile f) refl P
     where

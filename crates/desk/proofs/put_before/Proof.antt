@@ -14,7 +14,7 @@ unfolding builtIn flatMap range plainRun plainOpening plainLink rowValues
 put-built-in-requires c κs = (refl, search needs)
 
 returns : tie.Need-returns
-returns c = search (behind-table, needs)
+returns c = (search (behind-table, needs), search needs)
 
 pub put-before-spec : {M : Type 1} → statement M
 put-before-spec = tie.close (tie.spec (λ c. search needs) (λ c κs. search needs) put-built-in-requires returns)
