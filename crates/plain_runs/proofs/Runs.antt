@@ -1,0 +1,141 @@
+-- The numbers of rows that are put one behind the other: what is left of a block's links, and of all blocks.
+use Prim.Native.Nat.{ℕ, suc, _+_, _*_, _-_, _≤_, _<_}
+use mathlib.Core.Path.{_≡_, refl, sym, _∙_, ap}
+use mathlib.Core.List.{List, [], _∷_, _++_, flatMap, append-nil, append-assoc}
+use native.Mathlib.Omega.{arith}
+use native.Mathlib.Numerals.{add-one}
+use lib.ListN.{length, drop-of-length-le}
+use Rattle.model.specs.Limits.{rowSize, deskBlocks}
+use Rattle.model.specs.Lists.{range, overwrite}
+use Rattle.model.specs.Rows.{Row, rowValues}
+use Rattle.model.specs.Desk.{plainOpening, plainLink, plainRun, builtIn, builtInNumbers}
+use Rattle.codec.proofs.Stores.{puts-both, puts-as, puts-over, room-first, room-next, Stored, stored-begin, stored-on, stored-room, stored-end}
+use Rattle.plain_runs.specs.Putting.{ownLinks, PutsRows, HasRoom}
+
+-- The numbers of two lists of rows in a row.
+numbers-both : (vs ws : List Row) → flatMap rowValues (vs ++ ws) ≡ flatMap rowValues vs ++ flatMap rowValues ws
+unfolding flatMap
+numbers-both [] ws = refl
+numbers-both (v ∷ vs) ws =
+    ap (λ (r : List ℕ). rowValues v ++ r) (numbers-both vs ws) ∙ sym (append-assoc (rowValues v) (flatMap rowValues vs) (flatMap rowValues ws))
+
+-- So many numbers from c on: the first, and the others.
+range-next : (c end : ℕ) → c < end → range c (end - c) ≡ c ∷ range (c + 1) (end - (c + 1))
+unfolding range
+range-next c end h =
+    let e : end - c ≡ suc (end - (c + 1)) = omega arith in
+    rw (e, add-one c)
+
+range-none : (c end : ℕ) → end ≤ c → range c (end - c) ≡ []
+unfolding range
+range-none c end h = let e : end - c ≡ 0 = omega arith in rw e
+
+-- The numbers of what is left of the links of block k from cue c on, and of all blocks from block k on.
+unfoldable pub linksLeft : ℕ → ℕ → List ℕ
+linksLeft k c = flatMap rowValues (ownLinks k c (k + 1 - c))
+
+unfoldable pub runsLeft : ℕ → List ℕ
+runsLeft k = flatMap rowValues (flatMap plainRun (range k (deskBlocks - k)))
+
+links-next : (k c : ℕ) → c ≤ k → linksLeft k c ≡ flatMap rowValues (plainLink k c (c + 1) ∷ []) ++ linksLeft k (c + 1)
+unfolding linksLeft ownLinks
+links-next k c h = rw (range-next c (k + 1) (omega arith)) (numbers-both (plainLink k c (c + 1) ∷ []) _)
+
+pub links-none : (k c : ℕ) → k < c → linksLeft k c ≡ []
+unfolding linksLeft ownLinks flatMap
+links-none k c h = rw (range-none c (k + 1) (omega arith))
+
+runs-next : (k : ℕ) → k < deskBlocks → runsLeft k ≡ flatMap rowValues (plainRun k) ++ runsLeft (k + 1)
+unfolding runsLeft flatMap
+runs-next k h = rw (range-next k deskBlocks h) (numbers-both (plainRun k) _)
+
+pub runs-none : (k : ℕ) → deskBlocks ≤ k → runsLeft k ≡ []
+unfolding runsLeft flatMap
+runs-none k h = rw (range-none k deskBlocks h)
+
+-- A block's links are put one by one.
+pub links-begin : (k n : ℕ) (o : List ℕ) → Stored (flatMap rowValues (ownLinks k 1 k)) (linksLeft k 1) o (n * rowSize) (n * rowSize) o
+unfolding linksLeft
+links-begin k n o = let e : k + 1 - 1 ≡ k = omega arith in rw e (stored-begin _ o (n * rowSize))
+
+module _ (k c n r : ℕ) (o p : List ℕ) (h : c ≤ k) (s : Stored (flatMap rowValues (ownLinks k 1 k)) (linksLeft k c) o (n * rowSize) (r * rowSize) p) where
+  pub links-room : HasRoom (ownLinks k 1 k) o n → HasRoom (plainLink k c (c + 1) ∷ []) p r
+  links-room l = stored-room _ _ (flatMap rowValues (plainLink k c (c + 1) ∷ [])) (linksLeft k (c + 1)) o p (n * rowSize) (r * rowSize) (links-next k c h) s l
+
+  pub links-on : (q : List ℕ) (next : ℕ) → PutsRows (plainLink k c (c + 1) ∷ []) p r next q
+      → Stored (flatMap rowValues (ownLinks k 1 k)) (linksLeft k (c + 1)) o (n * rowSize) (next * rowSize) q
+  links-on q next t = stored-on _ _ (flatMap rowValues (plainLink k c (c + 1) ∷ [])) (linksLeft k (c + 1)) o p (n * rowSize) (r * rowSize) (links-next k c h) s q (next * rowSize) t
+
+-- The blocks are put one by one.
+pub runs-begin : (o : List ℕ) → Stored builtInNumbers (runsLeft 0) o 0 0 o
+unfolding builtInNumbers builtIn runsLeft
+runs-begin o = stored-begin _ o 0
+
+module _ (k n : ℕ) (o p : List ℕ) (h : k < deskBlocks) (s : Stored builtInNumbers (runsLeft k) o 0 (n * rowSize) p) where
+  pub runs-room : length o ≡ length builtInNumbers → HasRoom (plainRun k) p n
+  runs-room l = stored-room _ _ (flatMap rowValues (plainRun k)) (runsLeft (k + 1)) o p 0 (n * rowSize) (runs-next k h) s (omega arith)
+
+  pub runs-on : (q : List ℕ) (next : ℕ) → PutsRows (plainRun k) p n next q → Stored builtInNumbers (runsLeft (k + 1)) o 0 (next * rowSize) q
+  runs-on q next t = stored-on _ _ (flatMap rowValues (plainRun k)) (runsLeft (k + 1)) o p 0 (n * rowSize) (runs-next k h) s q (next * rowSize) t
+
+-- They fill the lent numbers.
+pub runs-full : (k n : ℕ) (o p : List ℕ) → deskBlocks ≤ k → length o ≡ length builtInNumbers → Stored builtInNumbers (runsLeft k) o 0 (n * rowSize) p
+    → p ≡ builtInNumbers
+unfolding overwrite
+runs-full k n o p h l s =
+    puts-over builtInNumbers o p (n * rowSize) (omega arith) (stored-end _ _ o p 0 (n * rowSize) (runs-none k h) s)
+    ∙ rw (drop-of-length-le o {i = length builtInNumbers} (omega arith)) (append-nil builtInNumbers)
+
+-- Rows in two parts: room for them, and both put.
+module _ (vs ws : List Row) (n : ℕ) (o : List ℕ) where
+  rows-first : HasRoom (vs ++ ws) o n → HasRoom vs o n
+  rows-first h = room-first (flatMap rowValues vs) (flatMap rowValues ws) _ (n * rowSize) (length o) (numbers-both vs ws) h
+
+  module _ (i : ℕ) (p : List ℕ) (s : PutsRows vs o n i p) where
+    rows-next : HasRoom (vs ++ ws) o n → HasRoom ws p i
+    rows-next h = room-next (flatMap rowValues vs) (flatMap rowValues ws) _ o p (n * rowSize) (i * rowSize) (numbers-both vs ws) h s
+
+    rows-both : (j : ℕ) (q : List ℕ) → PutsRows ws p i j q → PutsRows (vs ++ ws) o n j q
+    rows-both j q t = puts-as (numbers-both vs ws) (puts-both s t)
+
+-- A block's rows: its opening, the links of its own cues, and two links more.
+unfoldable lastLinks : ℕ → List Row
+lastLinks k = (plainLink k (k + 1) (k + 3) ∷ []) ++ (plainLink k (k + 2) 1 ∷ [])
+
+run-parts : (k : ℕ) → plainRun k ≡ (plainOpening k ∷ []) ++ (ownLinks k 1 k ++ lastLinks k)
+unfolding plainRun ownLinks lastLinks
+run-parts k = refl
+
+module _ (k n : ℕ) (o : List ℕ) (h : HasRoom (plainRun k) o n) where
+  run-room : HasRoom ((plainOpening k ∷ []) ++ (ownLinks k 1 k ++ lastLinks k)) o n
+  run-room = rw (run-parts k) at h
+
+  pub opening-room : HasRoom (plainOpening k ∷ []) o n
+  opening-room = rows-first (plainOpening k ∷ []) (ownLinks k 1 k ++ lastLinks k) n o run-room
+
+  module _ (i : ℕ) (p : List ℕ) (s : PutsRows (plainOpening k ∷ []) o n i p) where
+    behind-opening : HasRoom (ownLinks k 1 k ++ lastLinks k) p i
+    behind-opening = rows-next (plainOpening k ∷ []) (ownLinks k 1 k ++ lastLinks k) n o i p s run-room
+
+    pub own-room : HasRoom (ownLinks k 1 k) p i
+    own-room = rows-first (ownLinks k 1 k) (lastLinks k) i p behind-opening
+
+    module _ (j : ℕ) (q : List ℕ) (t : PutsRows (ownLinks k 1 k) p i j q) where
+      behind-own : HasRoom (lastLinks k) q j
+      behind-own = rows-next (ownLinks k 1 k) (lastLinks k) i p j q t behind-opening
+
+      pub out-room : HasRoom (plainLink k (k + 1) (k + 3) ∷ []) q j
+      unfolding lastLinks
+      out-room = rows-first (plainLink k (k + 1) (k + 3) ∷ []) (plainLink k (k + 2) 1 ∷ []) j q behind-own
+
+      module _ (l : ℕ) (u : List ℕ) (v : PutsRows (plainLink k (k + 1) (k + 3) ∷ []) q j l u) where
+        pub in-room : HasRoom (plainLink k (k + 2) 1 ∷ []) u l
+        unfolding lastLinks
+        in-room = rows-next (plainLink k (k + 1) (k + 3) ∷ []) (plainLink k (k + 2) 1 ∷ []) j q l u v behind-own
+
+        pub run-put : (m : ℕ) (w : List ℕ) → PutsRows (plainLink k (k + 2) 1 ∷ []) u l m w → PutsRows (plainRun k) o n m w
+        unfolding plainRun ownLinks
+        run-put m w x =
+            rows-both (plainOpening k ∷ []) _ n o i p s m w
+            (rows-both (ownLinks k 1 k) _ i p j q t m w
+            (rows-both (plainLink k (k + 1) (k + 3) ∷ []) (plainLink k (k + 2) 1 ∷ []) j q l u v m w x))

@@ -1,0 +1,35 @@
+-- The blocks are put one by one. The loop's invariant: what is left of them from block k on.
+use Prim.Native.Nat.{_*_, _-_}
+use mathlib.Core.Path.{_≡_}
+use lib.ListN.{length}
+use borrow.Author.Needs.{needs}
+use Rattle.model.specs.Limits.{rowSize, deskBlocks}
+use Rattle.model.specs.Desk.{builtInNumbers}
+use Rattle.codec.proofs.Stores.{Stored}
+use Rattle.plain_runs.proofs.Runs.{runsLeft, runs-begin, runs-room, runs-on, runs-full}
+use Rattle.plain_runs.proofs.put_runs.Statement.{statement}
+use Rattle.plain_runs.proofs.put_runs.Tie as tie
+
+abbrev Inv-loop : tie.InvT-loop
+Inv-loop numbers₀ n₀ k₀ numbers n k =
+    (length numbers ≡ length numbers₀) × Stored builtInNumbers (runsLeft k) numbers₀ 0 (n * rowSize) numbers
+
+abbrev μ-loop : tie.MeasureT-loop
+μ-loop numbers₀ n₀ k₀ numbers n k = deskBlocks - k
+
+loop-holds : tie.Need-loop-holds Inv-loop μ-loop
+loop-holds c = (search needs, search (runs-begin, needs))
+
+put-run-requires : tie.Need-put-run-requires Inv-loop μ-loop
+put-run-requires c κs = (search needs, search (runs-room, needs))
+
+loop-again : tie.Need-loop-again Inv-loop μ-loop
+loop-again c = (search needs, search (runs-on, needs))
+
+returns : tie.Need-returns Inv-loop μ-loop
+returns c = search (runs-full, needs)
+
+pub put-runs-spec : {M : Type 1} → statement M
+put-runs-spec =
+    tie.close
+    (tie.spec Inv-loop μ-loop loop-holds put-run-requires (λ c. search needs) (λ c. search needs) loop-again (λ c. search needs) returns)
