@@ -1,4 +1,4 @@
-// Prints the blocks that come with the desk, as a show file.
+// Prints the table of the blocks that come with the desk, line by line as in a show file. It is no show by itself: its last block has joins.
 use plain_runs::DESK_BYTES;
 
 fn main() {

@@ -9,7 +9,7 @@ use Rattle.model.specs.Limits.{rowSize, deskBlocks}
 use Rattle.model.specs.Lists.{range, overwrite}
 use Rattle.model.specs.Rows.{Row, rowValues}
 use Rattle.model.specs.Desk.{plainOpening, plainLink, plainRun, builtIn, builtInNumbers}
-use Rattle.codec.proofs.Stores.{puts-both, puts-as, puts-over, room-first, room-next, Stored, stored-begin, stored-on, stored-room, stored-end}
+use Rattle.codec.proofs.Stores.{puts-both, puts-as, puts-long, puts-over, room-first, room-next, Stored, stored-begin, stored-on, stored-room, stored-end}
 use Rattle.plain_runs.specs.Putting.{ownLinks, PutsRows, HasRoom}
 
 -- The numbers of two lists of rows in a row.
@@ -29,6 +29,15 @@ range-next c end h =
 range-none : (c end : ℕ) → end ≤ c → range c (end - c) ≡ []
 unfolding range
 range-none c end h = let e : end - c ≡ 0 = omega arith in rw e
+
+-- One row's numbers are eleven.
+opening-size : (k : ℕ) → length (flatMap rowValues (plainOpening k ∷ [])) ≡ rowSize
+unfolding flatMap rowValues plainOpening
+opening-size k = refl
+
+link-size : (k a b : ℕ) → length (flatMap rowValues (plainLink k a b ∷ [])) ≡ rowSize
+unfolding flatMap rowValues plainLink
+link-size k a b = refl
 
 -- The numbers of what is left of the links of block k from cue c on, and of all blocks from block k on.
 unfoldable pub linksLeft : ℕ → ℕ → List ℕ
@@ -58,9 +67,11 @@ pub links-begin : (k n : ℕ) (o : List ℕ) → Stored (flatMap rowValues (ownL
 unfolding linksLeft
 links-begin k n o = let e : k + 1 - 1 ≡ k = omega arith in rw e (stored-begin _ o (n * rowSize))
 
-module _ (k c n r : ℕ) (o p : List ℕ) (h : c ≤ k) (s : Stored (flatMap rowValues (ownLinks k 1 k)) (linksLeft k c) o (n * rowSize) (r * rowSize) p) where
-  pub links-room : HasRoom (ownLinks k 1 k) o n → HasRoom (plainLink k c (c + 1) ∷ []) p r
-  links-room l = stored-room _ _ (flatMap rowValues (plainLink k c (c + 1) ∷ [])) (linksLeft k (c + 1)) o p (n * rowSize) (r * rowSize) (links-next k c h) s l
+module _ (k c n r : ℕ) (o p : List ℕ) (s : Stored (flatMap rowValues (ownLinks k 1 k)) (linksLeft k c) o (n * rowSize) (r * rowSize) p) (h : c ≤ k) where
+  pub links-room : HasRoom (ownLinks k 1 k) o n → r * rowSize + rowSize ≤ length p
+  links-room l =
+      rw (link-size k c (c + 1)) at
+      (stored-room _ _ (flatMap rowValues (plainLink k c (c + 1) ∷ [])) (linksLeft k (c + 1)) o p (n * rowSize) (r * rowSize) (links-next k c h) s l)
 
   pub links-on : (q : List ℕ) (next : ℕ) → PutsRows (plainLink k c (c + 1) ∷ []) p r next q
       → Stored (flatMap rowValues (ownLinks k 1 k)) (linksLeft k (c + 1)) o (n * rowSize) (next * rowSize) q
@@ -71,7 +82,7 @@ pub runs-begin : (o : List ℕ) → Stored builtInNumbers (runsLeft 0) o 0 0 o
 unfolding builtInNumbers builtIn runsLeft
 runs-begin o = stored-begin _ o 0
 
-module _ (k n : ℕ) (o p : List ℕ) (h : k < deskBlocks) (s : Stored builtInNumbers (runsLeft k) o 0 (n * rowSize) p) where
+module _ (k n : ℕ) (o p : List ℕ) (s : Stored builtInNumbers (runsLeft k) o 0 (n * rowSize) p) (h : k < deskBlocks) where
   pub runs-room : length o ≡ length builtInNumbers → HasRoom (plainRun k) p n
   runs-room l = stored-room _ _ (flatMap rowValues (plainRun k)) (runsLeft (k + 1)) o p 0 (n * rowSize) (runs-next k h) s (omega arith)
 
@@ -100,7 +111,11 @@ module _ (vs ws : List Row) (n : ℕ) (o : List ℕ) where
 
 -- A block's rows: its opening, the links of its own cues, and two links more.
 unfoldable lastLinks : ℕ → List Row
-lastLinks k = (plainLink k (k + 1) (k + 3) ∷ []) ++ (plainLink k (k + 2) 1 ∷ [])
+lastLinks k = plainLink k (k + 1) (k + 3) ∷ plainLink k (k + 2) 1 ∷ []
+
+last-size : (k : ℕ) → length (flatMap rowValues (lastLinks k)) ≡ rowSize + rowSize
+unfolding flatMap rowValues plainLink lastLinks
+last-size k = refl
 
 run-parts : (k : ℕ) → plainRun k ≡ (plainOpening k ∷ []) ++ (ownLinks k 1 k ++ lastLinks k)
 unfolding plainRun ownLinks lastLinks
@@ -110,8 +125,8 @@ module _ (k n : ℕ) (o : List ℕ) (h : HasRoom (plainRun k) o n) where
   run-room : HasRoom ((plainOpening k ∷ []) ++ (ownLinks k 1 k ++ lastLinks k)) o n
   run-room = rw (run-parts k) at h
 
-  pub opening-room : HasRoom (plainOpening k ∷ []) o n
-  opening-room = rows-first (plainOpening k ∷ []) (ownLinks k 1 k ++ lastLinks k) n o run-room
+  pub opening-room : n * rowSize + rowSize ≤ length o
+  opening-room = rw (opening-size k) at (rows-first (plainOpening k ∷ []) (ownLinks k 1 k ++ lastLinks k) n o run-room)
 
   module _ (i : ℕ) (p : List ℕ) (s : PutsRows (plainOpening k ∷ []) o n i p) where
     behind-opening : HasRoom (ownLinks k 1 k ++ lastLinks k) p i
@@ -124,18 +139,16 @@ module _ (k n : ℕ) (o : List ℕ) (h : HasRoom (plainRun k) o n) where
       behind-own : HasRoom (lastLinks k) q j
       behind-own = rows-next (ownLinks k 1 k) (lastLinks k) i p j q t behind-opening
 
-      pub out-room : HasRoom (plainLink k (k + 1) (k + 3) ∷ []) q j
-      unfolding lastLinks
-      out-room = rows-first (plainLink k (k + 1) (k + 3) ∷ []) (plainLink k (k + 2) 1 ∷ []) j q behind-own
+      pub out-room : j * rowSize + rowSize ≤ length q
+      out-room = omega (arith, last-size k, behind-own)
 
-      module _ (l : ℕ) (u : List ℕ) (v : PutsRows (plainLink k (k + 1) (k + 3) ∷ []) q j l u) where
-        pub in-room : HasRoom (plainLink k (k + 2) 1 ∷ []) u l
-        unfolding lastLinks
-        in-room = rows-next (plainLink k (k + 1) (k + 3) ∷ []) (plainLink k (k + 2) 1 ∷ []) j q l u v behind-own
+      pub in-room : (a b l : ℕ) (u : List ℕ) → PutsRows (plainLink k a b ∷ []) q j l u → l * rowSize + rowSize ≤ length u
+      in-room a b l u v = omega (arith, last-size k, behind-own, link-size k a b, v .place, puts-long v)
 
-        pub run-put : (m : ℕ) (w : List ℕ) → PutsRows (plainLink k (k + 2) 1 ∷ []) u l m w → PutsRows (plainRun k) o n m w
-        unfolding plainRun ownLinks
-        run-put m w x =
-            rows-both (plainOpening k ∷ []) _ n o i p s m w
-            (rows-both (ownLinks k 1 k) _ i p j q t m w
-            (rows-both (plainLink k (k + 1) (k + 3) ∷ []) (plainLink k (k + 2) 1 ∷ []) j q l u v m w x))
+      pub run-put : (l m : ℕ) (u w : List ℕ) → PutsRows (plainLink k (k + 1) (k + 3) ∷ []) q j l u → PutsRows (plainLink k (k + 2) 1 ∷ []) u l m w
+          → PutsRows (plainRun k) o n m w
+      unfolding plainRun ownLinks
+      run-put l m u w v x =
+          rows-both (plainOpening k ∷ []) _ n o i p s m w
+          (rows-both (ownLinks k 1 k) _ i p j q t m w
+          (rows-both (plainLink k (k + 1) (k + 3) ∷ []) (plainLink k (k + 2) 1 ∷ []) j q l u v m w x))

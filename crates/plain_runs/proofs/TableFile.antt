@@ -29,16 +29,15 @@ unfolding rowsOf rowCount
 rows-are = let e : length builtInNumbers / rowSize ≡ deskRows = omega (arith, desk-size) in rw e at table-rows
 
 -- It fills its buffer.
-module _ (xs o : List ℕ) (e : xs ≡ builtInNumbers) where
+module _ (xs : List ℕ) (e : xs ≡ builtInNumbers) where
   pub table-room : deskRows * rowSize ≤ length xs
   table-room = rw e (omega (arith, desk-size))
 
-  module _ (l : length o ≡ deskBytes) where
-    pub table-fits : length (fileText (rowsFrom xs 0 deskRows)) ≤ length o
-    table-fits = rw (e, rows-are) (omega (arith, text-size))
+  pub table-fits : (m : ℕ) → deskBytes ≤ m → length (fileText (rowsFrom xs 0 deskRows)) ≤ m
+  table-fits m l = rw (e, rows-are) (omega (arith, text-size))
 
-    pub table-file : (p : List ℕ) → p ≡ overwrite (fileText (rowsFrom xs 0 deskRows)) o → p ≡ fileText builtIn
-    unfolding overwrite
-    table-file p w =
-        let t : rowsFrom xs 0 deskRows ≡ builtIn = rw e rows-are in
-        w ∙ rw (t, drop-of-length-le o {i = length (fileText builtIn)} (omega (arith, text-size))) (append-nil (fileText builtIn))
+  pub table-file : (o p : List ℕ) → length o ≡ deskBytes → p ≡ overwrite (fileText (rowsFrom xs 0 deskRows)) o → p ≡ fileText builtIn
+  unfolding overwrite
+  table-file o p l w =
+      let t : rowsFrom xs 0 deskRows ≡ builtIn = rw e rows-are in
+      w ∙ rw (t, drop-of-length-le o {i = length (fileText builtIn)} (omega (arith, text-size))) (append-nil (fileText builtIn))

@@ -4,9 +4,9 @@ use model::limits::DESK_ROWS;
 use model::limits::DESK_SIZE;
 ghost use mathlib.Core.Path.{_≡_};
 ghost use mathlib.Core.List.{[], _∷_};
-ghost use Prim.Native.Nat.{_<_};
+ghost use Prim.Native.Nat.{_+_, _*_, _<_, _≤_};
 ghost use lib.ListN.{length};
-ghost use Rattle.model.specs.Limits.{deskBlocks};
+ghost use Rattle.model.specs.Limits.{rowSize, deskBlocks};
 ghost use Rattle.model.specs.Rows.{fileText};
 ghost use Rattle.model.specs.Desk.{plainOpening, plainLink, plainRun, builtIn, builtInNumbers};
 ghost use Rattle.plain_runs.specs.Putting.{HasRoom, PutsRows, ownLinks};
@@ -16,7 +16,7 @@ pub const DESK_BYTES: usize = 3902;
 
 // Puts the opening row of block k at row n: the row behind it.
 fn put_opening(k: u32, numbers: &mut [u32], n: usize) -> usize
-    requires { ⌜ (k < deskBlocks) × HasRoom (plainOpening k ∷ []) (now numbers) n ⌝ }
+    requires { ⌜ (k < deskBlocks) × (n * rowSize + rowSize ≤ length (now numbers)) ⌝ }
     ensures { λ r. ⌜ PutsRows (plainOpening k ∷ []) (now (numbers .entry)) n r (now (numbers .exit)) ⌝ }
 {
     let row = [k, 0, 2, k + 1, 0, 0, 0, 0, 0, 0, 0];
@@ -26,7 +26,7 @@ fn put_opening(k: u32, numbers: &mut [u32], n: usize) -> usize
 
 // Puts a link of block k, from cue a to cue b, at row n.
 fn put_link(k: u32, a: u32, b: u32, numbers: &mut [u32], n: usize) -> usize
-    requires { ⌜ HasRoom (plainLink k a b ∷ []) (now numbers) n ⌝ }
+    requires { ⌜ n * rowSize + rowSize ≤ length (now numbers) ⌝ }
     ensures { λ r. ⌜ PutsRows (plainLink k a b ∷ []) (now (numbers .entry)) n r (now (numbers .exit)) ⌝ }
 {
     let row = [k, 1, 1, a, b, 0, 0, 0, 0, 0, 0];

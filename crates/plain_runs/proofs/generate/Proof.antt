@@ -10,7 +10,7 @@ put-runs-requires : tie.Need-put-runs-requires
 put-runs-requires c κs = sym desk-size
 
 emit-requires : tie.Need-emit-requires
-emit-requires c κs = (search (table-room, needs), search needs, search (table-fits, needs))
+emit-requires c κs = (search (table-room, needs), search needs, table-fits _ (search needs) _ (search needs))
 
 returns : tie.Need-returns
 returns c = search (table-file, needs)

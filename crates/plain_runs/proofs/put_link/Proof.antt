@@ -6,13 +6,9 @@ use Rattle.model.specs.Desk.{plainLink}
 use Rattle.plain_runs.proofs.put_link.Statement.{statement}
 use Rattle.plain_runs.proofs.put_link.Tie as tie
 
-put-row-requires : tie.Need-put-row-requires
-unfolding flatMap rowValues plainLink
-put-row-requires c κs = search needs
-
 returns : tie.Need-returns
 unfolding flatMap rowValues plainLink
 returns c = search needs
 
 pub put-link-spec : {M : Type 1} → statement M
-put-link-spec = tie.close (tie.spec (λ c. search needs) put-row-requires (λ c. search needs) (λ c. search needs) returns)
+put-link-spec = tie.close (tie.spec (λ c. search needs) (λ c κs. search needs) (λ c. search needs) (λ c. search needs) returns)

@@ -6,13 +6,9 @@ use Rattle.model.specs.Desk.{plainOpening}
 use Rattle.plain_runs.proofs.put_opening.Statement.{statement}
 use Rattle.plain_runs.proofs.put_opening.Tie as tie
 
-put-row-requires : tie.Need-put-row-requires
-unfolding flatMap rowValues plainOpening
-put-row-requires c κs = search needs
-
 returns : tie.Need-returns
 unfolding flatMap rowValues plainOpening
 returns c = search needs
 
 pub put-opening-spec : {M : Type 1} → statement M
-put-opening-spec = tie.close (tie.spec (λ c. search needs) (λ c. search needs) put-row-requires (λ c. search needs) (λ c. search needs) returns)
+put-opening-spec = tie.close (tie.spec (λ c. search needs) (λ c. search needs) (λ c κs. search needs) (λ c. search needs) (λ c. search needs) returns)

@@ -24,10 +24,13 @@ loop-holds : tie.Need-loop-holds Inv-loop μ-loop
 loop-holds c = (search needs, search (links-begin, needs))
 
 put-link-requires : tie.Need-put-link-requires Inv-loop μ-loop
-put-link-requires c κs = search (links-room, needs)
+put-link-requires c κs = links-room _ _ _ _ _ _ (c .before .before .loop .inv .1) (search needs) (search needs)
 
 loop-again : tie.Need-loop-again Inv-loop μ-loop
-loop-again c = (search needs, search (links-on, needs))
+loop-again c = (
+  search needs,
+  links-on _ _ _ _ _ _ (c .before .before .before .before .before .loop .inv .1) (search needs) _ _ (c .before .before .put-link .ensures),
+)
 
 returns : tie.Need-returns Inv-loop μ-loop
 returns c = search (stored-end, links-none, needs)

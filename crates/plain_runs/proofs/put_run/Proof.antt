@@ -18,7 +18,7 @@ put-link-requires-2 c κs =
     let out = c .before .before .before in
     let own = out .before .before .before .before in
     let opening = own .before .before .before .before in
-    in-room _ _ _ (opening .before .before .before .pre .1) _ _ (opening .put-opening .ensures) _ _ (own .put-own-links .ensures) _ _ (out .put-link .ensures)
+    in-room _ _ _ (opening .before .before .before .pre .1) _ _ (opening .put-opening .ensures) _ _ (own .put-own-links .ensures) _ _ _ _ (out .put-link .ensures)
 
 returns : tie.Need-returns
 returns c = search (run-put, needs)

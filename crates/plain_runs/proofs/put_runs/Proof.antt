@@ -21,10 +21,13 @@ loop-holds : tie.Need-loop-holds Inv-loop μ-loop
 loop-holds c = (search needs, search (runs-begin, needs))
 
 put-run-requires : tie.Need-put-run-requires Inv-loop μ-loop
-put-run-requires c κs = (search needs, search (runs-room, needs))
+put-run-requires c κs = (search needs, runs-room _ _ _ _ (c .before .before .loop .inv .1) (search needs) (search needs))
 
 loop-again : tie.Need-loop-again Inv-loop μ-loop
-loop-again c = (search needs, search (runs-on, needs))
+loop-again c = (
+  search needs,
+  runs-on _ _ _ _ (c .before .before .before .before .before .loop .inv .1) (search needs) _ _ (c .before .before .put-run .ensures),
+)
 
 returns : tie.Need-returns Inv-loop μ-loop
 returns c = search (runs-full, needs)
