@@ -16,6 +16,7 @@ use Rattle.basics.proofs.Choices.{lt-then, lt-else, true-else}
 use Rattle.shows.specs.Files.{SpellsLine, SpellsLines, no-line, line-then}
 use Rattle.shows.proofs.Lines.{line-read, line-spelled, spelled-many, spelled-line, lines-first, lines-flatten, names-line, ends-line, ends-other}
 use Rattle.shows.proofs.Files.{says-first, same-refl, same-is, names-first}
+use Rattle.demands.specs.Acceptance.{Check}
 use Rattle.demands.specs.Files.{BreaksAt, ReadRefusal, of-length, of-names, of-line}
 
 -- A text begins with no line of values just where its first line is malformed.
@@ -165,7 +166,7 @@ begins f = go (linesOf f) refl
 -- What a refusal of the text, which is 1, 2 or 3, says of the text.
 record Unreadable (f : List ℕ) (q : Refusal) : Type 0 where
   early : q .number ≤ 3
-  known : ReadRefusal q
+  known : (line : Check → ℕ → ℕ) → ReadRefusal line q
   long : q .number ≡ 1 → maxBytes < length f
   no-names : q .number ≡ 2 → (length f ≤ maxBytes) × Unnamed f
   breaks : q .number ≡ 3 → (length f ≤ maxBytes) × BreaksAt f (q .place)
@@ -185,7 +186,7 @@ unreadable f q e = size (decLt maxBytes (length f))
         let (n, b) = break-of 2 (linesOf t) q f t (sym (named-read f t g) ∙ p) refl (starts f t g) in
         record {
           early = omega arith;
-          known = of-line (q .place) (ap (λ (k : ℕ). refusal k (q .place)) n);
+          known = λ line. of-line (q .place) (ap (λ (k : ℕ). refusal k (q .place)) n);
           long = λ z. omega arith;
           no-names = λ z. absurd (omega arith);
           breaks = λ z. (h, b);
@@ -195,7 +196,7 @@ unreadable f q e = size (decLt maxBytes (length f))
         let n = number 2 1 w in
         record {
           early = omega arith;
-          known = of-names w;
+          known = λ line. of-names w;
           long = λ z. omega arith;
           no-names = λ z. (h, u);
           breaks = λ z. absurd (omega arith);
@@ -207,7 +208,7 @@ unreadable f q e = size (decLt maxBytes (length f))
         let n = number 1 0 w in
         record {
           early = omega arith;
-          known = of-length w;
+          known = λ line. of-length w;
           long = λ z. h;
           no-names = λ z. absurd (omega arith);
           breaks = λ z. absurd (omega arith);
@@ -218,8 +219,8 @@ unreadable f q e = size (decLt maxBytes (length f))
 pub file-early : (f : List ℕ) (q : Refusal) → readFile f ≡ Unread q → q .number ≤ 3
 file-early f q e = unreadable f q e .early
 
-pub file-refusal : (f : List ℕ) (q : Refusal) → readFile f ≡ Unread q → ReadRefusal q
-file-refusal f q e = unreadable f q e .known
+pub file-refusal : (line : Check → ℕ → ℕ) (f : List ℕ) (q : Refusal) → readFile f ≡ Unread q → ReadRefusal line q
+file-refusal line f q e = unreadable f q e .known line
 
 pub file-long : (f : List ℕ) → (readFile f ≡ Unread (refusal 1 0)) ↔ (maxBytes < length f)
 unfolding readFile refusal

@@ -24,7 +24,9 @@ use Rattle.demands.specs.RoundTrips.{WritesBack, ReadsBack, ReadsAgain}
 use Rattle.demands.proofs.Padding.{text-is, text-file-unpadded}
 use Rattle.demands.proofs.Buffers.{leaves}
 use Rattle.demands.proofs.Outcomes.{was-accepted, had-room}
-use Rattle.demands.proofs.ReadCases.{Answered, answered}
+use Rattle.demands.specs.Acceptance.{Check}
+use Rattle.demands.proofs.ReadCases.{Way, Answered, answered}
+use Rattle.demands.proofs.Reading.{first-way}
 use Rattle.demands.proofs.Answers.{read-is, written-is}
 
 -- The rows that were read are all of the numbers.
@@ -32,11 +34,14 @@ rows-long : (xs : List ℕ) → verdict xs ≡ Accepted → rowCount xs * rowSiz
 unfolding rowCount
 rows-long xs v = let w = accepted-show xs v .whole in omega arith
 
--- What read left at the beginning of the output: the numbers that the file says.
-rows-left : (f out after : List ℕ) (rows blocks cues : ℕ) (k : Answered f out after rows blocks cues) → take (rows * rowSize) after ≡ k .numbers
-rows-left f out after rows blocks cues k =
-    let n : length (k .numbers) ≡ rows * rowSize = omega (arith, k .rows-are, rows-long (k .numbers) (k .lawful)) in
-    rw (← n) (k .left .first)
+-- What a way of reading left at the beginning of the output: all rows, where the file says its own.
+module _ {all : List ℕ → List ℕ} {Right : List ℕ → Type 0} {Broken : List ℕ → Check → ℕ → Type 0} {line : Check → ℕ → ℕ}
+    (way : Way all Right Broken line) (f out after : List ℕ) (rows blocks cues : ℕ) (k : Answered way f out after rows blocks cues) where
+  pub numbers-many : rows * rowSize ≡ length (all (k .own))
+  numbers-many = omega (arith, k .rows-are, rows-long (all (k .own)) (way .whole (k .own) (k .lawful)))
+
+  pub rows-left : take (rows * rowSize) after ≡ all (k .own)
+  rows-left = rw numbers-many (k .left .first)
 
 -- What was written back, for the numbers that the file says.
 pub writes-back : (f out after : List ℕ) (r : ReadAnswer) (rows blocks cues : ℕ)
@@ -44,12 +49,12 @@ pub writes-back : (f out after : List ℕ) (r : ReadAnswer) (rows blocks cues : 
     → (w : WriteAnswer) (out′ after′ : List ℕ) → outcome (ofWrite w) after′ ≡ writeAsked (take (rows * rowSize) after) out′ → length f ≤ length out′
     → WritesBack f (take (rows * rowSize) after) w out′ after′
 unfolding answer
-writes-back f out after r rows blocks cues e a w out′ after′ e′ h = go (answered f out after r e rows blocks cues a)
+writes-back f out after r rows blocks cues e a w out′ after′ e′ h = go (answered first-way f out after r e rows blocks cues a)
   where
-    go : Answered f out after rows blocks cues → WritesBack f (take (rows * rowSize) after) w out′ after′
+    go : Answered first-way f out after rows blocks cues → WritesBack f (take (rows * rowSize) after) w out′ after′
     go k =
-        let xs = k .numbers in
-        let t = rows-left f out after rows blocks cues k in
+        let xs = k .own in
+        let t = rows-left first-way f out after rows blocks cues k in
         let s : SpellsFile f xs = file-reads f xs .0 (k .says) in
         let b = (rw t at e′) ∙ write-back f xs out′ (k .says) (k .lawful) h in
         rw t
@@ -98,16 +103,17 @@ reads-back xs out after w bytes e a r out′ after′ e′ h =
       rows = rw (ap (λ (o : Outcome). o .after) b) (leaves xs out′ h);
     }
 
--- What was read again, of a file that was read and whose rows were written.
-pub reads-again : (f out after : List ℕ) (rows blocks cues : ℕ) → outcome (ofRead (Read rows blocks cues)) after ≡ readAsked f out
+-- What was read again, of a file that was read in some way and whose rows were written.
+pub reads-again : {all : List ℕ → List ℕ} {Right : List ℕ → Type 0} {Broken : List ℕ → Check → ℕ → Type 0} {line : Check → ℕ → ℕ}
+    (way : Way all Right Broken line) (f out after : List ℕ) (rows blocks cues : ℕ) → outcome (ofRead (Read rows blocks cues)) after ≡ way .asked f out
     → (bytes : ℕ) (out′ after′ : List ℕ) → outcome (ofWrite (Written bytes)) after′ ≡ writeAsked (take (rows * rowSize) after) out′
     → (r : ReadAnswer) (out″ after″ : List ℕ) → outcome (ofRead r) after″ ≡ readAsked (take bytes after′) out″ → rows * rowSize ≤ length out″
     → ReadsAgain (Read rows blocks cues) (take (rows * rowSize) after) r out″ after″
-reads-again f out after rows blocks cues e bytes out′ after′ e′ r out″ after″ e″ h = go (answered f out after _ e rows blocks cues refl)
+reads-again {all} way f out after rows blocks cues e bytes out′ after′ e′ r out″ after″ e″ h = go (answered way f out after _ e rows blocks cues refl)
   where
-    go : Answered f out after rows blocks cues → ReadsAgain (Read rows blocks cues) (take (rows * rowSize) after) r out″ after″
+    go : Answered way f out after rows blocks cues → ReadsAgain (Read rows blocks cues) (take (rows * rowSize) after) r out″ after″
     go k =
-        let t = rows-left f out after rows blocks cues k in
-        let n : length (k .numbers) ≤ length out″ = omega (arith, k .rows-are, rows-long (k .numbers) (k .lawful)) in
-        let b = reads-back (k .numbers) out′ after′ (Written bytes) bytes (rw t at e′) refl r out″ after″ e″ n in
+        let t = rows-left way f out after rows blocks cues k in
+        let n : length (all (k .own)) ≤ length out″ = omega (arith, numbers-many way f out after rows blocks cues k) in
+        let b = reads-back (all (k .own)) out′ after′ (Written bytes) bytes (rw t at e′) refl r out″ after″ e″ n in
         rw t (record { answer = b .answer ∙ rw (k .rows-are, k .blocks-are, k .cues-are); rows = b .rows })

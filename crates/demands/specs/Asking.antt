@@ -4,7 +4,7 @@ use Prim.Native.Nat.{ℕ}
 use mathlib.Core.Path.{_≡_}
 use mathlib.Core.List.{List}
 use Rattle.model.specs.Answers.{ofRead, ofWrite, ofCount, ofLocate, ofNumber, ofList, ofRow, ofFewest}
-use Rattle.model.specs.Questions.{outcome, readAsked, writeAsked, countAsked, locateAsked, numberAsked, outAsked, inAsked, rowAsked, fewestAsked}
+use Rattle.model.specs.Questions.{outcome, readAsked, deskReadAsked, writeAsked, countAsked, locateAsked, numberAsked, outAsked, inAsked, rowAsked, fewestAsked}
 use Rattle.model.specs.declared.ReadAnswer.{ReadAnswer}
 use Rattle.model.specs.declared.WriteAnswer.{WriteAnswer}
 use Rattle.model.specs.declared.CountAnswer.{CountAnswer}
@@ -14,9 +14,12 @@ use Rattle.model.specs.declared.ListAnswer.{ListAnswer}
 use Rattle.model.specs.declared.RowAnswer.{RowAnswer}
 use Rattle.model.specs.declared.FewestAnswer.{FewestAnswer}
 
--- read: a file, and the lent output before and afterwards; write: rows, and the same.
+-- read: a file, and the lent output before and afterwards; read_desk, the second way, asks the same; write: rows, and the same.
 abbrev pub AsksRead : List ℕ → List ℕ → ReadAnswer → List ℕ → Type 0
 AsksRead file out r after = outcome (ofRead r) after ≡ readAsked file out
+
+abbrev pub AsksDeskRead : List ℕ → List ℕ → ReadAnswer → List ℕ → Type 0
+AsksDeskRead file out r after = outcome (ofRead r) after ≡ deskReadAsked file out
 
 abbrev pub AsksWrite : List ℕ → List ℕ → WriteAnswer → List ℕ → Type 0
 AsksWrite xs out r after = outcome (ofWrite r) after ≡ writeAsked xs out

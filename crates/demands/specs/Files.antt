@@ -58,34 +58,39 @@ linePlace Order p = suc p
 linePlace Ends p = suc p
 linePlace Totals p = suc p
 
--- The refusals that reading can give: each of the table with its place.
-pub data ReadRefusal (q : Refusal) : Type 0 where
-  of-length : q ≡ refusal 1 0 → ReadRefusal q
-  of-names : q ≡ refusal 2 1 → ReadRefusal q
-  of-line : (line : ℕ) → q ≡ refusal 3 line → ReadRefusal q
-  of-rows : (c : Check) (p : ℕ) → q ≡ refusal (refusalNumber c) (linePlace c p) → ReadRefusal q
-  of-room : q ≡ refusal 11 0 → ReadRefusal q
+-- The refusals that reading can give: each of the table with its place, where line gives the line of a row.
+pub data ReadRefusal (line : Check → ℕ → ℕ) (q : Refusal) : Type 0 where
+  of-length : q ≡ refusal 1 0 → ReadRefusal line q
+  of-names : q ≡ refusal 2 1 → ReadRefusal line q
+  of-line : (n : ℕ) → q ≡ refusal 3 n → ReadRefusal line q
+  of-rows : (c : Check) (p : ℕ) → q ≡ refusal (refusalNumber c) (line c p) → ReadRefusal line q
+  of-room : q ≡ refusal 11 0 → ReadRefusal line q
 
--- What read answers and leaves, for a file and a lent output.
-pub record IsRead (f out : List ℕ) (r : ReadAnswer) (after : List ℕ) : Type 0 where
+-- What a way of reading answers and leaves, for a file and a lent output. There are two such ways (02, Paper 4), so this page says it for any: all rows
+-- where the file's own are xs, that these are right or which sentence of them is broken first, at which place, and the line of that place.
+pub record ReadsAs (all : List ℕ → List ℕ) (Right : List ℕ → Type 0) (Broken : List ℕ → Check → ℕ → Type 0) (line : Check → ℕ → ℕ)
+    (f out : List ℕ) (r : ReadAnswer) (after : List ℕ) : Type 0 where
   -- It answers exactly if the text keeps the rules, its rows do, and the output is long enough.
   pub answers : ((rows blocks cues : ℕ) × (r ≡ Read rows blocks cues))
-      ↔ ((xs : List ℕ) × SpellsFile f xs × Lawful xs × (length xs ≤ length out))
+      ↔ ((xs : List ℕ) × SpellsFile f xs × Right xs × (length (all xs) ≤ length out))
   -- "Read a file to rows, giving rows, blocks and cues": those of the numbers that the file says, which it leaves in the output.
   pub given : (rows blocks cues : ℕ) → r ≡ Read rows blocks cues → (xs : List ℕ) → SpellsFile f xs
-      → (rows ≡ rowCount xs) × (blocks ≡ length (blocksOf xs)) × (cues ≡ count (blocksOf xs)) × Leaves xs out after
+      → (rows ≡ rowCount (all xs)) × (blocks ≡ length (blocksOf (all xs))) × (cues ≡ count (blocksOf (all xs))) × Leaves (all xs) out after
   -- Each refusal with its place exactly if it is the first: 1, 2 and 3 of the text,
   pub too-long : (r ≡ Refused (refusal 1 0)) ↔ (maxBytes < length f)
   pub no-names : (r ≡ Refused (refusal 2 1)) ↔ ((length f ≤ maxBytes) × ((lines : List ℕ) → f ≡ names ++ lines → ⊥))
-  pub malformed : (line : ℕ) → (r ≡ Refused (refusal 3 line)) ↔ ((length f ≤ maxBytes) × BreaksAt f line)
+  pub malformed : (n : ℕ) → (r ≡ Refused (refusal 3 n)) ↔ ((length f ≤ maxBytes) × BreaksAt f n)
   -- each of 4 to 10 if the text keeps the rules and this sentence of its rows is the first that is broken,
-  pub refused : (c : Check) (p : ℕ) → (r ≡ Refused (refusal (refusalNumber c) (linePlace c p)))
-      ↔ ((xs : List ℕ) × SpellsFile f xs × FirstBroken xs c p)
+  pub refused : (c : Check) (p : ℕ) → (r ≡ Refused (refusal (refusalNumber c) (line c p))) ↔ ((xs : List ℕ) × SpellsFile f xs × Broken xs c p)
   -- and 11 if all that is kept and the output is too short.
-  pub no-room : (r ≡ Refused (refusal 11 0)) ↔ ((xs : List ℕ) × SpellsFile f xs × Lawful xs × (length out < length xs))
+  pub no-room : (r ≡ Refused (refusal 11 0)) ↔ ((xs : List ℕ) × SpellsFile f xs × Right xs × (length out < length (all xs)))
   -- There is no other. "A refusal leaves all lent memory unchanged."
-  pub no-other : (q : Refusal) → r ≡ Refused q → ReadRefusal q
+  pub no-other : (q : Refusal) → r ≡ Refused q → ReadRefusal line q
   pub unchanged : (q : Refusal) → r ≡ Refused q → after ≡ out
+
+-- What read answers and leaves: the file's rows are all, and they are right if they keep every sentence.
+abbrev pub IsRead : List ℕ → List ℕ → ReadAnswer → List ℕ → Type 0
+IsRead = ReadsAs (λ xs. xs) Lawful FirstBroken linePlace
 
 -- What write answers and leaves, for rows and a lent output. "We still write without padding" (02, Paper 1): rows that keep the rules have one
 -- unpadded file; write answers exactly if that fits, and leaves it, "giving its length". (Refusals 4 to 10: `Acceptance.ChecksRows`.)

@@ -12,3 +12,4 @@ pub mod Numbers
 pub mod Lists
 pub mod RowBehind
 pub mod Notes
+pub mod Desk

@@ -25,11 +25,17 @@ with-room : (need : ℕ) (lent : List ℕ) (o : Outcome) → need ≤ length len
 unfolding withRoom
 with-room need lent o h = lt-else _ _ _ _ h
 
+-- What is answered for rows that are read, where there is room.
+pub into-answer : (xs out : List ℕ) → length xs ≤ length out
+    → readInto xs out ≡ answer (rowCount xs ∷ length (blocksOf xs) ∷ count (blocksOf xs) ∷ []) (overwrite xs out)
+unfolding readInto
+into-answer xs out h = with-room _ _ _ h
+
 -- What reading answers for a file of accepted rows.
 pub read-answer : (f xs out : List ℕ) → readFile f ≡ Numbers xs → verdict xs ≡ Accepted → length xs ≤ length out
     → readAsked f out ≡ answer (rowCount xs ∷ length (blocksOf xs) ∷ count (blocksOf xs) ∷ []) (overwrite xs out)
-unfolding readAsked fileVerdict readVerdict numbersOf readInto inLines onAccepted
-read-answer f xs out e v h = rw (e, v) (with-room _ _ _ h)
+unfolding readAsked fileVerdict readVerdict numbersOf inLines onAccepted
+read-answer f xs out e v h = rw (e, v) (into-answer xs out h)
 
 -- The file that is written for accepted rows says their numbers.
 pub rows-spell : (xs : List ℕ) → verdict xs ≡ Accepted → SpellsFile (fileText (rowsOf xs)) xs
