@@ -50,3 +50,6 @@ pub mod Winning
 pub mod RowBehind
 -- notes
 pub mod Notes
+-- the built-in table, and the second way of reading
+pub mod DeskTable
+pub mod DeskReading

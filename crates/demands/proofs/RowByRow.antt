@@ -125,6 +125,14 @@ rows-say xs =
     []
     (knows-start xs)
 
+-- Rows that pass keep the sentences of checks 5 to 8.
+pub rows-keep : (xs : List ℕ) → checkRows start 1 (rowsOf xs) ≡ Accepted → (c : Check) (p : ℕ) → turn c ≡ 1 → IsRow xs p → Keeps xs c p
+rows-keep xs ok = go (rows-say xs .stage)
+  where
+    go : Stage xs 1 1 (checkRows start 1 (rowsOf xs)) → (c : Check) (p : ℕ) → turn c ≡ 1 → IsRow xs p → Keeps xs c p
+    go (passes e all) c p h i = all c p h (i .0) (row-looks xs p c h i)
+    go (fails d q e h l n f) c p k i = absurd (not-accepted _ q (sym e ∙ ok))
+
 -- What is known when all rows have passed: what the checks carry, that the rows stand in their places, and that uses name lower blocks.
 pub record RowsPassed (xs : List ℕ) : Type 0 where
   pub some : 1 ≤ rowCount xs
@@ -136,15 +144,12 @@ pub record RowsPassed (xs : List ℕ) : Type 0 where
 -- The checks of all rows, passed, say so.
 pub rows-passed : (xs : List ℕ) → 1 ≤ rowCount xs → checkRows start 1 (rowsOf xs) ≡ Accepted → RowsPassed xs
 unfolding blocksOf turn
-rows-passed xs some ok = go (rows-say xs .stage) (rows-say xs .known ok)
-  where
-    go : Stage xs 1 1 (checkRows start 1 (rowsOf xs)) → (t : Seen) × Knows xs (suc (rowCount xs)) t (blocksOf xs) → RowsPassed xs
-    go (passes e all) (s, k) =
-        record {
-          some = some;
-          seen = s;
-          knows = k;
-          place = λ q i. all Sequence q refl (i .0) i .0;
-          lower = λ q i u. all Ranges q refl (i .0) i .2 u .lower;
-        }
-    go (fails c q e h l n f) k = absurd (not-accepted _ q (sym e ∙ ok))
+rows-passed xs some ok =
+    let (s, k) = rows-say xs .known ok in
+    record {
+      some = some;
+      seen = s;
+      knows = k;
+      place = λ q i. rows-keep xs ok Sequence q refl i .0;
+      lower = λ q i u. rows-keep xs ok Ranges q refl i .2 u .lower;
+    }

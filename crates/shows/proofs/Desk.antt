@@ -23,9 +23,9 @@ use Rattle.model.specs.declared.Refusal.{Refusal}
 use Rattle.model.specs.declared.Verdict.the-variants.{Accepted, Refused}
 use Rattle.basics.proofs.Choices.{eq-then, eq-else, eq-first, lt-then, lt-else, lt-second}
 use Rattle.shows.proofs.AtBlock.{joinsOf-skip, total-skip, links-skip}
-use Rattle.shows.proofs.Accepted.{not-accepted, open-count}
+use Rattle.shows.proofs.Accepted.{not-accepted}
 use Rattle.shows.proofs.RefusalPlaces.{Refuser, by-length, by-row, by-end, by-total, refuser, rows-place, blocks-place}
-use Rattle.shows.proofs.DeskTable.{with-rows, table-blocks, table-passes, table-length, table-openings, table-run}
+use Rattle.shows.proofs.DeskTable.{with-rows, table-blocks, table-passes, table-length, table-openings, table-count, table-run}
 
 -- Checks that pass some rows go on with those behind them.
 seenAfter : Seen → List Row → Seen
@@ -177,9 +177,6 @@ some-row : (xs : List ℕ) (n : ℕ) → 1 ≤ n → (vs : List Row) × (rowsFro
 unfolding rowsFrom
 some-row xs zero h = absurd (omega arith)
 some-row xs (suc n) h = (rowsFrom xs (0 + 1) n, refl)
-
-table-count : length (addRows [] builtIn) ≡ deskBlocks
-table-count = omega (arith, open-count 1 builtIn [], table-openings)
 
 -- A refusal of a row is one of the file's; and so is one of a block where the table's blocks pass.
 block-place : (xs : List ℕ) (number : ℕ) (ok : ℕ → Bool) → ((k : ℕ) → k < deskBlocks → ok k ≡ true) → (q : Refusal)

@@ -1,12 +1,14 @@
 -- The built-in table (02, Paper 4): its numbers are its rows, its rows pass checks 5 to 8, and each of its blocks is as it must be. What is true of
 -- the table is computed over all of it at once, and one law hands it on to each block.
-use Prim.Native.Nat.{ℕ, _+_, _*_, _%_, _<_}
+use Prim.Native.Nat.{ℕ, zero, suc, _+_, _*_, _%_, _<_}
 use mathlib.Core.Path.{_≡_, refl, sym, _∙_, ap, ap₂}
 use mathlib.Core.Bool.{Bool, true, false}
-use mathlib.Core.List.{List, [], _∷_, _++_, flatMap, append-assoc, append-nil}
+use mathlib.Core.List.{List, [], _∷_, _++_, map, flatMap, append-assoc, append-nil}
 use native.Mathlib.Omega.{arith}
+use native.Mathlib.Decide.{ℕ-discrete}
 use lib.ListN.{length, getD, drop, length-append}
 use lib.Seq.{getD-append-add}
+use borrow.Author.Tests.{eq-eqb, ne-eqb}
 use Rattle.model.specs.Choice.{ifEq, ifLt, ifTrue}
 use Rattle.model.specs.Limits.{rowSize, deskRows, deskBlocks, noChain}
 use Rattle.model.specs.Rows.{Row, cell, rowAt, rowsFrom, rowCount, rowsOf, rowValues}
@@ -34,7 +36,7 @@ use Rattle.model.specs.Rules.{
   fault,
   after,
 }
-use Rattle.model.specs.Blocks.{Block, noBlock, blockAt, joinsOf, addLink, addUse, addRow, addRows, blocksOf, sumOver, total}
+use Rattle.model.specs.Blocks.{Link, Block, noBlock, blockAt, joinsOf, addLink, addUse, addRow, addRows, blocksOf, sumOver, total}
 use Rattle.model.specs.Unfolding.{cueAt, renamed, usesLinks, links}
 use Rattle.model.specs.Chains.{followed, isIn, successors, searchFrom, fewest}
 use Rattle.model.specs.Summaries.{blockLinks, orNone, summary}
@@ -43,6 +45,8 @@ use Rattle.model.specs.Desk.{plainOpening, plainLink, plainRun, builtIn, builtI
 use Rattle.model.specs.declared.Verdict.the-variants.{Accepted}
 use Rattle.basics.proofs.Members.{range-mem, every-mem}
 use Rattle.basics.proofs.Choices.{passed-eq}
+use Rattle.shows.proofs.AtBlock.{blockAt-hit, blockAt-skip}
+use Rattle.shows.proofs.Accepted.{open-count}
 use Rattle.shows.proofs.FlatRows.{first-values, rows-first}
 
 -- Every row has eight columns.
@@ -132,6 +136,9 @@ pub table-openings : length (openingRows 1 builtIn) ≡ deskBlocks
 unfolding openingRows builtIn flatMap range plainRun plainOpening plainLink ifEq
 table-openings = refl
 
+pub table-count : length (addRows [] builtIn) ≡ deskBlocks
+table-count = omega (arith, open-count 1 builtIn [], table-openings)
+
 -- "block k's summary is k + 2 from first join to second and none back": what is tested of block k.
 isRun : List Block → ℕ → Bool
 isRun bs k =
@@ -167,3 +174,40 @@ pub table-run : (k : ℕ) → k < deskBlocks → Runs (addRows [] builtIn) k
 table-run k h =
     run-passed (addRows [] builtIn) k
     (every-mem (isRun (addRows [] builtIn)) (range 0 deskBlocks) table-runs k (range-mem 0 deskBlocks k (omega arith) (omega arith)))
+
+-- The block of a plain run, and the blocks 0 to n - 1, the last one first.
+abbrev pub plainLinks : ℕ → List Link
+plainLinks k =
+    map (λ (c : ℕ). record { from = c; to = c + 1; label = 1 }) (range 1 k)
+    ++ (record { from = k + 1; to = k + 3; label = 1 } ∷ record { from = k + 2; to = 1; label = 1 } ∷ [])
+
+abbrev pub plainBlock : ℕ → Block
+plainBlock k = record { joins = 2; own = k + 1; links = plainLinks k; uses = [] }
+
+plainBlocks : ℕ → List Block
+plainBlocks zero = []
+plainBlocks (suc n) = plainBlock n ∷ plainBlocks n
+
+table-plain : addRows [] builtIn ≡ plainBlocks deskBlocks
+unfolding plainBlocks builtIn flatMap range plainRun plainOpening plainLink ifEq addLink addRow addRows
+table-plain = refl
+
+plain-count : (n : ℕ) → length (plainBlocks n) ≡ n
+unfolding plainBlocks
+plain-count zero = refl
+plain-count (suc n) = ap suc (plain-count n)
+
+plain-at : (n k : ℕ) → k < n → blockAt (plainBlocks n) k ≡ plainBlock k
+unfolding plainBlocks
+plain-at zero k h = absurd (omega arith)
+plain-at (suc n) k h = go (λ l. plain-at n k l) (ℕ-discrete k n)
+  where
+    go : (k < n → blockAt (plainBlocks n) k ≡ plainBlock k) → Dec (k ≡ n) → blockAt (plainBlock n ∷ plainBlocks n) k ≡ plainBlock k
+    go below (yes e) =
+        blockAt-hit (plainBlock n) (plainBlocks n) k (eq-eqb k (length (plainBlocks n)) (omega (arith, plain-count n))) ∙ ap plainBlock (sym e)
+    go below (no m) =
+        blockAt-skip (plainBlock n) (plainBlocks n) k (ne-eqb k (length (plainBlocks n)) (λ e. omega (arith, plain-count n))) ∙ below (omega arith)
+
+-- So each block of the table is one.
+pub table-block : (k : ℕ) → k < deskBlocks → blockAt (addRows [] builtIn) k ≡ plainBlock k
+table-block k h = ap (λ bs. blockAt bs k) table-plain ∙ plain-at deskBlocks k h

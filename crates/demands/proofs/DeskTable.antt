@@ -1,0 +1,77 @@
+-- The built-in table is as document 02, Paper 4, describes it.
+use Prim.Native.Nat.{ℕ, _+_, _<_}
+use native.Mathlib.Omega.{arith}
+use mathlib.Core.Path.{_≡_, refl, _∙_, ap}
+use mathlib.Core.Logic.{_⊎_, inl, inr, _↔_}
+use mathlib.Core.List.{List, [], _∷_, map, List·Memᴰ, List·Memᴰ·head, List·Memᴰ·tail, List·Memᴰ·cases-cons, List·Memᴰ·not-nil, List·Memᴰ·append-cases, Memᴰ·append-left, Memᴰ·append-right}
+use lib.ListN.{length}
+use Rattle.model.specs.Rows.{rowCount}
+use Rattle.model.specs.Lists.{range}
+use Rattle.model.specs.Blocks.{Link, Block, blockAt, blocksOf}
+use Rattle.model.specs.Desk.{builtInNumbers}
+use Rattle.basics.proofs.Members.{map-mem, mem-map, range-bounds, range-mem}
+use Rattle.shows.proofs.DeskTable.{desk-size, table-rows, table-blocks, table-passes, table-count, table-run, plainLinks, plainBlock, table-block}
+use Rattle.demands.specs.Desk.{PlainLink, to-first, to-next, from-last, IsPlainRun, TableFact}
+use Rattle.demands.proofs.RowByRow.{rows-keep}
+
+-- A link is known by its cues and label.
+abbrev one : ℕ → ℕ → Link
+one a b = record { from = a; to = b; label = 1 }
+
+link-is : (l : Link) (a b : ℕ) → l .from ≡ a → l .to ≡ b → l .label ≡ 1 → l ≡ one a b
+link-is l a b p q s = rw (← p, ← q, ← s) refl
+
+-- The links of a plain run.
+plain-links : (k : ℕ) (l : Link) → List·Memᴰ l (plainLinks k) ↔ PlainLink k l
+plain-links k l = (λ i. part (List·Memᴰ·append-cases (map on (range 1 k)) i), back)
+  where
+    on : ℕ → Link
+    on c = one c (c + 1)
+
+    last : List Link
+    last = one (k + 1) (k + 3) ∷ one (k + 2) 1 ∷ []
+
+    inside : (c : ℕ) × List·Memᴰ c (range 1 k) × (l ≡ on c) → PlainLink k l
+    inside (c, i, e) = let (low, high) = range-bounds 1 k c i in rw e (to-next low (omega arith) refl refl)
+
+    second : (l ≡ one (k + 2) 1) ⊎ List·Memᴰ l [] → PlainLink k l
+    second (inl e) = rw e (to-first refl refl refl)
+    second (inr i) = absurd (List·Memᴰ·not-nil i)
+
+    first : (l ≡ one (k + 1) (k + 3)) ⊎ List·Memᴰ l (one (k + 2) 1 ∷ []) → PlainLink k l
+    first (inl e) = rw e (from-last refl refl refl)
+    first (inr i) = second (List·Memᴰ·cases-cons i)
+
+    part : List·Memᴰ l (map on (range 1 k)) ⊎ List·Memᴰ l last → PlainLink k l
+    part (inl i) = inside (map-mem on l (range 1 k) i)
+    part (inr i) = first (List·Memᴰ·cases-cons i)
+
+    back : PlainLink k l → List·Memᴰ l (plainLinks k)
+    back (to-first p q s) = Memᴰ·append-right (map on (range 1 k)) (List·Memᴰ·tail (List·Memᴰ·head (link-is l (k + 2) 1 p q s)))
+    back (to-next low high q s) =
+        rw (link-is l (l .from) (l .from + 1) refl q s) (Memᴰ·append-left last (mem-map on (range-mem 1 k (l .from) low (omega arith))))
+    back (from-last p q s) = Memᴰ·append-right (map on (range 1 k)) (List·Memᴰ·head (link-is l (k + 1) (k + 3) p q s))
+
+plain-run : (k : ℕ) → k < 16 → IsPlainRun (blocksOf builtInNumbers) k
+plain-run k h =
+    let e : blockAt (blocksOf builtInNumbers) k ≡ plainBlock k = ap (λ bs. blockAt bs k) table-blocks ∙ table-block k h in
+    record {
+      own = ap (λ (b : Block). b .own) e;
+      joins = ap (λ (b : Block). b .joins) e;
+      uses = ap (λ (b : Block). b .uses) e;
+      links = λ l. rw e (plain-links k l);
+    }
+
+-- "Over the whole table one fact is proved".
+pub table-fact : TableFact
+unfolding rowCount
+table-fact =
+    record {
+      size = desk-size;
+      rows = rw desk-size refl;
+      blocks = ap length table-blocks ∙ table-count;
+      runs = plain-run;
+      passes = rows-keep builtInNumbers (rw table-rows table-passes);
+      there = λ k h. rw table-blocks (table-run k h .there);
+      back = λ k h. rw table-blocks (table-run k h .back);
+    }
