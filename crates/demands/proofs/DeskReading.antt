@@ -3,12 +3,13 @@ use Prim.Native.Nat.{ℕ, _+_, _*_, _-_, _≤_, _<_}
 use native.Mathlib.Omega.{arith}
 use native.Mathlib.Decide.{ℕ-discrete, decLt}
 use mathlib.Core.Path.{_≡_, refl, sym, _∙_, ap}
-use mathlib.Core.Logic.{_↔_}
-use mathlib.Core.List.{List}
+use mathlib.Core.Logic.{_⊎_, inl, inr, _↔_}
+use mathlib.Core.List.{List, [], _∷_}
 use lib.ListN.{length, take}
 use Rattle.model.specs.Choice.{ifLt}
 use Rattle.model.specs.Limits.{rowSize, maxRows, maxBytes, deskRows, deskBlocks}
 use Rattle.model.specs.Rows.{rowAt, rowCount, rowsOf, fileText}
+use Rattle.model.specs.Lists.{overwrite}
 use Rattle.model.specs.Verdicts.{refusal, refused, andThen, verdict, Numbers, Unread, readFile, numbersOf}
 use Rattle.model.specs.Desk.{
   builtInNumbers,
@@ -40,6 +41,7 @@ use Rattle.shows.proofs.DeskTable.{with-count, with-length}
 use Rattle.shows.proofs.Desk.{own-place}
 use Rattle.demands.specs.Acceptance.{Opens, nthRow, Lawful, Check, Length, Sequence, Ranges, Repeats, Order, Ends, Totals, refusalNumber, FirstBroken}
 use Rattle.demands.specs.Asking.{AsksDeskRead, AsksWrite}
+use Rattle.demands.specs.Files.{ReadRefusal, of-length, of-names, of-line, of-rows, of-room}
 use Rattle.demands.specs.Desk.{tableFirst, OwnRows, OpensFirst, DeskLawful, DeskBroken, bad-count, bad-first, bad-rows, ownLine, IsDeskRead, OwnLines, WritesWhole}
 use Rattle.demands.proofs.Stages.{numbers, same-check}
 use Rattle.demands.proofs.Acceptance.{accepted-exactly, refused-exactly, refused-is}
@@ -83,7 +85,7 @@ desk-case xs = go (decLt (rowCount xs) 1) (decLt maxRows (deskRows + rowCount xs
         as-rows (omega arith, omega arith) (c, d) (counted a b) first (ap behind (counted a b) ∙ ap then-rows first)
 
 -- It is accepted exactly where all is kept,
-desk-right : (xs : List ℕ) → (deskVerdict xs ≡ Accepted) ↔ DeskLawful xs
+pub desk-right : (xs : List ℕ) → (deskVerdict xs ≡ Accepted) ↔ DeskLawful xs
 desk-right xs = go (desk-case xs)
   where
     go : DeskCase xs → (deskVerdict xs ≡ Accepted) ↔ DeskLawful xs
@@ -98,7 +100,7 @@ pub desk-whole : (xs : List ℕ) → deskVerdict xs ≡ Accepted → verdict (ta
 desk-whole xs v = accepted-exactly (tableFirst xs) .1 (desk-right xs .0 v .lawful)
 
 -- and refused exactly by the first sentence that is broken.
-desk-broken : (xs : List ℕ) (q : Refusal) → deskVerdict xs ≡ Refused q → (c : Check) × (q .number ≡ refusalNumber c) × DeskBroken xs c (q .place)
+pub desk-broken : (xs : List ℕ) (q : Refusal) → deskVerdict xs ≡ Refused q → (c : Check) × (q .number ≡ refusalNumber c) × DeskBroken xs c (q .place)
 unfolding refused refusal refusalNumber
 desk-broken xs q v = go (desk-case xs)
   where
@@ -110,7 +112,7 @@ desk-broken xs q v = go (desk-case xs)
     go (no-first o n e) = rw (same 5 169 e) (Sequence, refl, bad-first o n)
     go (as-rows o f a b e) = let (c, n, k) = refused-is (tableFirst xs) q (sym e ∙ v) in (c, n, bad-rows o f k)
 
-desk-breaks : (xs : List ℕ) (c : Check) (p : ℕ) → DeskBroken xs c p → deskVerdict xs ≡ refused (refusalNumber c) p
+pub desk-breaks : (xs : List ℕ) (c : Check) (p : ℕ) → DeskBroken xs c p → deskVerdict xs ≡ refused (refusalNumber c) p
 unfolding refusalNumber
 desk-breaks xs c p k = go (desk-case xs) k
   where
@@ -124,3 +126,176 @@ desk-breaks xs c p k = go (desk-case xs) k
     go (as-rows o f a b e) (bad-count m) = absurd (m o)
     go (as-rows o f a b e) (bad-first z m) = absurd (m f)
     go (as-rows o f a b e) (bad-rows {c = d} {p = r} z g m) = e ∙ refused-exactly (tableFirst xs) d r .1 m
+
+-- The line of a refused row.
+own-line : (c : Check) (p : ℕ) → ((refusalNumber c ≡ 4) × (ownLine c p ≡ p)) ⊎ ((5 ≤ refusalNumber c) × (ownLine c p ≡ p - 167))
+unfolding refusalNumber ownLine
+own-line Length p = inl (refl, refl)
+own-line Sequence p = inr (omega arith, refl)
+own-line Ranges p = inr (omega arith, refl)
+own-line Repeats p = inr (omega arith, refl)
+own-line Order p = inr (omega arith, refl)
+own-line Ends p = inr (omega arith, refl)
+own-line Totals p = inr (omega arith, refl)
+
+pub own-told : (c : Check) (p : ℕ) → byOwnLine (refusal (refusalNumber c) p) ≡ refusal (refusalNumber c) (ownLine c p)
+unfolding byOwnLine refusal
+own-told c p = go (own-line c p)
+  where
+    n : ℕ
+    n = refusalNumber c
+
+    go : ((n ≡ 4) × (ownLine c p ≡ p)) ⊎ ((5 ≤ n) × (ownLine c p ≡ p - 167)) → byOwnLine (refusal n p) ≡ refusal n (ownLine c p)
+    go (inl (h, e)) = lt-then n 5 _ _ (omega arith) ∙ ap (refusal n) (sym e)
+    go (inr (h, e)) = let at : p + 1 - deskRows ≡ ownLine c p = omega arith in lt-else n 5 _ _ h ∙ ap (refusal n) at
+
+-- A place is 0 for check 4, and one of the file's rows for the others; so no two have one line.
+own-broken : (xs : List ℕ) (c : Check) (p : ℕ) → DeskBroken xs c p → 5 ≤ refusalNumber c → (168 < p) × (p ≤ 168 + rowCount xs)
+unfolding refusalNumber refused refusal withDesk
+own-broken xs c p k h = go (desk-case xs) k h
+  where
+    go : DeskCase xs → {d : Check} {o : ℕ} → DeskBroken xs d o → 5 ≤ refusalNumber d → (168 < o) × (o ≤ 168 + rowCount xs)
+    go e (bad-count m) l = absurd (omega arith)
+    go e (bad-first o m) l = (omega arith, omega (arith, o .0))
+    go (no-count n e) (bad-rows o f m) l = absurd (n o)
+    go (no-first o n e) (bad-rows z f m) l = absurd (n f)
+    go (as-rows o f a b e) (bad-rows {c = d} {p = r} z g m) l =
+        let v = refused-exactly (tableFirst xs) d r .1 m in (
+          own-place xs (refusal (refusalNumber d) r) a b v l,
+          omega (arith, with-count xs, place-most (tableFirst xs) (refusal (refusalNumber d) r) v .0),
+        )
+
+pub own-once : (xs : List ℕ) (c : Check) (o p : ℕ) → DeskBroken xs c o → ownLine c o ≡ ownLine c p → o ≡ p
+own-once xs c o p k e = go (own-line c o) (own-line c p)
+  where
+    go : ((refusalNumber c ≡ 4) × (ownLine c o ≡ o)) ⊎ ((5 ≤ refusalNumber c) × (ownLine c o ≡ o - 167))
+        → ((refusalNumber c ≡ 4) × (ownLine c p ≡ p)) ⊎ ((5 ≤ refusalNumber c) × (ownLine c p ≡ p - 167)) → o ≡ p
+    go (inl (h, a)) (inl (l, b)) = omega arith
+    go (inl (h, a)) (inr (l, b)) = absurd (omega arith)
+    go (inr (h, a)) (inl (l, b)) = absurd (omega arith)
+    go (inr (h, a)) (inr (l, b)) = omega (arith, own-broken xs c o k h .0)
+
+-- The second way.
+pub unread-second : (f out : List ℕ) (q : Refusal) → readFile f ≡ Unread q → deskReadAsked f out ≡ refuse q out
+unfolding deskReadAsked deskFileVerdict deskReadVerdict onAccepted
+unread-second f out q e = rw e
+
+pub refused-second : (f out xs : List ℕ) (q : Refusal) → readFile f ≡ Numbers xs → deskVerdict xs ≡ Refused q
+    → deskReadAsked f out ≡ refuse (byOwnLine q) out
+unfolding deskReadAsked deskFileVerdict deskReadVerdict inOwnLines onAccepted
+refused-second f out xs q e v = rw (e, v)
+
+pub taken-second : (f out xs : List ℕ) → readFile f ≡ Numbers xs → deskVerdict xs ≡ Accepted → deskReadAsked f out ≡ readInto (tableFirst xs) out
+unfolding deskReadAsked deskFileVerdict deskReadVerdict numbersOf inOwnLines onAccepted withDesk
+taken-second f out xs e v = rw (e, v)
+
+abbrev pub second-way : Way tableFirst DeskLawful DeskBroken ownLine
+second-way =
+    record {
+      asked = deskReadAsked;
+      verdict-on = deskVerdict;
+      told = byOwnLine;
+      unread = unread-second;
+      declined = refused-second;
+      taken = taken-second;
+      right = desk-right;
+      whole = desk-whole;
+      broken = desk-broken;
+      breaks = desk-breaks;
+      in-line = own-told;
+      same-line = own-once;
+    }
+
+pub is-desk-read : (f out after : List ℕ) (r : ReadAnswer) → AsksDeskRead f out r after → IsDeskRead f out r after
+is-desk-read = reads-as second-way
+
+-- What was left is a show, which every question takes.
+pub desk-lawful : (f out after : List ℕ) (rows blocks cues : ℕ) → AsksDeskRead f out (Read rows blocks cues) after → Lawful (take (rows * rowSize) after)
+desk-lawful f out after rows blocks cues e = go (answered second-way f out after _ e rows blocks cues refl)
+  where
+    go : Answered second-way f out after rows blocks cues → Lawful (take (rows * rowSize) after)
+    go k = rw (rows-left second-way f out after rows blocks cues k) (accepted-exactly (tableFirst (k .own)) .0 (desk-whole (k .own) (k .lawful)))
+
+-- Its places are the file's own lines.
+pub own-lines : (f out after : List ℕ) (r : ReadAnswer) → AsksDeskRead f out r after → OwnLines f r
+unfolding refusal
+own-lines f out after r e n p a low high xs s = go (is-desk-read f out after r e .no-other (refusal n p) a)
+  where
+    number : (k : ℕ) (o : ℕ) → refusal n p ≡ refusal k o → n ≡ k
+    number k o q = ap (λ (x : Refusal). x .number) q
+
+    lines : (c : Check) (o : ℕ) → n ≡ refusalNumber c → p ≡ ownLine c o → (ys : List ℕ) × SpellsFile f ys × DeskBroken ys c o
+        → (2 ≤ p) × (p ≤ rowCount xs + 1)
+    lines c o m q (ys, t, b) = at (own-line c o)
+      where
+        same : ys ≡ xs
+        same = let u = file-reads f ys .1 t in let v = file-reads f xs .1 s in cc
+
+        at : ((refusalNumber c ≡ 4) × (ownLine c o ≡ o)) ⊎ ((5 ≤ refusalNumber c) × (ownLine c o ≡ o - 167)) → (2 ≤ p) × (p ≤ rowCount xs + 1)
+        at (inl (h, k)) = absurd (omega arith)
+        at (inr (h, k)) = let (x, y) = own-broken xs c o (rw same at b) h in (omega arith, omega arith)
+
+    go : ReadRefusal ownLine (refusal n p) → (2 ≤ p) × (p ≤ rowCount xs + 1)
+    go (of-length q) = absurd (omega (arith, number 1 0 q))
+    go (of-names q) = absurd (omega (arith, number 2 1 q))
+    go (of-line l q) = absurd (omega (arith, number 3 l q))
+    go (of-room q) = absurd (omega (arith, number 11 0 q))
+    go (of-rows c o q) =
+        lines c o (number (refusalNumber c) (ownLine c o) q) (ap (λ (x : Refusal). x .place) q)
+        (is-desk-read f out after r e .refused c o .0 (a ∙ ap ReadRefused q))
+
+-- The table is not empty.
+long-table : (xs : List ℕ) → length (tableFirst xs) ≡ 168 * 11 + length xs
+unfolding withDesk
+long-table = with-length
+
+-- What is written for rows that were read the second way is a whole file, which the first way reads to the same rows.
+pub writes-whole : (f out after : List ℕ) (rows blocks cues : ℕ) → AsksDeskRead f out (Read rows blocks cues) after
+    → (w : WriteAnswer) (out′ after′ : List ℕ) → AsksWrite (take (rows * rowSize) after) out′ w after′ → 65536 ≤ length out′
+    → WritesWhole f (Read rows blocks cues) (take (rows * rowSize) after) w after′
+unfolding answer
+writes-whole f out after rows blocks cues e w out′ after′ e′ room = go (answered second-way f out after _ e rows blocks cues refl)
+  where
+    go : Answered second-way f out after rows blocks cues → WritesWhole f (Read rows blocks cues) (take (rows * rowSize) after) w after′
+    go k =
+        record {
+          bytes = length text;
+          answer = said;
+          fits = fits;
+          other-bytes = λ q. other (sym same-text ∙ q);
+          same-rows = λ r out″ after″ e″ h.
+              reads-again second-way f out after rows blocks cues e (length text) out′ after′ (rw said at e′) r out″ after″ e″ (omega (arith, long, h));
+        }
+      where
+        xs : List ℕ
+        xs = tableFirst (k .own)
+
+        v : verdict xs ≡ Accepted
+        v = desk-whole (k .own) (k .lawful)
+
+        text : List ℕ
+        text = fileText (rowsOf xs)
+
+        left : take (rows * rowSize) after ≡ xs
+        left = rows-left second-way f out after rows blocks cues k
+
+        long : rows * rowSize ≡ length (take (rows * rowSize) after)
+        long = numbers-many second-way f out after rows blocks cues k ∙ ap length (sym left)
+
+        fits : length text ≤ 65536
+        fits = rows-fit xs v
+
+        given : outcome (ofWrite w) after′ ≡ answer (length text ∷ []) (overwrite text out′)
+        given = (rw left at e′) ∙ write-answer xs out′ v (omega (arith, fits))
+
+        said : w ≡ Written (length text)
+        said = written-is w (length text) (ap (λ (o : Outcome). o .answer) given)
+
+        same-text : take (length text) after′ ≡ text
+        same-text = wrote xs out′ after′ w (rw left at e′) (length text) said .left .first
+
+        as-many : Numbers (k .own) ≡ Numbers xs → length (k .own) ≡ length xs
+        as-many q = let z : k .own ≡ xs = cc in ap length z
+
+        other : text ≡ f → ⊥
+        other q = omega (arith, long-table (k .own), as-many (sym (k .says) ∙ ap readFile (sym q) ∙ file-reads text xs .1 (rows-spell xs v)))
