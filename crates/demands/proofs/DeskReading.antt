@@ -6,9 +6,10 @@ use mathlib.Core.Path.{_≡_, refl, sym, _∙_, ap}
 use mathlib.Core.Logic.{_⊎_, inl, inr, _↔_}
 use mathlib.Core.List.{List, [], _∷_}
 use lib.ListN.{length, take}
-use Rattle.model.specs.Choice.{ifLt}
-use Rattle.model.specs.Limits.{rowSize, maxRows, maxBytes, deskRows, deskBlocks}
+use Rattle.model.specs.Limits.{rowSize, maxRows, deskRows, deskBlocks}
 use Rattle.model.specs.Rows.{rowAt, rowCount, rowsOf, fileText}
+use Rattle.model.specs.Blocks.{blocksOf, count}
+use Rattle.model.specs.Summaries.{summary}
 use Rattle.model.specs.Lists.{overwrite}
 use Rattle.model.specs.Verdicts.{refusal, refused, andThen, verdict, Numbers, Unread, readFile, numbersOf}
 use Rattle.model.specs.Desk.{
@@ -22,8 +23,8 @@ use Rattle.model.specs.Desk.{
   deskReadVerdict,
   deskFileVerdict,
 }
-use Rattle.model.specs.Answers.{ofRead, ofWrite}
-use Rattle.model.specs.Questions.{Outcome, outcome, refuse, answer, onAccepted, readInto, readAsked, deskReadAsked, writeAsked}
+use Rattle.model.specs.Answers.{ofWrite}
+use Rattle.model.specs.Questions.{Outcome, outcome, refuse, answer, onAccepted, readInto, deskReadAsked}
 use Rattle.model.specs.declared.Refusal.{Refusal}
 use Rattle.model.specs.declared.Verdict.{Verdict}
 use Rattle.model.specs.declared.Verdict.the-variants.{Accepted, Refused}
@@ -33,22 +34,21 @@ use Rattle.model.specs.declared.WriteAnswer.{WriteAnswer}
 use Rattle.model.specs.declared.WriteAnswer.the-variants.{Written}
 use Rattle.basics.proofs.Choices.{lt-then, lt-else, eq-then, eq-else}
 use Rattle.shows.specs.Files.{SpellsFile}
-use Rattle.shows.proofs.Accepted.{not-accepted}
+use Rattle.shows.proofs.Accepted.{not-accepted, both-accepted}
 use Rattle.shows.proofs.Files.{file-reads}
 use Rattle.shows.proofs.RefusalPlaces.{place-most}
 use Rattle.shows.proofs.RoundTrips.{rows-spell, rows-fit, write-answer}
 use Rattle.shows.proofs.DeskTable.{with-count, with-length}
-use Rattle.shows.proofs.Desk.{own-place}
-use Rattle.demands.specs.Acceptance.{Opens, nthRow, Lawful, Check, Length, Sequence, Ranges, Repeats, Order, Ends, Totals, refusalNumber, FirstBroken}
+use Rattle.shows.proofs.Desk.{own-place, desk-blocks, desk-summary}
+use Rattle.demands.specs.Acceptance.{Lawful, Check, Length, Sequence, Ranges, Repeats, Order, Ends, Totals, refusalNumber}
 use Rattle.demands.specs.Asking.{AsksDeskRead, AsksWrite}
 use Rattle.demands.specs.Files.{ReadRefusal, of-length, of-names, of-line, of-rows, of-room}
 use Rattle.demands.specs.Desk.{tableFirst, OwnRows, OpensFirst, DeskLawful, DeskBroken, bad-count, bad-first, bad-rows, ownLine, IsDeskRead, OwnLines, WritesWhole}
-use Rattle.demands.proofs.Stages.{numbers, same-check}
 use Rattle.demands.proofs.Acceptance.{accepted-exactly, refused-exactly, refused-is}
 use Rattle.demands.proofs.Answers.{written-is}
 use Rattle.demands.proofs.ReadCases.{Way, Answered, answered}
 use Rattle.demands.proofs.Reading.{reads-as}
-use Rattle.demands.proofs.RoundTrips.{rows-left, numbers-many, Wrote, wrote, reads-again}
+use Rattle.demands.proofs.RoundTrips.{rows-left, numbers-many, wrote, reads-again}
 
 -- What the verdict on the file's own rows is.
 data DeskCase (xs : List ℕ) : Type 0 where
@@ -209,12 +209,31 @@ second-way =
 pub is-desk-read : (f out after : List ℕ) (r : ReadAnswer) → AsksDeskRead f out r after → IsDeskRead f out r after
 is-desk-read = reads-as second-way
 
--- What was left is a show, which every question takes.
-pub desk-lawful : (f out after : List ℕ) (rows blocks cues : ℕ) → AsksDeskRead f out (Read rows blocks cues) after → Lawful (take (rows * rowSize) after)
-desk-lawful f out after rows blocks cues e = go (answered second-way f out after _ e rows blocks cues refl)
+-- What was left is a show, which every question takes; its first sixteen blocks have the table's summaries.
+pub record DeskLeft (xs : List ℕ) (cues : ℕ) : Type 0 where
+  pub accepted : verdict xs ≡ Accepted
+  pub cues-are : cues ≡ count (blocksOf xs)
+  pub blocks : 16 < length (blocksOf xs)
+  pub same : (k i j : ℕ) → k < 16 → summary (blocksOf xs) k i j ≡ summary (blocksOf builtInNumbers) k i j
+
+pub desk-left : (f out after : List ℕ) (rows blocks cues : ℕ) → AsksDeskRead f out (Read rows blocks cues) after → DeskLeft (take (rows * rowSize) after) cues
+unfolding withDesk deskVerdict
+desk-left f out after rows blocks cues e = go (answered second-way f out after _ e rows blocks cues refl)
   where
-    go : Answered second-way f out after rows blocks cues → Lawful (take (rows * rowSize) after)
-    go k = rw (rows-left second-way f out after rows blocks cues k) (accepted-exactly (tableFirst (k .own)) .0 (desk-whole (k .own) (k .lawful)))
+    go : Answered second-way f out after rows blocks cues → DeskLeft (take (rows * rowSize) after) cues
+    go k =
+        let (own, rest) = both-accepted (checkOwn (k .own)) _ (k .lawful) in
+        let (first, all) = both-accepted (checkFirst (rowAt (k .own) 0)) _ rest in
+        rw (rows-left second-way f out after rows blocks cues k)
+        (record {
+          accepted = all;
+          cues-are = k .cues-are;
+          blocks = desk-blocks (k .own) own first;
+          same = desk-summary (k .own) own first;
+        })
+
+pub desk-lawful : (f out after : List ℕ) (rows blocks cues : ℕ) → AsksDeskRead f out (Read rows blocks cues) after → Lawful (take (rows * rowSize) after)
+desk-lawful f out after rows blocks cues e = accepted-exactly (take (rows * rowSize) after) .0 (desk-left f out after rows blocks cues e .accepted)
 
 -- Its places are the file's own lines.
 pub own-lines : (f out after : List ℕ) (r : ReadAnswer) → AsksDeskRead f out r after → OwnLines f r

@@ -53,3 +53,4 @@ pub mod Notes
 -- the built-in table, and the second way of reading
 pub mod DeskTable
 pub mod DeskReading
+pub mod DeskExample

@@ -207,6 +207,11 @@ module _ (xs : List ℕ) (own : checkOwn xs ≡ Accepted) (first : checkFirst (r
       let f : Front (addRows [] builtIn) (blocksOf (withDesk xs)) = own-front in
       rw (f .all, table-blocks) (summary-behind (addRows [] builtIn) k (omega (arith, table-count)) (f .new ∷ f .others) i j)
 
+  pub desk-blocks : deskBlocks < length (blocksOf (withDesk xs))
+  desk-blocks =
+      let f : Front (addRows [] builtIn) (blocksOf (withDesk xs)) = own-front in
+      rw (f .all) (omega (arith, length-append (f .new ∷ f .others) (addRows [] builtIn), table-count))
+
   -- Each block of the table passes checks 9 and 10.
   stands : (k : ℕ) → k < deskBlocks → mayStand (blocksOf (withDesk xs)) k ≡ true
   unfolding mayStand
@@ -214,9 +219,7 @@ module _ (xs : List ℕ) (own : checkOwn xs ≡ Accepted) (first : checkFirst (r
       let f : Front (addRows [] builtIn) (blocksOf (withDesk xs)) = own-front in
       let j : joinsOf (blocksOf (withDesk xs)) k ≡ 2 =
       ap (λ bs. joinsOf bs k) (f .all) ∙ joins-behind (addRows [] builtIn) k (omega (arith, table-count)) (f .new ∷ f .others) ∙ table-run k h .joins in
-      let more : deskBlocks < length (blocksOf (withDesk xs)) =
-      rw (f .all) (omega (arith, length-append (f .new ∷ f .others) (addRows [] builtIn), table-count)) in
-      eq-else (suc k) (length (blocksOf (withDesk xs))) _ _ (λ e. omega arith) ∙ lt-then 0 (joinsOf (blocksOf (withDesk xs)) k) true false (omega arith)
+      eq-else (suc k) (length (blocksOf (withDesk xs))) _ _ (λ e. omega (arith, desk-blocks)) ∙ lt-then 0 (joinsOf (blocksOf (withDesk xs)) k) true false (omega arith)
 
   fits : (k : ℕ) → k < deskBlocks → totalFits (blocksOf (withDesk xs)) k ≡ true
   unfolding totalFits
