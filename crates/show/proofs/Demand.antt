@@ -1,4 +1,4 @@
--- Demands 2 and 3 as theorems about the entry points' answers: what they ensure says just this.
+-- Demands 2 and 3, and what Paper 4 demands, as theorems about the entry points' answers: what they ensure says just this.
 use Prim.Native.Nat.{ℕ}
 use mathlib.Core.Path.{_≡_, refl}
 use mathlib.Core.List.{List}
@@ -15,7 +15,7 @@ use Rattle.demands.proofs.Ring.{ring-accepted, noted-accepted, ring-stands}
 use Rattle.demands.proofs.Blocks.{are-blocks}
 use Rattle.demands.proofs.Refusals.{locate-refuses, out-refuses, in-refuses, row-refuses, fewest-refuses}
 use Rattle.demands.proofs.Checking.{write-checks, count-checks, locate-checks, number-checks, out-checks, in-checks, row-checks, fewest-checks}
-use Rattle.demands.proofs.Reading.{is-read}
+use Rattle.demands.proofs.Reading.{first-way, is-read}
 use Rattle.demands.proofs.Writing.{is-written}
 use Rattle.demands.proofs.Padding.{padded-file}
 use Rattle.demands.proofs.RoundTrips.{writes-back, reads-back, reads-again}
@@ -24,8 +24,12 @@ use Rattle.demands.proofs.Numbers.{is-count, is-number, is-located}
 use Rattle.demands.proofs.Lists.{list-out, list-in, pages-out, pages-in}
 use Rattle.demands.proofs.RowBehind.{is-row-behind}
 use Rattle.demands.proofs.Notes.{chain-links, old-figure, ring-unnoted, ring-noted}
-use Rattle.show.specs.Demand.{RightAgainstUnfolding, Demand2, Demand3}
+use Rattle.demands.proofs.DeskTable.{table-fact}
+use Rattle.demands.proofs.DeskReading.{is-desk-read, own-lines, desk-lawful, writes-whole}
+use Rattle.demands.proofs.DeskExample.{desk-file}
+use Rattle.show.specs.Demand.{RightAgainstUnfolding, Demand2, Demand3, Demand4}
 use Rattle.show.proofs.Shortest.{is-fewest, leaves-summaries}
+use Rattle.show.proofs.DeskWork.{has-table}
 
 -- Demand 2: of rows that keep the rules, of the rules, and of the round trips.
 right : (xs : List ℕ) → verdict xs ≡ Accepted → RightAgainstUnfolding xs
@@ -68,7 +72,7 @@ demand-2 =
           record {
             write-back = λ file out after rows blocks cues e. writes-back file out after (Read rows blocks cues) rows blocks cues e refl;
             read-back = λ xs out after bytes e. reads-back xs out after (Written bytes) bytes e refl;
-            read-again = reads-again;
+            read-again = reads-again first-way;
           };
       right = λ xs l. right xs (accepted-exactly xs .1 l);
     }
@@ -82,4 +86,17 @@ demand-3 =
       old-figure = old-figure;
       a-note = (accepted-exactly notedRing .0 noted-accepted, ring-noted);
       no-note = (accepted-exactly ring .0 ring-accepted, ring-unnoted);
+    }
+
+-- Document 02, Paper 4.
+pub demand-4 : Demand4
+demand-4 =
+    record {
+      table = table-fact;
+      read = is-desk-read;
+      places = own-lines;
+      lawful = desk-lawful;
+      round-trip = writes-whole;
+      work-area = has-table;
+      a-file = desk-file;
     }

@@ -62,7 +62,7 @@ module _ (xs : List ℕ) (v : verdict xs ≡ Accepted) (s t : ℕ) (work after :
   abbrev far : Distance
   far = fewest (showLinks bs) (count bs) s t
 
-  said : outcome (ofFewest r) after ≡ answer (distanceValues far) (workAfter bs work)
+  pub said : outcome (ofFewest r) after ≡ answer (distanceValues far) (workAfter bs work)
   unfolding fewestAsked fewestIn
   said = e ∙ on-yes (verdict xs) _ _ v ∙ has-room 16384 work _ room ∙ has-cue bs s work _ low high ∙ has-cue bs t work _ low′ high′
 

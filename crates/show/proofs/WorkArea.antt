@@ -33,7 +33,7 @@ module _ (xs work : List ℕ) (v : verdict xs ≡ Accepted) (room : 16384 ≤ le
   unfolding workAfter overwrite
   first p h = List·getD-append (summaries bs ++ zeros) (drop (length (summaries bs ++ zeros)) work) 0 p (omega (arith, written))
 
-  holds : (k i j : ℕ) → k < length bs → 1 ≤ i → i ≤ 8 → 1 ≤ j → j ≤ 8
+  pub holds : (k i j : ℕ) → k < length bs → 1 ≤ i → i ≤ 8 → 1 ≤ j → j ≤ 8
       → getD (workAfter bs work) (64 * k + 8 * (i - 1) + (j - 1)) 0 ≡ summary bs k i j
   holds k i j h a b c d =
       first (64 * k + 8 * (i - 1) + (j - 1)) (omega (arith, few))

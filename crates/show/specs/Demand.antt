@@ -1,11 +1,11 @@
--- Demands 2 and 3, of the answers that the entry points give, in the words of documents 01 and 02. What an entry point is asked and answers is known by
+-- Demands 2 and 3, and what document 02, Paper 4, demands, of the answers that the entry points give, in the words of documents 01 and 02. What an entry point is asked and answers is known by
 -- its promise (crates/demands/specs/Asking); the words are those of crates/demands/specs, a page for each part; for the text of a file, of
 -- crates/shows/specs/Files and crates/basics/specs/Values; for the work area, of WorkArea beside this page and crates/distances/specs/Demand.
-use Prim.Native.Nat.{ℕ, _*_, _≤_}
+use Prim.Native.Nat.{ℕ, _+_, _*_, _≤_, _<_}
 use mathlib.Core.Path.{_≡_}
 use mathlib.Core.Bool.{Bool}
 use mathlib.Core.List.{List, [], _∷_}
-use lib.ListN.{length, take}
+use lib.ListN.{length, getD, take}
 use Rattle.model.specs.Limits.{rowSize, maxDepth}
 use Rattle.model.specs.Blocks.{Link, blocksOf, count}
 use Rattle.model.specs.Unfolding.{showLinks}
@@ -24,7 +24,7 @@ use Rattle.model.specs.declared.RowAnswer.{RowAnswer}
 use Rattle.model.specs.declared.FewestAnswer.{FewestAnswer}
 use Rattle.model.specs.declared.FewestAnswer.the-variants.{Steps, None}
 use Rattle.distances.specs.Demand.{NoChain}
-use Rattle.demands.specs.Asking.{AsksRead, AsksWrite, AsksCount, AsksLocate, AsksNumber, AsksOut, AsksIn, AsksRow, AsksFewest}
+use Rattle.demands.specs.Asking.{AsksRead, AsksDeskRead, AsksWrite, AsksCount, AsksLocate, AsksNumber, AsksOut, AsksIn, AsksRow, AsksFewest}
 use Rattle.demands.specs.Acceptance.{nthRow, IsRow, Lawful, ChecksRows}
 use Rattle.demands.specs.Words.{Words}
 use Rattle.demands.specs.Blocks.{AreBlocks}
@@ -37,6 +37,7 @@ use Rattle.demands.specs.Numbers.{IsCount, IsLocated, IsNumber}
 use Rattle.demands.specs.Lists.{LinkedOut, LinkedIn, IsList, Pages, ArePages}
 use Rattle.demands.specs.RowBehind.{StandsAs, IsRowBehind}
 use Rattle.demands.specs.Notes.{IsNote, NoNotes, ChainLinks, OldFigure}
+use Rattle.demands.specs.Desk.{TableFact, DeskLawful, IsDeskRead, OwnLines, WritesWhole}
 use Rattle.show.specs.WorkArea.{IsWorkArea}
 
 -- Demand 2.
@@ -144,3 +145,24 @@ pub record Demand3 : Type 0 where
   pub old-figure : OldFigure
   pub a-note : Lawful notedRing × ((r : ℕ) × IsRow notedRing r × IsNote (nthRow notedRing r))
   pub no-note : Lawful ring × NoNotes ring
+
+-- Document 02, Paper 4: the blocks that come with the desk, and the second way of reading.
+
+-- "block k's summary is k + 2 from first join to second and none back": in the work area that an answer of fewest leaves.
+abbrev pub HasTable : List ℕ → Type 0
+HasTable after = (k : ℕ) → k < 16 → (getD after (64 * k + 1) 0 ≡ k + 2) × (getD after (64 * k + 8) 0 ≡ 4294967295)
+
+-- The table; what the second way answers, with which places; that what it leaves is a show for every question, is written as a whole file, and has the
+-- table's summaries; and there is a file that it reads.
+pub record Demand4 : Type 0 where
+  pub table : TableFact
+  pub read : (file out after : List ℕ) (r : ReadAnswer) → AsksDeskRead file out r after → IsDeskRead file out r after
+  pub places : (file out after : List ℕ) (r : ReadAnswer) → AsksDeskRead file out r after → OwnLines file r
+  pub lawful : (file out after : List ℕ) (rows blocks cues : ℕ) → AsksDeskRead file out (Read rows blocks cues) after → Lawful (take (rows * rowSize) after)
+  pub round-trip : (file out after : List ℕ) (rows blocks cues : ℕ) → AsksDeskRead file out (Read rows blocks cues) after
+      → (r : WriteAnswer) (out′ after′ : List ℕ) → AsksWrite (take (rows * rowSize) after) out′ r after′ → 65536 ≤ length out′
+      → WritesWhole file (Read rows blocks cues) (take (rows * rowSize) after) r after′
+  pub work-area : (file out after : List ℕ) (rows blocks cues : ℕ) → AsksDeskRead file out (Read rows blocks cues) after
+      → (s t : ℕ) (work after′ : List ℕ) (r : FewestAnswer) → 1 ≤ s → s ≤ cues → 1 ≤ t → t ≤ cues → 16384 ≤ length work
+      → AsksFewest (take (rows * rowSize) after) s t work r after′ → HasTable after′
+  pub a-file : (file xs : List ℕ) × SpellsFile file xs × DeskLawful xs
