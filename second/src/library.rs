@@ -4,6 +4,8 @@
 
 use crate::subject::Subject;
 
+/// The shape of both ways of reading.
+type Read = unsafe extern "C" fn(*const u8, usize, *mut u32, usize, *mut u32, usize) -> u64;
 /// The shape of the questions on two numbers: lists, fewest and row.
 type Pair =
     unsafe extern "C" fn(*const u32, usize, u32, u32, *mut u32, usize, *mut u32, usize) -> u64;
@@ -11,10 +13,18 @@ type Pair =
 // Safety of every call here: each pointer goes with the length of its own live slice,
 // and no two of the slices that are written overlap.
 
-pub fn read(file: &[u8], rows: &mut [u32], given: &mut [u32]) -> u64 {
+fn read_by(function: Read, file: &[u8], rows: &mut [u32], given: &mut [u32]) -> u64 {
     let (file, file_len) = (file.as_ptr(), file.len());
     let (rows, rows_len) = (rows.as_mut_ptr(), rows.len());
-    unsafe { show_sys::show_read(file, file_len, rows, rows_len, given.as_mut_ptr(), given.len()) }
+    unsafe { function(file, file_len, rows, rows_len, given.as_mut_ptr(), given.len()) }
+}
+
+pub fn read(file: &[u8], rows: &mut [u32], given: &mut [u32]) -> u64 {
+    read_by(show_sys::show_read, file, rows, given)
+}
+
+pub fn read_desk(file: &[u8], rows: &mut [u32], given: &mut [u32]) -> u64 {
+    read_by(show_sys::show_read_desk, file, rows, given)
 }
 
 pub fn write(rows: &[u32], out: &mut [u8], given: &mut [u32]) -> u64 {
@@ -74,5 +84,5 @@ pub fn row(rows: &[u32], s: u32, t: u32, path: &mut [u32], given: &mut [u32]) ->
 
 /// The library's functions.
 pub fn subject() -> Subject {
-    Subject { read, write, count, locate, number, list_out, list_in, fewest, row }
+    Subject { read, read_desk, write, count, locate, number, list_out, list_in, fewest, row }
 }

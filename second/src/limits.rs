@@ -12,6 +12,12 @@ pub const FOLLOWED: u32 = 254;
 pub const BLOCKS: usize = 128;
 /// Rows of a show.
 pub const ROWS: usize = 1024;
+/// Blocks that come with the desk.
+pub const DESK_BLOCKS: usize = 16;
+/// Rows of the blocks that come with the desk.
+pub const DESK_ROWS: usize = 168;
+/// Rows of a file that is read behind those of the desk.
+pub const OWN_ROWS: usize = ROWS - DESK_ROWS;
 /// Bytes of a file.
 pub const BYTES: usize = 65_536;
 /// Cues of a block.

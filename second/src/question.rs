@@ -1,13 +1,14 @@
 //! A question as data: what is asked, and how much room is lent for the answer.
 
-/// A file or rows.
+/// A file that is read as it is, a file that is read behind the desk's blocks, or rows.
 #[derive(Clone, Debug)]
 pub enum Input {
     File(Vec<u8>),
+    Desk(Vec<u8>),
     Rows(Vec<u32>),
 }
 
-/// One question on a file (`Read`) or on lent rows (all others).
+/// One question on a file (`Read`, the way that the input says) or on lent rows (all others).
 /// `room` is the length of the lent output.
 #[derive(Clone, Debug, PartialEq, Eq)]
 pub enum Question {

@@ -15,6 +15,7 @@ pub type Pair = fn(&[u32], u32, u32, &mut [u32], &mut [u32]) -> u64;
 #[derive(Clone, Copy)]
 pub struct Subject {
     pub read: Read,
+    pub read_desk: Read,
     pub write: Write,
     pub count: Count,
     pub locate: Locate,
@@ -39,6 +40,7 @@ impl Subject {
         let Lent { numbers, bytes, given } = lent;
         Some(match (input, question) {
             (Input::File(file), Question::Read { .. }) => (self.read)(file, numbers, given),
+            (Input::Desk(file), Question::Read { .. }) => (self.read_desk)(file, numbers, given),
             (Input::Rows(rows), question) => match question {
                 Question::Read { .. } => return None,
                 Question::Write { .. } => (self.write)(rows, bytes, given),
@@ -65,6 +67,8 @@ pub struct Lent<'a> {
 
 /// The plain implementation.
 pub fn plain() -> Subject {
-    use crate::plain::{count, fewest, list_in, list_out, locate, number, read, row, write};
-    Subject { read, write, count, locate, number, list_out, list_in, fewest, row }
+    use crate::plain::{
+        count, fewest, list_in, list_out, locate, number, read, read_desk, row, write,
+    };
+    Subject { read, read_desk, write, count, locate, number, list_out, list_in, fewest, row }
 }

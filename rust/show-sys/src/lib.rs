@@ -17,6 +17,12 @@ pub const ROW_LEN: usize = 11;
 pub const MAX_ROWS: usize = 1024;
 /// Numbers of the rows of any show, at most.
 pub const ROWS_LEN: usize = ROW_LEN * MAX_ROWS;
+/// Blocks that come with the desk, 0 and on.
+pub const DESK_BLOCKS: usize = 16;
+/// Rows of the blocks that come with the desk.
+pub const DESK_ROWS: usize = 168;
+/// Rows of a file that is read behind those of the desk, at most.
+pub const DESK_MAX_OWN_ROWS: usize = MAX_ROWS - DESK_ROWS;
 /// Bytes of a file, at most.
 pub const MAX_FILE: usize = 65_536;
 /// Cues of a show, at most.
@@ -49,6 +55,17 @@ pub const NO_CHAIN: u32 = 4_294_967_295;
 extern "C" {
     /// Reads a file to rows. given: rows, blocks, cues.
     pub fn show_read(
+        file: *const u8,
+        file_len: usize,
+        rows: *mut u32,
+        rows_len: usize,
+        given: *mut u32,
+        given_len: usize,
+    ) -> u64;
+
+    /// Reads a file to rows, behind the rows of the blocks that come with the desk. given: rows, blocks,
+    /// cues.
+    pub fn show_read_desk(
         file: *const u8,
         file_len: usize,
         rows: *mut u32,

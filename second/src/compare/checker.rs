@@ -69,6 +69,7 @@ impl<'a, 'b> Subjected<'a, 'b> {
     pub fn new(checker: &'b mut Checker<'a>, input: Input) -> Subjected<'a, 'b> {
         let known = match &input {
             Input::File(file) => Show::of_file(file),
+            Input::Desk(file) => Show::of_desk_file(file),
             Input::Rows(rows) => Show::of_rows(rows),
         };
         Subjected { checker, input, known }

@@ -3,6 +3,7 @@
 pub mod behind;
 pub mod big;
 pub mod checker;
+pub mod desk;
 pub mod notes;
 pub mod outcome;
 pub mod padded;
@@ -10,8 +11,10 @@ pub mod questions;
 pub mod random;
 pub mod report;
 pub mod round;
+pub mod table;
 
 /// Every fixed case.
 pub fn fixed() -> impl Iterator<Item = &'static big::Case> {
-    big::CASES.iter().chain(padded::CASES).chain(behind::CASES).chain(notes::CASES)
+    let cases = [big::CASES, padded::CASES, behind::CASES, notes::CASES, desk::CASES];
+    cases.into_iter().flatten()
 }

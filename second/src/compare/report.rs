@@ -14,9 +14,8 @@ const MOST: usize = 8;
 pub fn text(failure: &Failure) -> String {
     let mut text = String::new();
     match &failure.input {
-        Input::File(file) => {
-            let _ = writeln!(text, "file of {} bytes:\n{}", file.len(), file.escape_ascii());
-        }
+        Input::File(file) => told(&mut text, file, ""),
+        Input::Desk(file) => told(&mut text, file, ", read behind the desk's blocks"),
         Input::Rows(rows) => {
             let _ = writeln!(text, "{} numbers in rows:", rows.len());
             for row in rows.chunks(COLUMNS) {
@@ -32,6 +31,11 @@ pub fn text(failure: &Failure) -> String {
     differences(&mut text, "number", &expected.numbers, &actual.numbers);
     differences(&mut text, "byte", &expected.bytes, &actual.bytes);
     text
+}
+
+/// A file, and how it is read.
+fn told(text: &mut String, file: &[u8], way: &str) {
+    let _ = writeln!(text, "file of {} bytes{way}:\n{}", file.len(), file.escape_ascii());
 }
 
 fn listed(numbers: &[u32]) -> String {

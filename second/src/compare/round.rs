@@ -1,4 +1,5 @@
-//! Round trips: a file that is read, what was read written, and that read again.
+//! Round trips: a file that is read, what was read written, and that read again. What was read behind
+//! the desk's blocks is written as a whole file, and that is read as it is.
 
 use super::checker::{Checker, Subjected};
 use super::outcome::Call;
@@ -10,31 +11,32 @@ use crate::question::{Answer, Input, Question};
 impl Subjected<'_, '_> {
     /// Goes the round with a file that the naive tool reads.
     pub fn ask_round(&mut self) {
-        if let (Input::File(file), Ok(show)) = (&self.input, &self.known) {
-            round(self.checker, file, show);
+        if let Ok(show) = &self.known {
+            round(self.checker, &self.input, show);
         }
     }
 }
 
 /// Each step starts from what the implementation left in the one before. A failed step ends
 /// the round.
-fn round(checker: &mut Checker, file: &[u8], show: &Show) -> Option<()> {
+fn round(checker: &mut Checker, input: &Input, show: &Show) -> Option<()> {
     let unpadded = print(&show.rows);
-    let rows = read(checker, file, show)?;
+    let rows = read(checker, input, show)?;
     let written = write(checker, &rows, &unpadded)?;
-    if !is_padded(file) {
-        write(checker, &rows, file)?;
+    match input {
+        Input::File(file) if !is_padded(file) => drop(write(checker, &rows, file)?),
+        _ => {}
     }
-    read(checker, &written, show)?;
+    read(checker, &Input::File(written), show)?;
     Some(())
 }
 
 /// Reads a file that holds the show; gives the rows that were read.
-fn read(checker: &mut Checker, file: &[u8], show: &Show) -> Option<Vec<u32>> {
+fn read(checker: &mut Checker, input: &Input, show: &Show) -> Option<Vec<u32>> {
     let question = Question::Read { room: show.rows.len() * COLUMNS + 1 };
     let answer = show.answer(&question, GIVEN);
     let call = Call { question, given: GIVEN };
-    let outcome = checker.compare(&Input::File(file.to_vec()), call, &answer)?;
+    let outcome = checker.compare(input, call, &answer)?;
     let length = outcome.given[0] as usize * COLUMNS;
     checker.failure.is_none().then(|| outcome.numbers[..length].to_vec())
 }

@@ -1,6 +1,6 @@
 //! Writes rows one after the other.
 
-use crate::limits::{Row, JOINS};
+use crate::limits::{Row, DESK_BLOCKS, JOINS};
 
 /// Rows of a show in the making.
 #[derive(Clone, Debug, Default)]
@@ -10,6 +10,11 @@ pub struct Build {
 }
 
 impl Build {
+    /// Rows of a file that is read behind the desk's blocks: its first block has the next number.
+    pub fn behind_desk() -> Build {
+        Build { opened: DESK_BLOCKS as u32, ..Build::default() }
+    }
+
     /// Opens the next block and gives its number.
     pub fn open(&mut self, joins: u32, own: u32) -> u32 {
         self.opened += 1;

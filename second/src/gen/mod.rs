@@ -1,9 +1,10 @@
-//! Shows to ask about: the named ones, random ones, those with notes, padded files, and damaged
-//! files and rows.
+//! Shows to ask about: the named ones, random ones, those with notes, those on the desk's blocks,
+//! padded files, and damaged files and rows.
 
 pub mod behind;
 pub mod build;
 pub mod damage;
+pub mod desk;
 pub mod edges;
 pub mod known;
 pub mod notes;

@@ -5,7 +5,7 @@ use std::collections::BTreeSet;
 use super::build::Build;
 use super::notes;
 use super::prng::Prng;
-use crate::limits::BLOCKS;
+use crate::limits::{BLOCKS, DESK_BLOCKS};
 
 /// How large a random show may become.
 #[derive(Clone, Copy, Debug)]
@@ -41,10 +41,34 @@ struct Done {
     total: u64,
 }
 
+/// The blocks so far, with the rows that were made for them.
+#[derive(Default)]
+struct Made {
+    build: Build,
+    done: Vec<Done>,
+}
+
+impl Made {
+    /// The blocks that come with the desk, and no row yet.
+    fn desk() -> Made {
+        let done = (1..=DESK_BLOCKS as u64).map(|total| Done { joins: 2, total }).collect();
+        Made { build: Build::behind_desk(), done }
+    }
+}
+
 /// A random show of this shape, with notes among its links.
 pub fn show(prng: &mut Prng, shape: &Shape) -> Vec<u32> {
+    shaped(prng, shape, Made::default())
+}
+
+/// The rows of a file for the second way of reading: a random show of this shape, whose blocks also use
+/// those of the desk.
+pub fn desk_show(prng: &mut Prng, shape: &Shape) -> Vec<u32> {
+    shaped(prng, shape, Made::desk())
+}
+
+fn shaped(prng: &mut Prng, shape: &Shape, mut made: Made) -> Vec<u32> {
     let blocks = prng.within(shape.blocks.0, shape.blocks.1);
-    let (mut build, mut done) = (Build::default(), Vec::new());
     for k in 1..=blocks {
         let last = k == blocks;
         let joins = if last { 0 } else { prng.within(1, shape.joins) };
@@ -52,9 +76,9 @@ pub fn show(prng: &mut Prng, shape: &Shape) -> Vec<u32> {
         let uses = prng.within(0, shape.uses) as usize;
         let links = prng.within(0, shape.links) as usize;
         let counts = Counts { joins, own, links, uses, total: shape.total };
-        block(prng, &mut build, &mut done, &counts);
+        block(prng, &mut made, &counts);
     }
-    let mut rows = build.numbers();
+    let mut rows = made.build.numbers();
     notes::some(prng, &mut rows);
     rows
 }
@@ -69,18 +93,26 @@ fn own_cues(prng: &mut Prng, most: u32, last: bool) -> u32 {
 /// A random show of exactly this many rows, with about `per_block` rows to a block and at
 /// most `total` cues. Few of its links are notes: those that happen to have the last of 255 labels.
 pub fn sized(prng: &mut Prng, rows: usize, per_block: usize, total: u64) -> Vec<u32> {
-    let blocks = (rows / per_block).clamp(1, BLOCKS);
-    let (mut build, mut done) = (Build::default(), Vec::new());
+    filled(prng, rows, per_block, total, Made::default())
+}
+
+/// The same, as the rows of a file for the second way of reading: its blocks also use those of the desk.
+pub fn desk_sized(prng: &mut Prng, rows: usize, per_block: usize, total: u64) -> Vec<u32> {
+    filled(prng, rows, per_block, total, Made::desk())
+}
+
+fn filled(prng: &mut Prng, rows: usize, per_block: usize, total: u64, mut made: Made) -> Vec<u32> {
+    let blocks = (rows / per_block).clamp(1, BLOCKS - made.done.len());
     for k in 1..=blocks {
         let (joins, own) = (prng.within(1, 4), prng.within(2, 9));
         let joins = if k == blocks { 0 } else { joins };
-        let inside = rows * k / blocks - build.rows.len() - 1;
-        let uses = if k == 1 { 0 } else { prng.below(inside + 1) };
+        let inside = rows * k / blocks - made.build.rows.len() - 1;
+        let uses = if made.done.is_empty() { 0 } else { prng.below(inside + 1) };
         let counts = Counts { joins, own, links: inside - uses, uses, total };
-        block(prng, &mut build, &mut done, &counts);
+        block(prng, &mut made, &counts);
     }
-    assert_eq!(build.rows.len(), rows);
-    build.numbers()
+    assert_eq!(made.build.rows.len(), rows);
+    made.build.numbers()
 }
 
 /// The numbers of one block.
@@ -93,7 +125,8 @@ struct Counts {
 }
 
 /// Adds a block. Uses that find no place become links; links that find none are left out.
-fn block(prng: &mut Prng, build: &mut Build, done: &mut Vec<Done>, counts: &Counts) {
+fn block(prng: &mut Prng, made: &mut Made, counts: &Counts) {
+    let Made { build, done } = made;
     build.open(counts.joins, counts.own);
     let cues = counts.own + counts.joins;
     let mut total = u64::from(counts.own);

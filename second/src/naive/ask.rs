@@ -4,6 +4,7 @@ use std::cell::OnceCell;
 
 use super::behind::origins;
 use super::check::{check, cut, Block};
+use super::desk;
 use super::file::{parse, print};
 use super::print::at_line;
 use super::unfold::{unfold, Unfolding};
@@ -29,6 +30,11 @@ impl Show {
     /// The show in a file, or the refusal that reading gives.
     pub fn of_file(file: &[u8]) -> Result<Show, Refusal> {
         Show::of_rows(&parse(file)?.concat()).map_err(at_line)
+    }
+
+    /// The show in a file that is read the second way, or the refusal that this gives.
+    pub fn of_desk_file(file: &[u8]) -> Result<Show, Refusal> {
+        Show::of_rows(&desk::read(file)?)
     }
 
     /// The number of cues.

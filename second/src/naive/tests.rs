@@ -1,5 +1,6 @@
 //! The cases of the specification, for the naive tool.
 
+mod desk;
 mod notes;
 
 use super::ask::Show;

@@ -13,24 +13,30 @@ pub fn read(file: &[u8], rows: &mut [u32], given: &mut [u32]) -> Result<(), Refu
     if count > ROWS {
         return Err(Refusal { number: 4, place: 0 });
     }
-    let numbers = parsed[..count].as_flattened();
+    hand_out(&parsed[..count], rows, given).map_err(at_line)
+}
+
+/// Checks rows and copies them to where they are wanted; places are rows.
+pub fn hand_out(all: &[Row], rows: &mut [u32], given: &mut [u32]) -> Result<(), Refusal> {
+    let numbers = all.as_flattened();
     let mut room = EMPTY;
-    let show = Show::of(numbers, &mut room).map_err(at_line)?;
+    let show = Show::of(numbers, &mut room)?;
     if rows.len() < numbers.len() || given.len() < GIVEN {
         return Err(Refusal { number: 11, place: 0 });
     }
     rows[..numbers.len()].copy_from_slice(numbers);
-    given[..GIVEN].copy_from_slice(&[count as u32, show.count as u32, show.cues()]);
+    given[..GIVEN].copy_from_slice(&[all.len() as u32, show.count as u32, show.cues()]);
     Ok(())
 }
 
+/// A refusal of a row, at its line; others have no row.
 fn at_line(refusal: Refusal) -> Refusal {
-    let line = refusal.place + u32::from(refusal.number > 4);
+    let line = refusal.place + u32::from(refusal.place > 0);
     Refusal { place: line, ..refusal }
 }
 
 /// Parses all lines, keeps the first 1,024 and gives how many there are.
-fn parse(file: &[u8], rows: &mut [Row; ROWS]) -> Result<usize, Refusal> {
+pub fn parse(file: &[u8], rows: &mut [Row; ROWS]) -> Result<usize, Refusal> {
     if file.len() > BYTES {
         return Err(Refusal { number: 1, place: 0 });
     }

@@ -4,6 +4,7 @@
 mod check;
 mod codec;
 mod cues;
+mod desk;
 mod fewest;
 mod frame;
 mod lists;
@@ -15,6 +16,11 @@ use check::{Room, Show, EMPTY};
 /// Reads a file; given: rows, blocks, cues.
 pub fn read(file: &[u8], rows: &mut [u32], given: &mut [u32]) -> u64 {
     returned(codec::read(file, rows, given))
+}
+
+/// Reads a file behind the rows of the desk; given: rows, blocks, cues.
+pub fn read_desk(file: &[u8], rows: &mut [u32], given: &mut [u32]) -> u64 {
+    returned(desk::read(file, rows, given))
 }
 
 /// Writes rows as a file; given: length.
