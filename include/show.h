@@ -16,8 +16,11 @@
  *              answer needs; a longer one is welcome.
  *   Pointers   Valid for their lengths; the lists of one call do not overlap. With length 0 any pointer will do, NULL too.
  *              There is no other duty: every function answers for all bytes, rows, numbers and lengths.
- *   Rows       Eleven numbers each, as show_read leaves them: numbers 11 * (r - 1) and on are row r. Each call checks the rows again,
- *              so they may come from anywhere and may have been changed since. That took 4 to 8 ns a row.
+ *   Rows       Eleven numbers each, as show_read or show_read_desk leaves them: numbers 11 * (r - 1) and on are row r. Each call checks
+ *              the rows again, so they may come from anywhere and may have been changed since. That took 4 to 8 ns a row.
+ *   Files      There are two ways to read one. show_read takes it as it is. show_read_desk puts the SHOW_DESK_ROWS rows of the blocks
+ *              that come with each desk before its rows; its own blocks then begin with number SHOW_DESK_BLOCKS. Whichever way
+ *              a file was read, a place is its own line. Rows do not know how they were read: every function takes them.
  *   State      None. Nothing is allocated, nothing static is written, no call keeps a pointer: every function is reentrant, and calls
  *              that write to different lists may run at the same time.
  *   Stack      No call was seen to use more than 83 kB; the most seen stands at each function. SHOW_STACK_LEN is what the tests
@@ -31,9 +34,9 @@
 #include <stdint.h>
 
 /* The version of this header and of the library. The second number is raised by each change of what the functions answer. */
-#define SHOW_VERSION "0.4.0"
+#define SHOW_VERSION "0.5.0"
 #define SHOW_VERSION_MAJOR 0
-#define SHOW_VERSION_MINOR 4
+#define SHOW_VERSION_MINOR 5
 #define SHOW_VERSION_PATCH 0
 
 /* A compiler that can warns where what a function returns is not looked at. */
@@ -55,6 +58,9 @@ extern "C" {
 #define SHOW_ROW_LEN 11                               /* numbers of a row */
 #define SHOW_MAX_ROWS 1024                            /* rows of a show, at most */
 #define SHOW_ROWS_LEN (SHOW_ROW_LEN * SHOW_MAX_ROWS)  /* numbers of the rows of a show, at most */
+#define SHOW_DESK_BLOCKS 16                           /* blocks that come with the desk: 0 to 15 */
+#define SHOW_DESK_ROWS 168                            /* rows of the blocks that come with the desk */
+#define SHOW_DESK_MAX_OWN_ROWS 856                    /* rows of a file that show_read_desk reads, at most */
 #define SHOW_MAX_FILE 65536                           /* bytes of a file, at most */
 #define SHOW_MAX_VALUE 65535                          /* a value in a file, at most */
 #define SHOW_MAX_BLOCKS 128                           /* blocks of a show, at most */
@@ -76,7 +82,7 @@ enum {
     SHOW_FILE_TOO_LONG = 1,  /* over SHOW_MAX_FILE bytes */
     SHOW_BAD_NAMES = 2,      /* the first line of the file is not the line of names; place: 1 */
     SHOW_BAD_LINE = 3,       /* place: the first line of the file that is not eleven values */
-    SHOW_BAD_ROW_COUNT = 4,  /* a length that is no multiple of SHOW_ROW_LEN, no row, or over SHOW_MAX_ROWS */
+    SHOW_BAD_ROW_COUNT = 4,  /* a length that is no multiple of SHOW_ROW_LEN, no row, or over SHOW_MAX_ROWS, the desk's counted */
     SHOW_CANNOT_FOLLOW = 5,  /* block number or kind cannot follow here; place: row (of a file: line) */
     SHOW_OUT_OF_RANGE = 6,   /* a value out of its range, or an idle column that is not 0; place: row (of a file: line) */
     SHOW_NAMED_TWICE = 7,    /* a link or a use names a cue twice; place: row (of a file: line) */
@@ -126,9 +132,26 @@ static inline const char *show_refusal_text(uint32_t refusal) {
 SHOW_NODISCARD uint64_t show_read(const uint8_t *file, size_t file_len, uint32_t *rows, size_t rows_len, uint32_t *given,
                                   size_t given_len);
 
-/* Writes rows as a file, without leading zeros: a file that was read and had none comes back byte for byte, any other without them.
+/* Reads a file to rows, with the rows of the blocks that come with the desk before its own.
+ *   Blocks     0 to 15, in SHOW_DESK_ROWS rows. Block k is a run of k + 1 own cues with two joins: links of label 1 lead from its first
+ *              join to cue 1, from each own cue to the next, and from the last own cue to its second join, k + 2 follow-ons in
+ *              all. The program desk_blocks of the repository prints them.
+ *   file       Its own rows alone, 1 to SHOW_DESK_MAX_OWN_ROWS. The first one opens block SHOW_DESK_BLOCKS, and any block of the file can
+ *              use those of the desk. Its bytes, names and values are as for show_read, and so is its limit of bytes.
+ *   given      rows and blocks, the desk's counted, and cues
+ *   rows       output: 11 numbers for each of these rows, the desk's first. SHOW_ROWS_LEN is enough for every file.
+ *   Refusals   1 to 3; 4 for no row of its own, or over SHOW_DESK_MAX_OWN_ROWS; 5 at line 2 unless the first row opens block
+ *              SHOW_DESK_BLOCKS, also where it would go on with block 15; 5 to 10 over all rows, then 11 for rows or given. A
+ *              129th block, the desk's counted, is 5. Places of 3 and 5 to 10 are lines of the file: row r of all is line r - 167.
+ *   Writing    show_write makes a whole file of these rows, the desk's among them, that show_read reads to the same rows.
+ *   Cost       as show_read, and 2 us for the rows of the desk. Stack: 51 kB. */
+SHOW_NODISCARD uint64_t show_read_desk(const uint8_t *file, size_t file_len, uint32_t *rows, size_t rows_len, uint32_t *given,
+                                       size_t given_len);
+
+/* Writes rows as a file, without leading zeros: a file that show_read took in and that had none comes back byte for byte, any other
+ * without them. Of rows that show_read_desk gave it is a whole file, which show_read reads to the same rows.
  *   given      bytes of the file
- *   out        output. SHOW_MAX_FILE bytes are always enough (proved), and for rows that were read, as many as that file had.
+ *   out        output. SHOW_MAX_FILE bytes are always enough (proved), and for rows that show_read gave, as many as that file had.
  *   Refusals   4, 5 to 10 with rows as places, then 11 for out or given.
  *   Cost       14 us for 1,024 rows. Stack: 4 kB. */
 SHOW_NODISCARD uint64_t show_write(const uint32_t *rows, size_t rows_len, uint8_t *out, size_t out_len, uint32_t *given,
@@ -184,7 +207,8 @@ SHOW_NODISCARD uint64_t show_fewest(const uint32_t *rows, size_t rows_len, uint3
                                     uint32_t *given, size_t given_len);
 
 /* The row behind a follow-on that a list shows: a link row that joins cue s to cue t, and the copy of its block in which it does.
- *   given      row (from 1; of a file: line row + 1), depth of that copy
+ *   given      row (from 1), depth of that copy. In a file that was read with show_read it is line row + 1; with show_read_desk, line
+ *              row - 167, and a row up to SHOW_DESK_ROWS is the desk's and stands in no line.
  *   path       output: the path of that copy, depth numbers, each the position of a use in its block, from 1. At least SHOW_PATH_LEN,
  *              whatever the depth.
  *   Which one  Each copy counts whose block sees both cues, as own cues or as joins, and each label. Of several rows the one with the

@@ -1,4 +1,5 @@
-/* What include/show.h says beside the answers: constants, texts, lists of length 0 at NULL, pages of length 0, what a refusal leaves.
+/* What include/show.h says beside the answers: constants, texts, lists of length 0 at NULL, pages of length 0, what a refusal leaves,
+ * the blocks of the desk.
  * Ends with a line 'N passed, M failed'. */
 #include "show.h"
 
@@ -19,11 +20,18 @@ static void tell(int good, const char *what) {
 /* Two own cues, one link from the first to the second. */
 static const uint32_t rows[2 * SHOW_ROW_LEN] = {0, 0, 0, 2, 0, 0, 0, 0, 0, 0, 0, 0, 1, 7, 1, 2, 0, 0, 0, 0, 0, 0};
 static const char text[] = "block,kind,label,a,b,c,d,e,f,g,h\n0,0,0,2,0,0,0,0,0,0,0\n0,1,7,1,2,0,0,0,0,0,0\n";
-enum { MANY = sizeof rows / sizeof rows[0], LENGTH = sizeof text - 1 };
-static uint32_t given[SHOW_GIVEN_LEN], numbers[SHOW_WORK_LEN];
+/* Two own cues with the desk's last block between them. */
+static const char desk_text[] = "block,kind,label,a,b,c,d,e,f,g,h\n16,0,0,2,0,0,0,0,0,0,0\n16,2,15,1,2,0,0,0,0,0,0\n";
+enum { MANY = sizeof rows / sizeof rows[0], LENGTH = sizeof text - 1, DESK_LENGTH = sizeof desk_text - 1 };
+enum { DESK_MANY = (SHOW_DESK_ROWS + 2) * SHOW_ROW_LEN };
+static uint32_t given[SHOW_GIVEN_LEN], numbers[SHOW_WORK_LEN], desk_rows[SHOW_ROWS_LEN], again[SHOW_ROWS_LEN];
 static uint8_t out[SHOW_MAX_FILE];
 
 static uint64_t code(uint32_t refusal, uint32_t place) { return (uint64_t)refusal << 32 | place; }
+
+static uint64_t read_desk(const char *file, size_t length, uint32_t *to, size_t many, uint32_t *values, size_t count) {
+    return show_read_desk((const uint8_t *)file, length, to, many, values, count);
+}
 
 /* The texts of all refusals are there, in one line each, and no two are the same. */
 static void texts(void) {
@@ -48,6 +56,9 @@ static void nulls(void) {
     tell(show_read((const uint8_t *)text, LENGTH, NULL, 0, given, SHOW_GIVEN_LEN) == code(SHOW_TOO_SHORT, 0), "read to no rows");
     tell(show_read((const uint8_t *)text, LENGTH, numbers, SHOW_ROWS_LEN, NULL, 0) == code(SHOW_TOO_SHORT, 0), "read, no given");
     tell(show_read(NULL, 0, NULL, 0, NULL, 0) == code(SHOW_BAD_NAMES, 1), "read nothing");
+    tell(show_read_desk(NULL, 0, NULL, 0, NULL, 0) == code(SHOW_BAD_NAMES, 1), "read nothing behind the desk");
+    tell(read_desk(desk_text, DESK_LENGTH, NULL, 0, given, SHOW_GIVEN_LEN) == code(SHOW_TOO_SHORT, 0), "read behind the desk to no rows");
+    tell(read_desk(desk_text, DESK_LENGTH, numbers, SHOW_ROWS_LEN, NULL, 0) == code(SHOW_TOO_SHORT, 0), "read behind the desk, no given");
     tell(show_write(NULL, 0, out, SHOW_MAX_FILE, given, SHOW_GIVEN_LEN) == code(SHOW_BAD_ROW_COUNT, 0), "write no rows");
     tell(show_write(rows, MANY, NULL, 0, given, SHOW_GIVEN_LEN) == code(SHOW_TOO_SHORT, 0), "write to nothing");
     tell(show_write(rows, MANY, out, SHOW_MAX_FILE, NULL, 0) == code(SHOW_TOO_SHORT, 0), "write, no given");
@@ -110,6 +121,40 @@ static void notes(void) {
     tell(show_row(noted, MANY, 1, 2, numbers, SHOW_PATH_LEN, given, SHOW_GIVEN_LEN) == 0 && given[0] == 2, "a note has a row");
 }
 
+/* The desk's last block is a run of as many own cues as there are blocks of the desk, behind the file's first cue. */
+static void desk(void) {
+    static const uint32_t first[SHOW_ROW_LEN] = {0, 0, 2, 1}, last[SHOW_ROW_LEN] = {SHOW_DESK_BLOCKS - 1, 1, 1, 17, 1};
+    const uint32_t *own = desk_rows + SHOW_DESK_ROWS * SHOW_ROW_LEN;
+    tell(SHOW_DESK_ROWS + SHOW_DESK_MAX_OWN_ROWS == SHOW_MAX_ROWS, "the desk's rows and the file's are all");
+    tell(read_desk(desk_text, DESK_LENGTH, desk_rows, DESK_MANY, given, SHOW_GIVEN_LEN) == 0, "read behind the desk's rows exactly");
+    tell(given[0] == SHOW_DESK_ROWS + 2 && given[1] == SHOW_DESK_BLOCKS + 1 && given[2] == 18, "its rows, blocks and cues");
+    tell(memcmp(desk_rows, first, sizeof first) == 0 && memcmp(own - SHOW_ROW_LEN, last, sizeof last) == 0, "the desk's end rows");
+    tell(own[0] == SHOW_DESK_BLOCKS && own[3] == 2 && own[SHOW_ROW_LEN + 2] == SHOW_DESK_BLOCKS - 1, "the file's own rows behind them");
+    tell(show_fewest(desk_rows, DESK_MANY, 1, 2, numbers, SHOW_WORK_LEN, given, SHOW_GIVEN_LEN) == 0 && given[1] == 17, "through the run");
+    tell(show_fewest(desk_rows, DESK_MANY, 2, 1, numbers, SHOW_WORK_LEN, given, SHOW_GIVEN_LEN) == 0 && given[0] == 0, "and not back");
+    tell(numbers[1] == 2 && numbers[SHOW_SUMMARY_LEN * 15 + 1] == 17 && numbers[8] == SHOW_NO_CHAIN, "summaries of the desk's blocks");
+}
+
+/* Rows that were read behind the desk's are a whole file, which is read as it is; the desk's file is not. */
+static void whole(void) {
+    tell(show_write(desk_rows, DESK_MANY, out, SHOW_MAX_FILE, given, SHOW_GIVEN_LEN) == 0, "the whole file is written");
+    tell(show_read(out, given[0], again, SHOW_ROWS_LEN, given, SHOW_GIVEN_LEN) == 0 && given[0] == SHOW_DESK_ROWS + 2, "and read as it is");
+    tell(memcmp(again, desk_rows, DESK_MANY * sizeof again[0]) == 0, "to the same rows");
+    tell(show_read((const uint8_t *)desk_text, DESK_LENGTH, again, SHOW_ROWS_LEN, given, SHOW_GIVEN_LEN) == code(SHOW_CANNOT_FOLLOW, 2),
+         "a file for the desk is not read as it is");
+}
+
+/* What is refused behind the desk's rows, at lines of the file, changes nothing. */
+static void desk_refused(void) {
+    numbers[0] = 99, given[0] = 98;
+    tell(read_desk(text, LENGTH, numbers, SHOW_ROWS_LEN, given, SHOW_GIVEN_LEN) == code(SHOW_CANNOT_FOLLOW, 2), "a first row of block 0");
+    tell(read_desk(text, 33, numbers, SHOW_ROWS_LEN, given, SHOW_GIVEN_LEN) == code(SHOW_BAD_ROW_COUNT, 0), "no rows but the desk's");
+    tell(read_desk(desk_text, DESK_LENGTH - 1, numbers, 0, given, 0) == code(SHOW_BAD_LINE, 3), "no line feed");
+    tell(read_desk(desk_text, DESK_LENGTH, numbers, DESK_MANY - 1, given, SHOW_GIVEN_LEN) == code(SHOW_TOO_SHORT, 0), "all rows less 1");
+    tell(read_desk(desk_text, DESK_LENGTH, numbers, DESK_MANY, given, SHOW_GIVEN_LEN - 1) == code(SHOW_TOO_SHORT, 0), "desk, given less 1");
+    tell(numbers[0] == 99 && given[0] == 98, "a refused file behind the desk changes nothing");
+}
+
 /* What the constants say is enough is enough, and one less is too short. */
 static void sizes(void) {
     tell(show_read((const uint8_t *)text, LENGTH, numbers, MANY, given, SHOW_GIVEN_LEN) == 0 && given[0] == 2, "read exactly");
@@ -138,6 +183,9 @@ int main(void) {
     links();
     notes();
     sizes();
+    desk();
+    whole();
+    desk_refused();
     printf("%u passed, %u failed\n", passed, failed);
     return failed != 0;
 }

@@ -22,6 +22,9 @@
 //! # Ok::<(), show::Refused>(())
 //! ```
 //!
+//! A file whose blocks use those that come with the desk is read by [`Rows::read_desk`], any other by
+//! [`Rows::read`].
+//!
 //! Every call may be made from any number of threads at once: the library has no state. No call was
 //! seen to need more than 83 kB of stack; [`STACK_LEN`] is what the tests hold it to.
 #![no_std]
@@ -33,8 +36,9 @@ mod refused;
 pub use linked::Linked;
 pub use refused::{Place, Refused};
 pub use show_sys::{
-    MAX_BLOCKS, MAX_CUES, MAX_FILE, MAX_FOLLOWED, MAX_JOINS, MAX_LABEL, MAX_OWN, MAX_ROWS,
-    MAX_VALUE, NO_CHAIN, PATH_LEN, ROWS_LEN, ROW_LEN, STACK_LEN, SUMMARY_LEN, WORK_LEN,
+    DESK_BLOCKS, DESK_MAX_OWN_ROWS, DESK_ROWS, MAX_BLOCKS, MAX_CUES, MAX_FILE, MAX_FOLLOWED,
+    MAX_JOINS, MAX_LABEL, MAX_OWN, MAX_ROWS, MAX_VALUE, NO_CHAIN, PATH_LEN, ROWS_LEN, ROW_LEN,
+    STACK_LEN, SUMMARY_LEN, WORK_LEN,
 };
 
 /// The version of this crate, which is that of the library's header too.
@@ -50,12 +54,12 @@ pub struct Rows<'a> {
     numbers: &'a [u32],
 }
 
-/// A show that was read from a file.
+/// A show that was read from a file, whichever way.
 #[derive(Clone, Copy, Debug, PartialEq, Eq)]
 pub struct Loaded<'a> {
     /// The rows, at the beginning of the lent room.
     pub rows: Rows<'a>,
-    /// How many blocks the show has.
+    /// How many blocks the show has, those of the desk counted where they were read.
     pub blocks: u32,
     /// How many cues the show stands for.
     pub cues: u32,
@@ -76,7 +80,9 @@ pub struct Located<'p> {
 /// Where a link of the unfolded show comes from: a link row, in a copy of its block.
 #[derive(Clone, Copy, Debug, PartialEq, Eq)]
 pub struct Origin<'p> {
-    /// The row, from 1. In a file that was read it is line row + 1.
+    /// The row, from 1. In a file that [`Rows::read`] took in it is line row + 1; in one that
+    /// [`Rows::read_desk`] took in, line row - 167, and a row up to [`DESK_ROWS`] is the desk's and stands in
+    /// no line.
     pub row: u32,
     /// The uses that lead to the copy, each by its position in its block, from 1. Its length is
     /// the depth.
@@ -124,11 +130,55 @@ impl<'a> Rows<'a> {
     /// assert!(room.iter().all(|number| *number == 0));
     /// ```
     pub fn read(file: &[u8], room: &'a mut [u32]) -> Result<Loaded<'a>, Refused> {
+        Rows::read_by(show_sys::show_read, file, room)
+    }
+
+    /// Reads a file to the beginning of `room`, with the rows of the blocks that come with the desk before
+    /// its own.
+    ///
+    /// Those are blocks 0 to 15, [`DESK_ROWS`] rows. Block k is a run of k + 1 own cues with two joins:
+    /// links of label 1 lead from its first join to cue 1, from each own cue to the next, and from the
+    /// last own cue to its second join. The first row of the file opens block [`DESK_BLOCKS`], or it is
+    /// [`Refused::CannotFollow`] at line 2. It has no more than [`DESK_MAX_OWN_ROWS`] rows, as the limits on
+    /// rows and blocks count those of the desk; so do the rows and blocks that are given.
+    ///
+    /// Refusals are placed at lines of the file, and `room` is as for [`Rows::read`]. The rows are rows
+    /// like any other: [`Rows::write`] makes a whole file of them, which [`Rows::read`] reads to the same
+    /// rows.
+    ///
+    /// ```
+    /// use show::{Rows, DESK_BLOCKS, DESK_ROWS, MAX_FILE, ROWS_LEN, WORK_LEN};
+    ///
+    /// // Two cues, and the desk's block 3 between them: a run of four cues.
+    /// let file = b"block,kind,label,a,b,c,d,e,f,g,h\n\
+    ///     16,0,0,2,0,0,0,0,0,0,0\n\
+    ///     16,2,3,1,2,0,0,0,0,0,0\n";
+    /// let mut room = [0; ROWS_LEN];
+    /// let show = Rows::read_desk(file, &mut room)?;
+    /// assert_eq!((show.blocks as usize, show.cues), (DESK_BLOCKS + 1, 2 + 4));
+    /// assert_eq!(show.rows.numbers().len(), 11 * (DESK_ROWS + 2));
+    /// assert_eq!(show.rows.fewest(1, 2, &mut [0; WORK_LEN])?, Some(5));
+    /// assert_eq!(show.rows.fewest(2, 1, &mut [0; WORK_LEN])?, None);
+    ///
+    /// let mut out = [0; MAX_FILE];
+    /// let whole = show.rows.write(&mut out)?;
+    /// assert_eq!(Rows::read(whole, &mut [0; ROWS_LEN])?, show);
+    /// # Ok::<(), show::Refused>(())
+    /// ```
+    pub fn read_desk(file: &[u8], room: &'a mut [u32]) -> Result<Loaded<'a>, Refused> {
+        Rows::read_by(show_sys::show_read_desk, file, room)
+    }
+
+    fn read_by(
+        function: ReadFunction,
+        file: &[u8],
+        room: &'a mut [u32],
+    ) -> Result<Loaded<'a>, Refused> {
         let (len, to) = (room.len(), room.as_mut_ptr());
         // SAFETY: each pointer goes with the length of its own slice, and a slice that is written
         // overlaps no other. So it is in every call below.
         let call = |given, given_len| unsafe {
-            show_sys::show_read(file.as_ptr(), file.len(), to, len, given, given_len)
+            function(file.as_ptr(), file.len(), to, len, given, given_len)
         };
         let [many, blocks, cues] = ask(call, Place::Line)?;
         Ok(Loaded { rows: Rows::new(&room[..many as usize * ROW_LEN]), blocks, cues })
@@ -140,8 +190,9 @@ impl<'a> Rows<'a> {
     }
 
     /// Writes a file to the beginning of `out` and gives it; [`MAX_FILE`] bytes are enough for
-    /// all rows, fewer may be [`Refused::TooShort`]. Values are written without leading zeros: what was read from a file without any
-    /// comes back byte for byte.
+    /// all rows, fewer may be [`Refused::TooShort`]. Values are written without leading zeros: what [`Rows::read`] took in from a file
+    /// without any comes back byte for byte. What [`Rows::read_desk`] took in is written whole, with the rows
+    /// of the desk.
     ///
     /// ```
     /// use show::{Rows, MAX_FILE};
@@ -339,6 +390,7 @@ impl<'a> Rows<'a> {
     }
 }
 
+type ReadFunction = unsafe extern "C" fn(*const u8, usize, *mut u32, usize, *mut u32, usize) -> u64;
 type ListFunction =
     unsafe extern "C" fn(*const u32, usize, u32, u32, *mut u32, usize, *mut u32, usize) -> u64;
 

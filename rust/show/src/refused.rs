@@ -8,7 +8,7 @@ use core::fmt::{Display, Formatter, Result};
 pub enum Place {
     /// A row, from 1.
     Row(u32),
-    /// A line of the file, from 1; the first is the line of names, so row r is line r + 1.
+    /// A line of the file, from 1; the first is the line of names, so row r of the file is line r + 1.
     Line(u32),
 }
 
@@ -23,7 +23,8 @@ pub enum Refused {
     BadNames,
     /// 3: this line of the file is not eleven values.
     BadLine(u32),
-    /// 4: no row, more than 1,024, or a length of lent numbers that is no multiple of eleven.
+    /// 4: no row, more than 1,024 with those of the desk where they are read, or a length of lent numbers that is no
+    /// multiple of eleven. A file has rows of its own.
     BadRowCount,
     /// 5: block number or kind cannot follow here.
     CannotFollow(Place),

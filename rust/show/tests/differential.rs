@@ -5,7 +5,7 @@ use second::compare::{fixed, random, report};
 use second::gen::known;
 use second::library;
 use second::subject::Subject;
-use show::{Page, Place, Refused, Rows};
+use show::{Loaded, Page, Place, Refused, Rows};
 
 /// An answer as its C function gives it. Refusals of rows are placed at rows, those of a file at lines.
 fn told<const N: usize>(
@@ -35,16 +35,24 @@ fn short(given: &[u32]) -> bool {
     given.len() < show_sys::GIVEN_LEN
 }
 
+fn sizes(read: Loaded) -> [u32; 3] {
+    let numbers = read.rows.numbers().len();
+    assert_eq!(numbers % show::ROW_LEN, 0);
+    [(numbers / show::ROW_LEN) as u32, read.blocks, read.cues]
+}
+
 fn read(file: &[u8], rows: &mut [u32], given: &mut [u32]) -> u64 {
     if short(given) {
         return library::read(file, rows, given);
     }
-    let answer = Rows::read(file, rows).map(|read| {
-        let numbers = read.rows.numbers().len();
-        assert_eq!(numbers % show::ROW_LEN, 0);
-        [(numbers / show::ROW_LEN) as u32, read.blocks, read.cues]
-    });
-    told(answer, given, Place::Line)
+    told(Rows::read(file, rows).map(sizes), given, Place::Line)
+}
+
+fn read_desk(file: &[u8], rows: &mut [u32], given: &mut [u32]) -> u64 {
+    if short(given) {
+        return library::read_desk(file, rows, given);
+    }
+    told(Rows::read_desk(file, rows).map(sizes), given, Place::Line)
 }
 
 fn write(rows: &[u32], out: &mut [u8], given: &mut [u32]) -> u64 {
@@ -111,7 +119,7 @@ fn row(rows: &[u32], s: u32, t: u32, path: &mut [u32], given: &mut [u32]) -> u64
 }
 
 const CRATE: Subject =
-    Subject { read, write, count, locate, number, list_out, list_in, fewest, row };
+    Subject { read, read_desk, write, count, locate, number, list_out, list_in, fewest, row };
 
 fn compare(name: &str, case: impl FnOnce(&mut Checker)) {
     let mut checker = Checker::new(&CRATE);

@@ -23,6 +23,9 @@ fn lengths_and_limits() {
         ("SHOW_ROW_LEN", show::ROW_LEN),
         ("SHOW_MAX_ROWS", show::MAX_ROWS),
         ("SHOW_ROWS_LEN", show::ROWS_LEN),
+        ("SHOW_DESK_BLOCKS", show::DESK_BLOCKS),
+        ("SHOW_DESK_ROWS", show::DESK_ROWS),
+        ("SHOW_DESK_MAX_OWN_ROWS", show::DESK_MAX_OWN_ROWS),
         ("SHOW_MAX_FILE", show::MAX_FILE),
         ("SHOW_MAX_VALUE", show::MAX_VALUE as usize),
         ("SHOW_MAX_BLOCKS", show::MAX_BLOCKS),
@@ -43,7 +46,8 @@ fn lengths_and_limits() {
     }
     // Every length and limit of the header is in the list.
     let names = HEADER.lines().filter_map(|line| line.strip_prefix("#define ")?.split(' ').next());
-    for name in names.filter(|name| name.ends_with("_LEN") || name.starts_with("SHOW_MAX_")) {
+    let limit = |name: &&str| ["SHOW_MAX_", "SHOW_DESK_"].iter().any(|head| name.starts_with(head));
+    for name in names.filter(|name| name.ends_with("_LEN") || limit(name)) {
         assert!(constants.iter().any(|(listed, _)| *listed == name), "{name}");
     }
 }
