@@ -2,9 +2,10 @@
 
 use std::ffi::{OsStr, OsString};
 
-use crate::commands::{Behind, Command, Question, COMMANDS};
+use crate::commands::{Behind, Command, Question, COMMANDS, DESK};
 use crate::help;
 use crate::problem::Problem;
+use crate::way::Way;
 use crate::words::shown;
 
 /// What a command line asks for.
@@ -16,6 +17,8 @@ pub enum Asked {
     Of {
         /// The name of the file, or `-`.
         file: OsString,
+        /// How it is read.
+        way: Way,
         /// The question.
         question: Question,
     },
@@ -67,7 +70,7 @@ fn question(
     options: &[&OsString],
     words: &[&OsString],
 ) -> Result<Asked, String> {
-    let known = |word: &OsStr| command.option.is_some_and(|option| word == option);
+    let known = |word: &OsStr| command.options().any(|option| word == option);
     if let Some(word) = options.iter().find(|word| !known(word)) {
         return Err(unknown(word));
     }
@@ -78,8 +81,10 @@ fn question(
     if let Some(word) = rest.get(command.takes.len()) {
         return Err(too_many(word));
     }
-    let behind = Behind { words: rest, option: !options.is_empty() };
-    Ok(Asked::Of { file: file.into(), question: (command.question)(&behind)? })
+    let has = |option: &str| options.iter().any(|word| *word == option);
+    let behind = Behind { words: rest, option: command.option.is_some_and(has) };
+    let way = if has(DESK) { Way::Desk } else { Way::Alone };
+    Ok(Asked::Of { file: file.into(), way, question: (command.question)(&behind)? })
 }
 
 fn is_help(word: &OsStr) -> bool {

@@ -2,7 +2,7 @@
 
 use std::io::Write;
 
-use show::{Linked, Loaded, Refused, Rows, PATH_LEN, ROWS_LEN, WORK_LEN};
+use show::{Linked, Loaded, Refused, Rows, MAX_FILE, PATH_LEN, ROWS_LEN, WORK_LEN};
 
 use crate::blocks::rows_of;
 use crate::commands::Question;
@@ -11,22 +11,30 @@ use crate::input::Input;
 use crate::links::{Labelled, MOST_CUES};
 use crate::picture::{self, Undrawn};
 use crate::problem::Problem;
+use crate::way::Way;
 
 /// A show that the library accepts, and the file that it was read from.
 struct Show<'a> {
     input: &'a Input,
+    way: Way,
     read: Loaded<'a>,
 }
 
 /// One of the two questions that a list answers.
 type Lists<'a> = fn(&Rows<'a>, u32) -> Result<Linked<'a>, Refused>;
 
-/// Prints the answer to a question about a file.
-pub fn of_input(input: &Input, question: &Question, out: &mut impl Write) -> Result<(), Problem> {
+/// Prints the answer to a question about a file that is read so.
+pub fn of_input(
+    input: &Input,
+    way: Way,
+    question: &Question,
+    out: &mut impl Write,
+) -> Result<(), Problem> {
     let mut room = vec![0; ROWS_LEN];
-    let read = Rows::read(&input.bytes, &mut room)
-        .map_err(|said| refused(input, explain::file(&input.bytes, input.size, said)))?;
-    Show { input, read }.answer(question, out)
+    let read = way
+        .read(&input.bytes, &mut room)
+        .map_err(|said| refused(input, explain::file(&input.bytes, input.size, way, said)))?;
+    Show { input, way, read }.answer(question, out)
 }
 
 fn refused(input: &Input, explained: Explained) -> Problem {
@@ -51,6 +59,7 @@ impl<'a> Show<'a> {
             Question::Fewest(s, t) => self.fewest(s, t, out)?,
             Question::Row(s, t) => self.row(s, t, out)?,
             Question::Links => self.links(out)?,
+            Question::Write => self.write(out)?,
             Question::Picture { unfolded } => out.write_all(self.picture(unfolded)?.as_bytes())?,
         }
         Ok(())
@@ -82,8 +91,16 @@ impl<'a> Show<'a> {
             self.read.rows.row(s, t, &mut path).map_err(|said| self.no_link(said, s, t))?;
         let (row, depth, steps) = (origin.row, origin.path.len(), joined(origin.path));
         let values = rows_of(&self.read)[row as usize - 1].map(|value| value.to_string());
+        let line = self.way.line(row as usize).map_or("-".to_string(), |line| line.to_string());
         writeln!(out, "row,line,depth,path,{NAMES}")?;
-        Ok(writeln!(out, "{row},{},{depth},{steps},{}", row + 1, values.join(","))?)
+        Ok(writeln!(out, "{row},{line},{depth},{steps},{}", values.join(","))?)
+    }
+
+    /// The file that the library writes. It always has room, so the rows are never refused here.
+    fn write(&self, out: &mut impl Write) -> Result<(), Problem> {
+        let mut file = vec![0; MAX_FILE];
+        let written = self.read.rows.write(&mut file).map_err(|said| self.no_cue(said, &[]))?;
+        Ok(out.write_all(written)?)
     }
 
     /// What the unfolding program prints.

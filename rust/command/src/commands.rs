@@ -30,6 +30,8 @@ pub enum Question {
     Row(u32, u32),
     /// All links of the unfolded show.
     Links,
+    /// Its rows as a file.
+    Write,
     /// A picture of the blocks, or of the unfolded show.
     Picture {
         /// Whether it is that of the unfolded show.
@@ -41,7 +43,7 @@ pub enum Question {
 pub struct Command {
     /// Its name.
     pub word: &'static str,
-    /// An option that it has.
+    /// An option that it has beside the one that all have.
     pub option: Option<&'static str>,
     /// The names of the words behind FILE.
     pub takes: &'static [&'static str],
@@ -53,17 +55,25 @@ pub struct Command {
     pub question: fn(&Behind) -> Result<Question, String>,
 }
 
+/// The option of every command: the file is read behind the blocks that come with the desk.
+pub const DESK: &str = "--desk";
+
 impl Command {
+    /// The options that it has.
+    pub fn options(&self) -> impl Iterator<Item = &'static str> {
+        [DESK].into_iter().chain(self.option)
+    }
+
     /// How it is written.
     pub fn usage(&self) -> String {
-        let option = self.option.map(|option| format!(" [{option}]")).unwrap_or_default();
+        let options: String = self.options().map(|option| format!(" [{option}]")).collect();
         let takes: String = self.takes.iter().map(|name| format!(" {name}")).collect();
-        format!("show {}{option} FILE{takes}", self.word)
+        format!("show {}{options} FILE{takes}", self.word)
     }
 }
 
 /// All commands, in the order in which `--help` lists them.
-pub const COMMANDS: [Command; 10] = [
+pub const COMMANDS: [Command; 11] = [
     Command {
         word: "check",
         option: None,
@@ -137,7 +147,8 @@ pub const COMMANDS: [Command; 10] = [
             cue S to cue T: its number, its line in the file, how many uses lead to the copy in\n\
             which it joins them and the path to that copy, and the row itself. Of several rows it\n\
             is the one with the shortest path, then with the path that is smaller at the first step\n\
-            where they differ, then the smaller row. A change of it changes all copies of its block.",
+            where they differ, then the smaller row. A change of it changes all copies of its block.\n\
+            A row that comes with the desk is in no line of the file: its line is -",
         question: |behind| Ok(Question::Row(behind.number(0)?, behind.number(1)?)),
     },
     Command {
@@ -148,6 +159,16 @@ pub const COMMANDS: [Command; 10] = [
         prints: "`from,to,label` and all links of the unfolded show, rising, each once; for a\n\
             show of over 1,000 cues `cues` and how many it has. So does the unfolding program.",
         question: |_| Ok(Question::Links),
+    },
+    Command {
+        word: "write",
+        option: None,
+        takes: &[],
+        says: "the file as the library writes it",
+        prints: "the file that the library writes for the rows of FILE: values have no zeros in front.\n\
+            With --desk that is a whole file, in which the desk's rows stand before its own; it is\n\
+            read without --desk, to the same rows.",
+        question: |_| Ok(Question::Write),
     },
     Command {
         word: "picture",

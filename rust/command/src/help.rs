@@ -5,7 +5,7 @@ use crate::commands::{Command, COMMANDS};
 const HEAD: &str = "\
 show: questions about a show file, answered by the proved library
 
-usage: show COMMAND FILE ...
+usage: show COMMAND [--desk] FILE ...
        show COMMAND --help
        show --help       also -h, or help
        show --version    also -V
@@ -14,6 +14,8 @@ usage: show COMMAND FILE ...
 
 const FOOT: &str = "
 FILE      a show file; - is standard input. A name that begins with a dash is written with ./ before it.
+--desk    FILE is read behind the sixteen blocks that come with the desk, 0 to 15: its first row opens
+          block 16, and it can use them. Rows and blocks are counted with them; lines are those of FILE.
 N, CUE, S, T
           a number from 0 to 4294967295. Cues of the show are numbered from 1; CUE of `number` is an own
           cue of its block, from 1.
@@ -22,7 +24,7 @@ PATH      the uses that lead from the show down to a copy, each by its position 
 
 An answer goes to standard output as lines of values with commas between them, below a line with their
 names; so the unfolding program prints links. A path is one value, its steps joined by points. Only
-`picture` prints something else, text for Graphviz. Words go to standard error.
+`write` and `picture` print something else, a show file and text for Graphviz. Words go to standard error.
 
 exit status  0  an answer; also `none`, and an answer that nobody wanted to read to its end
              1  a refusal of the library: its number, line and column, and what is wrong there
@@ -46,6 +48,6 @@ pub fn all() -> String {
 /// The help for one command.
 pub fn of(command: &Command) -> String {
     let rest =
-        "`show --help` says what FILE and the other words are, and what an exit status means.";
+        "`show --help` says what FILE, --desk and the other words are, and what an exit status means.";
     format!("usage: {}\n\nprints {}\n\n{rest}\n", command.usage(), command.prints)
 }

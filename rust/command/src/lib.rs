@@ -14,6 +14,7 @@ pub mod input;
 pub mod links;
 pub mod picture;
 pub mod problem;
+pub mod way;
 pub mod words;
 
 use std::ffi::OsString;
@@ -37,7 +38,9 @@ fn done(asked: Asked) -> Result<(), Problem> {
     let mut out = BufWriter::new(io::stdout().lock());
     match asked {
         Asked::Text(text) => out.write_all(text.as_bytes())?,
-        Asked::Of { file, question } => ask::of_input(&Input::read(&file)?, &question, &mut out)?,
+        Asked::Of { file, way, question } => {
+            ask::of_input(&Input::read(&file)?, way, &question, &mut out)?
+        }
     }
     Ok(out.flush()?)
 }

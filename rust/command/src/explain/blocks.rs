@@ -4,17 +4,17 @@ use show::MAX_CUES;
 
 use super::{Cause, Column, Explained, Fault};
 use crate::blocks::{of_rows, Block, Row};
+use crate::way::Way;
 use crate::words::Grouped;
 
-/// What is wrong first in rows that pass checks 4 to 8.
-pub fn checked(rows: &[Row]) -> Option<Explained> {
-    let blocks = of_rows(rows);
+/// What is wrong first in rows of a file that pass checks 4 to 8. The blocks of the desk are never wrong.
+pub fn checked(rows: &[Row], way: Way) -> Option<Explained> {
+    let blocks = of_rows(&[&way.rows_before(), rows].concat());
     let numbered = || blocks.iter().enumerate();
     let last = blocks.len().saturating_sub(1);
-    let at = |block: &Block, fault| Explained::at(block.row + 1, fault);
-    let cannot_stand =
-        numbered().find_map(|(k, block)| Some(at(block, cannot_stand(block, k == last)?)));
-    cannot_stand.or_else(|| numbered().find_map(|(k, block)| Some(at(block, too_large(block, k)?))))
+    let at = |block: &Block, fault| Some(Explained::at(way.line(block.row)?, fault));
+    let cannot_stand = numbered().find_map(|(k, block)| at(block, cannot_stand(block, k == last)?));
+    cannot_stand.or_else(|| numbered().find_map(|(k, block)| at(block, too_large(block, k)?)))
 }
 
 /// Check 9: the last block is the show, and every other can be used.

@@ -91,13 +91,23 @@ causes! {
 
     4 NoRows() "there are no rows behind the names; a show has 1 to 1,024"
     4 TooManyRows(rows: Grouped) "there are {rows} rows; a show has 1 to 1,024"
+    4 DeskNoRows() "there are no rows behind the names; a file that is read with the desk's blocks has 1 to 856 of its own"
+    4 DeskTooManyRows(rows: Grouped)
+        "there are {rows} rows; a file that is read with the desk's blocks has 1 to 856, with the desk's 168 that is 1,024"
 
     5 Kind(kind: u32) "{kind}; a kind is 0 to 2: an opening, a link or a use"
     5 FirstKind(kind: u32) "{kind}; the first row opens block 0, so this must be 0"
     5 FirstBlock(block: u32) "{block}; the first block that is opened is block 0, so this must be 0"
+    5 MeantForDesk(block: u32)
+        "{block}; the first block that is opened is block 0, so this must be 0, unless the file is for the desk: then say --desk"
+    5 DeskFirstKind(kind: u32)
+        "{kind}; the first row of a file that is read with the desk's blocks opens block 16, so this must be 0"
+    5 DeskFirstBlock(block: u32)
+        "{block}; the desk's blocks are 0 to 15, and the first row of the file opens the next one, so this must be 16"
     5 Jumps(block: u32, next: usize) "{block}; blocks are opened without a gap, so this must be {next}"
     5 OpenedAgain(block: u32, next: usize) "{block}; that block is opened already, so this must be {next}"
     5 TooManyBlocks() "this opens a 129th block; a show has at most 128"
+    5 DeskTooManyBlocks() "this opens a 129th block, the desk's sixteen counted; a show has at most 128"
     5 NotOpened(block: u32, open: usize)
         "{block}; that block is not opened: its opening is missing before this line, or this must be {open}"
     5 Left(block: u32, open: usize) "{block}; that block ended where block {open} was opened, so this must be {open}"

@@ -17,6 +17,7 @@ use std::fmt::{Display, Formatter};
 use show::{Place, Refused};
 
 use crate::blocks::Row;
+use crate::way::Way;
 
 pub use cause::Cause;
 
@@ -98,9 +99,9 @@ impl Display for Explained {
     }
 }
 
-/// Explains the refusal of a file. Its size is known for files that are not read whole.
-pub fn file(file: &[u8], size: Option<u64>, refused: Refused) -> Explained {
-    agreed(found(file, size), refused)
+/// Explains the refusal of a file that is read so. Its size is known for files that are not read whole.
+pub fn file(file: &[u8], size: Option<u64>, way: Way, refused: Refused) -> Explained {
+    agreed(found(file, size, way), refused)
 }
 
 /// Explains the refusal of a question about these cues of a show that has so many.
@@ -120,11 +121,11 @@ pub fn path(refused: Refused, rows: &[Row], path: &[u32], own: u32) -> Explained
     agreed(question::path(rows, path, own), refused)
 }
 
-/// What is wrong first in the text of a file; nothing where it is a show file.
-pub fn found(file: &[u8], size: Option<u64>) -> Option<Explained> {
+/// What is wrong first in the text of a file that is read so; nothing where it is a show file.
+pub fn found(file: &[u8], size: Option<u64>, way: Way) -> Option<Explained> {
     match text::rows(file, size) {
         Err(explained) => Some(explained),
-        Ok(rows) => rows::checked(&rows).or_else(|| blocks::checked(&rows)),
+        Ok(rows) => rows::checked(&rows, way).or_else(|| blocks::checked(&rows, way)),
     }
 }
 

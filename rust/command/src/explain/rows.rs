@@ -1,20 +1,18 @@
 //! Refusals 4 to 8: how many rows there are, and each row behind those before it.
 
-use show::{MAX_BLOCKS, MAX_JOINS, MAX_LABEL, MAX_OWN, MAX_ROWS};
+use show::{DESK_BLOCKS, MAX_BLOCKS, MAX_JOINS, MAX_LABEL, MAX_OWN};
 
 use super::{Cause, Column, Explained, Fault};
 use crate::blocks::{Row, LINK, OPENING, USE};
+use crate::way::Way;
 use crate::words::{Grouped, Many};
 
-/// What is wrong first in these rows by checks 4 to 8.
-pub fn checked(rows: &[Row]) -> Option<Explained> {
-    if rows.is_empty() {
-        return Some(Explained::of(Cause::NoRows {}));
+/// What is wrong first in these rows of a file by checks 4 to 8.
+pub fn checked(rows: &[Row], way: Way) -> Option<Explained> {
+    if rows.is_empty() || rows.len() > way.most_rows() {
+        return Some(Explained::of(bad_count(rows.len(), way)));
     }
-    if rows.len() > MAX_ROWS {
-        return Some(Explained::of(Cause::TooManyRows { rows: Grouped(rows.len() as u64) }));
-    }
-    let mut seen = Seen::default();
+    let mut seen = Seen::before_the_file(way);
     for (row, line) in rows.iter().zip(2..) {
         if let Some(fault) = seen.fault(row) {
             return Some(Explained::at(line, fault));
@@ -24,18 +22,37 @@ pub fn checked(rows: &[Row]) -> Option<Explained> {
     None
 }
 
+/// Check 4: too few or too many rows.
+fn bad_count(many: usize, way: Way) -> Cause {
+    let rows = Grouped(many as u64);
+    match (many, way) {
+        (0, Way::Alone) => Cause::NoRows {},
+        (0, Way::Desk) => Cause::DeskNoRows {},
+        (_, Way::Alone) => Cause::TooManyRows { rows },
+        (_, Way::Desk) => Cause::DeskTooManyRows { rows },
+    }
+}
+
 /// What the checks of a row know of the rows before it.
-#[derive(Default)]
 struct Seen {
+    /// How the file is read.
+    way: Way,
     /// The joins of each block opened so far.
     joins: Vec<u32>,
     /// The own cues of the block opened last.
     own: u32,
-    /// The row before, unless this is the first.
+    /// The row before, unless this is the first of the file.
     before: Option<Row>,
 }
 
 impl Seen {
+    /// Before the first row of a file.
+    fn before_the_file(way: Way) -> Seen {
+        let mut seen = Seen { way, joins: Vec::new(), own: 0, before: None };
+        way.rows_before().iter().for_each(|row| seen.add(row));
+        Seen { before: None, ..seen }
+    }
+
     fn add(&mut self, row: &Row) {
         if row[1] == OPENING {
             self.joins.push(row[2]);
@@ -61,7 +78,7 @@ impl Seen {
         let at = |column, cause| Some((Some(column), cause));
         match (kind, &self.before) {
             (OPENING, _) => self.not_next(block),
-            (LINK | USE, None) => at(Column::KIND, Cause::FirstKind { kind }),
+            (LINK | USE, None) => at(Column::KIND, self.first_kind(kind)),
             (LINK | USE, Some(before)) => {
                 self.not_open(block).or_else(|| match (before[1], kind) {
                     (USE, LINK) => at(Column::KIND, Cause::LinkBehindUse {}),
@@ -76,13 +93,35 @@ impl Seen {
     fn not_next(&self, block: u32) -> Option<Fault> {
         let next = self.joins.len();
         let cause = match block as usize {
-            _ if next == MAX_BLOCKS => return Some((None, Cause::TooManyBlocks {})),
+            _ if next == MAX_BLOCKS => return Some((None, self.too_many_blocks())),
             opened if opened == next => return None,
-            _ if next == 0 => Cause::FirstBlock { block },
+            _ if self.before.is_none() => self.first_block(block),
             opened if opened > next => Cause::Jumps { block, next },
             _ => Cause::OpenedAgain { block, next },
         };
         Some((Some(Column::BLOCK), cause))
+    }
+
+    fn first_kind(&self, kind: u32) -> Cause {
+        match self.way {
+            Way::Alone => Cause::FirstKind { kind },
+            Way::Desk => Cause::DeskFirstKind { kind },
+        }
+    }
+
+    fn first_block(&self, block: u32) -> Cause {
+        match self.way {
+            Way::Alone if block as usize == DESK_BLOCKS => Cause::MeantForDesk { block },
+            Way::Alone => Cause::FirstBlock { block },
+            Way::Desk => Cause::DeskFirstBlock { block },
+        }
+    }
+
+    fn too_many_blocks(&self) -> Cause {
+        match self.way {
+            Way::Alone => Cause::TooManyBlocks {},
+            Way::Desk => Cause::DeskTooManyBlocks {},
+        }
     }
 
     /// A block that is not the open one.

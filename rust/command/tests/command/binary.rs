@@ -7,14 +7,17 @@ use std::process::{Command, Stdio};
 use second::gen::known;
 use show_command::commands::COMMANDS;
 
-use crate::common::{file_of, noted_ring, ring, said, started};
+use crate::common::{desk_run, file_of, noted_ring, ring, said, started};
 
 const RING: &str = "shows/ring.csv";
 const NOTED: &str = "shows/noted_ring.csv";
+const DESK: &str = "shows/desk_run.csv";
+const RING_FILE: &str = include_str!("../../../../shows/ring.csv");
 const BLOCKS: &str = include_str!("../../src/picture/ring-blocks.dot");
 const UNFOLDED: &str = include_str!("../../src/picture/ring-unfolded.dot");
 
-/// Every command on the ring, and some on the ring with a note, with what they print.
+/// Every command on the ring, some on the ring with a note, and some on a show on the desk's blocks, with
+/// what they print.
 const ANSWERS: &[(&[&str], &str)] = &[
     (&["check", RING], "blocks,rows,cues\n3,9,5\n"),
     (&["count", RING], "cues\n5\n"),
@@ -51,6 +54,32 @@ const ANSWERS: &[(&[&str], &str)] = &[
     (&["links", "shows/tower31.csv"], "cues\n2147483647\n"),
     (&["links", NOTED], "from,to,label\n1,5,1\n2,1,255\n3,4,1\n4,2,1\n5,3,1\n"),
     (&["links", RING], "from,to,label\n1,5,1\n2,1,2\n3,4,1\n4,2,1\n5,3,1\n"),
+    (&["write", RING], RING_FILE),
+    (&["check", "--desk", DESK], "blocks,rows,cues\n18,177,20\n"),
+    (&["check", DESK, "--desk"], "blocks,rows,cues\n18,177,20\n"),
+    (&["count", "--desk", DESK], "cues\n20\n"),
+    (&["locate", "--desk", DESK, "20"], "depth,block,own,path\n2,4,5,3.2\n"),
+    (&["number", "--desk", DESK, "3.2", "5"], "cue\n20\n"),
+    (&["out", "--desk", DESK, "1"], "to\n2\n7\n"),
+    (&["in", "--desk", DESK, "2"], "from\n1\n3\n6\n15\n"),
+    (&["fewest", "--desk", DESK, "1", "3"], "fewest\n11\n"),
+    (&["fewest", DESK, "1", "--desk", "2"], "fewest\n9\n"),
+    (
+        &["row", "--desk", DESK, "3", "1"],
+        "row,line,depth,path,block,kind,label,a,b,c,d,e,f,g,h\n174,7,0,-,17,1,7,3,1,0,0,0,0,0,0\n",
+    ),
+    (
+        &["row", "--desk", DESK, "3", "2"],
+        "row,line,depth,path,block,kind,label,a,b,c,d,e,f,g,h\n170,3,1,3,16,1,255,2,3,0,0,0,0,0,0\n",
+    ),
+    (
+        &["row", "--desk", DESK, "12", "3"],
+        "row,line,depth,path,block,kind,label,a,b,c,d,e,f,g,h\n2,-,1,2,0,1,1,1,3,0,0,0,0,0,0\n",
+    ),
+    (
+        &["row", "--desk", DESK, "1", "7"],
+        "row,line,depth,path,block,kind,label,a,b,c,d,e,f,g,h\n25,-,2,1.2,4,1,1,6,1,0,0,0,0,0,0\n",
+    ),
     (&["picture", RING], BLOCKS),
     (&["picture", "--unfolded", RING], UNFOLDED),
     (&["picture", RING, "--unfolded"], UNFOLDED),
@@ -72,7 +101,7 @@ fn the_version_is_that_of_the_library() {
 
 #[test]
 fn a_dash_is_standard_input() {
-    for (name, file) in [(RING, ring()), (NOTED, noted_ring())] {
+    for (name, file) in [(RING, ring()), (NOTED, noted_ring()), (DESK, desk_run())] {
         for (words, printed) in ANSWERS.iter().filter(|(words, _)| words.contains(&name)) {
             let words: Vec<&str> =
                 words.iter().map(|word| if *word == name { "-" } else { word }).collect();
@@ -93,6 +122,10 @@ const WRONG: &[(&[&str], &str)] = &[
     (&["check", RING, RING], "check: 'shows/ring.csv' is one word too many"),
     (&["check", "--unfolded", RING], "check: unknown word '--unfolded'"),
     (&["picture", "--folded", RING], "picture: unknown word '--folded'"),
+    (&["check", "--desks", DESK], "check: unknown word '--desks'"),
+    (&["check", "--desk"], "check: FILE is missing"),
+    (&["fewest", "--desk", DESK, "1"], "fewest: T is missing"),
+    (&["write", RING, "1"], "write: '1' is one word too many"),
     (&["count", RING, "1"], "count: '1' is one word too many"),
     (&["locate", RING], "locate: N is missing"),
     (&["locate", RING, "one"], "locate: 'one' is no number"),
@@ -162,6 +195,18 @@ fn help_lists_every_command() {
 }
 
 #[test]
+fn help_says_what_comes_with_the_desk() {
+    let (last, next) = (show::DESK_BLOCKS - 1, show::DESK_BLOCKS);
+    let (_, help, _) = said(&["--help"], b"");
+    assert!(help.contains(&format!(
+        "come with the desk, 0 to {last}: its first row opens\n          block {next}"
+    )));
+    for command in &COMMANDS {
+        assert!(command.usage().contains(" [--desk]"), "{}", command.word);
+    }
+}
+
+#[test]
 fn help_says_which_label_is_not_followed() {
     let note = format!("with label {}, are", show::MAX_FOLLOWED + 1);
     for word in ["fewest", "picture"] {
@@ -187,6 +232,53 @@ fn a_refusal_is_explained_by_every_command() {
             assert_eq!(said(&words, file), (1, String::new(), told), "{words:?}");
         }
     }
+}
+
+#[test]
+fn a_refusal_behind_the_desk_is_explained_by_every_command() {
+    let explained =
+        "line 2, block: 0; the desk's blocks are 0 to 15, and the first row of the file \
+        opens the next one, so this must be 16 (refusal 5)";
+    for command in &COMMANDS {
+        let numbers = command.takes.iter().map(|_| "1");
+        let words: Vec<&str> = [command.word, "--desk", "-"].into_iter().chain(numbers).collect();
+        let told = format!("show: standard input: {explained}\n");
+        assert_eq!(said(&words, &ring()), (1, String::new(), told), "{words:?}");
+    }
+}
+
+#[test]
+fn a_whole_file_is_written_and_read_again() {
+    let (status, whole, told) = said(&["write", "--desk", DESK], b"");
+    assert_eq!((status, told.as_str()), (0, ""));
+    assert_eq!(whole.lines().count(), 1 + 168 + 9);
+    let (names, rows) = whole.split_once('\n').expect("a line of names");
+    let own = String::from_utf8(desk_run()).expect("a file is text");
+    let (own_names, own) = own.split_once('\n').expect("a line of names");
+    assert!(names == own_names && rows.starts_with("0,0,2,1,0,") && rows.ends_with(own));
+    for (words, printed) in ANSWERS.iter().filter(|(words, _)| words.contains(&DESK)) {
+        // A whole file has lines for all rows.
+        let words = words.iter().filter(|word| **word != "--desk" && words[0] != "row");
+        let words: Vec<&str> = words.map(|word| if *word == DESK { "-" } else { word }).collect();
+        if !words.is_empty() {
+            let answer = said(&words, whole.as_bytes());
+            assert_eq!(answer, (0, printed.to_string(), String::new()), "{words:?}");
+        }
+    }
+}
+
+#[test]
+fn the_blocks_of_the_desk_are_drawn() {
+    let (_, blocks, _) = said(&["picture", "--desk", DESK], b"");
+    assert_eq!(blocks.matches("subgraph").count(), 18);
+    assert!(
+        blocks.contains("block 15: total 16\"") && blocks.contains("block 17, the show: total 20")
+    );
+    let (_, unfolded, _) = said(&["picture", "--unfolded", "--desk", DESK], b"");
+    assert_eq!(unfolded.matches("subgraph").count(), 8);
+    assert!(
+        unfolded.contains("path 3, 2: block 4") && unfolded.contains(" 20 -> 13 [label=\"1\"];")
+    );
 }
 
 #[test]
@@ -291,7 +383,9 @@ fn a_name_may_have_any_bytes() {
 #[test]
 fn a_full_disk_is_said() {
     let full = || File::options().write(true).open("/dev/full").expect("there is such a file");
-    for words in [&["check", RING][..], &["links", RING], &["picture", RING], &["--help"]] {
+    let answers: [&[&str]; 5] =
+        [&["check", RING], &["links", RING], &["write", RING], &["picture", RING], &["--help"]];
+    for words in answers {
         let mut command = Command::new(env!("CARGO_BIN_EXE_show"));
         command.args(words).current_dir(concat!(env!("CARGO_MANIFEST_DIR"), "/../.."));
         let output = command.stdout(full()).output().expect("the command ends");

@@ -4,6 +4,7 @@
 use std::collections::BTreeMap;
 
 use show_command::explain::{Cause, Column, Explained};
+use show_command::way::Way;
 
 use crate::common::NAMES;
 use crate::{explained, files};
@@ -51,6 +52,7 @@ fn value(file: &[u8], line: u32, column: Column) -> std::ops::Range<usize> {
 
 /// A refused file, with what is said of it.
 struct Broken<'a> {
+    way: Way,
     file: &'a [u8],
     line: u32,
     column: Column,
@@ -62,7 +64,7 @@ impl Broken<'_> {
     fn with(&self, column: Column, text: &str) -> Option<Explained> {
         let mut file = self.file.to_vec();
         file.splice(value(self.file, self.line, column), text.bytes());
-        explained::of(&file)
+        explained::of(self.way, &file)
     }
 
     /// Whether this column is refused by the same number then. A kind that is known may still be
@@ -149,18 +151,18 @@ impl std::fmt::Display for Broken<'_> {
 }
 
 /// Causes that name a column.
-const WITH_COLUMN: usize = 40;
+const WITH_COLUMN: usize = 43;
 
 #[test]
 fn another_value_in_the_named_column_helps() {
     let mut seen: BTreeMap<&str, u32> = BTreeMap::new();
-    files::each(|file| {
-        let Some(found) = explained::of(file) else { return };
+    files::each(|way, file| {
+        let Some(found) = explained::of(way, file) else { return };
         let (Some(line), Some(column)) = (found.line, found.column) else { return };
         let name = found.cause.name();
         let times = seen.entry(name).or_default();
         *times += 1;
-        let broken = Broken { file, line, column, found };
+        let broken = Broken { way, file, line, column, found };
         // A longer value must not make the file too long. A value that is no number comes up in
         // thousands of files, so not all of those are tried.
         if file.len() + 5 <= show::MAX_FILE && *times < 2000 {

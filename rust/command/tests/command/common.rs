@@ -5,11 +5,12 @@ use std::process::{Child, Command, Output, Stdio};
 use std::thread;
 
 use second::naive::file::print;
-use show::{Refused, Rows, ROWS_LEN};
+use show::{Refused, ROWS_LEN};
 use show_command::ask;
 use show_command::commands::Question;
 use show_command::input::Input;
 use show_command::problem::Problem;
+use show_command::way::Way;
 
 /// The line of names.
 pub const NAMES: &str = "block,kind,label,a,b,c,d,e,f,g,h\n";
@@ -29,17 +30,22 @@ pub fn noted_ring() -> Vec<u8> {
     file_of(&second::gen::known::ring_back(2, second::gen::notes::NOTE))
 }
 
-/// The library's refusal of a file.
-pub fn refusal(file: &[u8]) -> Option<Refused> {
-    Rows::read(file, &mut [0; ROWS_LEN]).err()
+/// The file of the sample show on the desk's blocks.
+pub fn desk_run() -> Vec<u8> {
+    file_of(&second::gen::desk::desk_run())
 }
 
-/// What the command prints for a question about a file, asked in this process.
-pub fn asked(file: &[u8], question: &Question) -> Result<String, Problem> {
+/// The library's refusal of a file that is read so.
+pub fn refusal(way: Way, file: &[u8]) -> Option<Refused> {
+    way.read(file, &mut [0; ROWS_LEN]).err()
+}
+
+/// What the command prints for a question about a file that is read so, asked in this process.
+pub fn asked(way: Way, file: &[u8], question: &Question) -> Result<String, Problem> {
     let name = || "show.csv".to_string();
     let input = Input { name: name(), title: name(), bytes: file.to_vec(), size: None };
     let mut out = Vec::new();
-    ask::of_input(&input, question, &mut out)?;
+    ask::of_input(&input, way, question, &mut out)?;
     Ok(String::from_utf8(out).expect("the command prints text"))
 }
 

@@ -7,6 +7,7 @@ use second::gen::random;
 use show::{Place, Refused, Rows, PATH_LEN, ROWS_LEN};
 use show_command::blocks::rows_of;
 use show_command::explain::{self, Cause, Explained};
+use show_command::way::Way;
 
 use crate::common::{file_of, refusal};
 use crate::files;
@@ -20,15 +21,15 @@ fn placed(refused: Refused) -> (u32, Option<u32>) {
     (refused.number(), line)
 }
 
-/// What is wrong with a file, after a look at what the library says of it.
-pub fn of(file: &[u8]) -> Option<Explained> {
-    let found = explain::found(file, None);
-    let refused = refusal(file);
+/// What is wrong with a file that is read so, after a look at what the library says of it.
+pub fn of(way: Way, file: &[u8]) -> Option<Explained> {
+    let found = explain::found(file, None, way);
+    let refused = refusal(way, file);
     let (by_us, by_library) =
         (found.as_ref().map(|found| (found.number, found.line)), refused.map(placed));
     assert_eq!(by_us, by_library, "{found:?}\n{}", file.escape_ascii());
     if let (Some(found), Some(refused)) = (&found, refused) {
-        let explained = explain::file(file, None, refused);
+        let explained = explain::file(file, None, way, refused);
         assert_eq!(&explained, found);
         assert_eq!(found.cause.number(), found.number);
     }
@@ -46,14 +47,14 @@ fn of_files() -> impl Iterator<Item = &'static &'static str> {
 #[test]
 fn number_and_line_are_those_of_the_library() {
     let (mut seen, mut files, mut accepted): (BTreeMap<&str, u32>, u32, u32) = Default::default();
-    files::each(|file| {
+    files::each(|way, file| {
         files += 1;
-        match of(file) {
+        match of(way, file) {
             Some(found) => *seen.entry(found.cause.name()).or_default() += 1,
             None => accepted += 1,
         }
     });
-    assert!(files > 100_000 && accepted > 1000, "{files} files, {accepted} accepted");
+    assert!(files > 200_000 && accepted > 2000, "{files} files, {accepted} accepted");
     let unseen: Vec<&&str> = of_files().filter(|name| !seen.contains_key(*name)).collect();
     assert!(unseen.is_empty(), "no file had {unseen:?}; seen: {seen:?}");
 }

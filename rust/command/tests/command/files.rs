@@ -1,25 +1,38 @@
-//! Files that may be broken, from all generators.
+//! Files that may be broken, from all generators, each with a way to read it.
 
 use second::gen::prng::Prng;
-use second::gen::{damage, edges, known, padding, random};
-use second::limits::{BYTES, COLUMNS};
+use second::gen::{damage, desk, edges, known, padding, random};
+use second::limits::{BYTES, COLUMNS, OWN_ROWS};
+use show_command::way::Way;
 
 use crate::common::{file_of, NAMES};
 
-/// Damaged files of random shows.
+/// Damaged files of random shows, for each way.
 const DAMAGED: u64 = 24_000;
 /// Changed rows of each known show.
 const CHANGED: u64 = 60;
 
 /// Looks at every file.
-pub fn each(mut look: impl FnMut(&[u8])) {
-    (0..DAMAGED).for_each(|case| look(&damaged(&mut Prng::new(11, case))));
-    (0..DAMAGED / 4).for_each(|case| look(&spoiled(&mut Prng::new(12, case))));
-    for (rows, seed) in known_shows().into_iter().zip(100..) {
+pub fn each(mut look: impl FnMut(Way, &[u8])) {
+    for way in [Way::Alone, Way::Desk] {
+        each_of(way, |file| look(way, file));
+    }
+    // Files for the other way.
+    for (alone, desk) in edges::bases().iter().zip(desk::bases()) {
+        edges::near_rows(&desk).iter().for_each(|rows| look(Way::Alone, &file_of(rows)));
+        look(Way::Desk, &file_of(alone));
+    }
+}
+
+/// Looks at every file for one way.
+fn each_of(way: Way, mut look: impl FnMut(&[u8])) {
+    (0..DAMAGED).for_each(|case| look(&damaged(&mut Prng::new(11, case), way)));
+    (0..DAMAGED / 4).for_each(|case| look(&spoiled(&mut Prng::new(12, case), way)));
+    for (rows, seed) in known_shows(way).into_iter().zip(100..) {
         look(&file_of(&rows));
         (0..CHANGED).for_each(|case| look(&changed(&mut Prng::new(seed, case), &rows)));
     }
-    for rows in edges::bases() {
+    for rows in bases(way) {
         let file = file_of(&rows);
         let padded = padding::to_digits(&file, padding::DIGITS);
         edges::near_rows(&rows).iter().for_each(|rows| look(&file_of(rows)));
@@ -27,13 +40,23 @@ pub fn each(mut look: impl FnMut(&[u8])) {
         edges::near_values(&file).iter().for_each(|file| look(file));
         edges::near_values(&padded).iter().for_each(|file| look(file));
     }
-    lengths().iter().for_each(|file| look(file));
+    lengths(way).iter().for_each(|file| look(file));
+}
+
+fn bases(way: Way) -> Vec<Vec<u32>> {
+    match way {
+        Way::Alone => edges::bases(),
+        Way::Desk => desk::bases(),
+    }
 }
 
 /// A random show, in a file that is padded now and then.
-fn random_file(prng: &mut Prng, rows_too: bool) -> Vec<u8> {
+fn random_file(prng: &mut Prng, way: Way, rows_too: bool) -> Vec<u8> {
     let shape = if prng.one_in(8) { &random::LARGER } else { prng.pick(&random::SHAPES) };
-    let mut rows = random::show(prng, shape);
+    let mut rows = match way {
+        Way::Alone => random::show(prng, shape),
+        Way::Desk => random::desk_show(prng, shape),
+    };
     if rows_too {
         damage::rows(prng, &mut rows);
     }
@@ -46,9 +69,9 @@ fn random_file(prng: &mut Prng, rows_too: bool) -> Vec<u8> {
 }
 
 /// Damage in the text, in the rows, or in both.
-fn damaged(prng: &mut Prng) -> Vec<u8> {
+fn damaged(prng: &mut Prng, way: Way) -> Vec<u8> {
     let (rows, text) = *prng.pick(&[(true, false), (false, true), (true, true)]);
-    let mut file = random_file(prng, rows);
+    let mut file = random_file(prng, way, rows);
     if text {
         damage::file(prng, &mut file);
     }
@@ -56,9 +79,9 @@ fn damaged(prng: &mut Prng) -> Vec<u8> {
 }
 
 /// What other programs do to a file of values.
-fn spoiled(prng: &mut Prng) -> Vec<u8> {
+fn spoiled(prng: &mut Prng, way: Way) -> Vec<u8> {
     let rows = prng.one_in(2);
-    let mut file = random_file(prng, rows);
+    let mut file = random_file(prng, way, rows);
     let wide = |file: &[u8]| file.iter().flat_map(|byte| [*byte, 0]).collect::<Vec<u8>>();
     match prng.below(9) {
         0 => swap(&mut file, b"\n", b"\r\n"),
@@ -91,7 +114,18 @@ fn swap(file: &mut Vec<u8>, from: &[u8], to: &[u8]) {
     *file = parts.join(to);
 }
 
-fn known_shows() -> Vec<Vec<u32>> {
+/// The known shows, with the numbers that their blocks have behind those of the desk, and shows on
+/// these.
+fn known_shows(way: Way) -> Vec<Vec<u32>> {
+    let mut shows = all_known();
+    if way == Way::Desk {
+        shows = shows.iter().map(|rows| desk::moved(rows)).collect();
+        shows.extend([desk::all_runs(), desk::longest(), desk::desk_run()]);
+    }
+    shows
+}
+
+fn all_known() -> Vec<Vec<u32>> {
     vec![
         known::ring(),
         known::long_ring(9),
@@ -111,6 +145,8 @@ fn known_shows() -> Vec<Vec<u32>> {
         known::five_blocks(),
         known::labelled(1001),
         known::millions(),
+        edges::many_blocks(112),
+        edges::many_blocks(113),
         edges::many_blocks(127),
         edges::many_blocks(128),
         edges::many_blocks(129),
@@ -126,8 +162,11 @@ fn changed(prng: &mut Prng, rows: &[u32]) -> Vec<u8> {
 }
 
 /// Files around the longest length and around the most rows.
-fn lengths() -> Vec<Vec<u8>> {
-    let wide = known::wide(1024);
+fn lengths(way: Way) -> Vec<Vec<u8>> {
+    let wide = match way {
+        Way::Alone => known::wide(1024),
+        Way::Desk => desk::wide(OWN_ROWS),
+    };
     let file = file_of(&wide);
     let mut files: Vec<Vec<u8>> = [0, 1, BYTES - 1, BYTES, BYTES + 1, 100_000]
         .into_iter()

@@ -3,8 +3,10 @@
 use std::collections::BTreeMap;
 
 use second::limits::Row;
+use second::naive::desk::table;
 use second::naive::file::parse;
 use show_command::explain::{Cause, Explained};
+use show_command::way::Way;
 use show_command::words::{Grouped, Many};
 
 use crate::common::NAMES;
@@ -64,18 +66,28 @@ fn totals(rows: &[Row]) -> Vec<u128> {
     totals
 }
 
+/// The rows that stand before those of a file.
+fn before(way: Way) -> Vec<Row> {
+    match way {
+        Way::Alone => Vec::new(),
+        Way::Desk => table(),
+    }
+}
+
 /// Looks at an explanation that is not of one line's text.
-fn hold_rows(file: &[u8], found: &Explained) {
-    let rows = parse(file).unwrap_or_default();
-    let row = found.line.map_or(0, |line| line as usize - 2);
+fn hold_rows(way: Way, file: &[u8], found: &Explained) {
+    let before = before(way);
+    let row = found.line.map_or(0, |line| before.len() + line as usize - 2);
+    let rows = [before, parse(file).unwrap_or_default()].concat();
     match found.cause {
         Cause::TooLongToRead {} => assert!(file.len() > 65_536),
-        Cause::NoRows {} => assert_eq!(file, NAMES.as_bytes()),
-        Cause::TooManyRows { rows: Grouped(many) } => {
+        Cause::NoRows {} | Cause::DeskNoRows {} => assert_eq!(file, NAMES.as_bytes()),
+        Cause::TooManyRows { rows: Grouped(many) }
+        | Cause::DeskTooManyRows { rows: Grouped(many) } => {
             assert_eq!(many as usize, lines(file).len() - 1);
-            assert!(many > 1024);
+            assert!(rows.len() > 1024);
         }
-        Cause::TooManyBlocks {} => {
+        Cause::TooManyBlocks {} | Cause::DeskTooManyBlocks {} => {
             let opened = rows[..=row].iter().filter(|row| row[1] == 0).count();
             assert_eq!(opened, 129);
         }
@@ -90,30 +102,30 @@ fn hold_rows(file: &[u8], found: &Explained) {
     }
 }
 
-/// Looks at what is said of a file.
-fn hold(file: &[u8], found: &Explained) {
+/// Looks at what is said of a file that is read so.
+fn hold(way: Way, file: &[u8], found: &Explained) {
     let lines = lines(file);
     let place = found.line.map_or(0, |line| line as usize - 1);
     let line = lines.get(place).copied().unwrap_or_default();
-    let Some(mended) = mended(line, &found.cause) else { return hold_rows(file, found) };
+    let Some(mended) = mended(line, &found.cause) else { return hold_rows(way, file, found) };
     let (before, behind) = (&lines[..place], lines.get(place + 1..).unwrap_or_default());
     let better = [&before.concat()[..], &mended, &behind.concat()].concat();
-    let then = explained::of(&better).map(|then| (then.line, then.cause.name()));
+    let then = explained::of(way, &better).map(|then| (then.line, then.cause.name()));
     assert_ne!(then, Some((found.line, found.cause.name())), "{}", file.escape_ascii());
 }
 
 /// Causes of files that name no column.
-const WITHOUT_COLUMN: usize = 29;
+const WITHOUT_COLUMN: usize = 32;
 
 #[test]
 fn the_line_set_right_helps() {
     let mut seen: BTreeMap<&str, u32> = BTreeMap::new();
-    files::each(|file| {
-        let Some(found) = explained::of(file).filter(|found| found.column.is_none()) else {
+    files::each(|way, file| {
+        let Some(found) = explained::of(way, file).filter(|found| found.column.is_none()) else {
             return;
         };
         *seen.entry(found.cause.name()).or_default() += 1;
-        hold(file, &found);
+        hold(way, file, &found);
     });
     assert_eq!(seen.len(), WITHOUT_COLUMN, "{seen:?}");
 }

@@ -1,13 +1,15 @@
 //! Answers held to the naive tool's, on named and random shows.
 
 use second::gen::prng::Prng;
-use second::gen::{edges, known, random};
+use second::gen::{desk, edges, known, padding, random};
 use second::limits::{PATH, WORK};
 use second::naive::ask::Show;
+use second::naive::file::print;
 use second::naive::print::printed;
 use second::question::{self, Answer};
 use show_command::commands::Question;
 use show_command::problem::Problem;
+use show_command::way::Way;
 
 use crate::common::{asked, file_of, said, NAMES};
 
@@ -38,7 +40,7 @@ fn links_are_those_that_the_naive_tool_prints() {
     shows.extend((0..400).map(|case| random_show(21, case)));
     for rows in shows {
         let file = file_of(&rows);
-        let links = asked(&file, &Question::Links).expect("an accepted show");
+        let links = asked(Way::Alone, &file, &Question::Links).expect("an accepted show");
         assert!(links == printed(&file), "{}", String::from_utf8_lossy(&file));
     }
 }
@@ -67,8 +69,40 @@ fn naive(question: &Question) -> question::Question {
     }
 }
 
+/// A file, how it is read, and the show that it is to the naive tool.
+struct Read {
+    way: Way,
+    file: Vec<u8>,
+    show: Show,
+}
+
+impl Read {
+    fn alone(rows: &[u32]) -> Read {
+        let (file, show) = (file_of(rows), Show::of_rows(rows).expect("an accepted show"));
+        Read { way: Way::Alone, file, show }
+    }
+
+    fn desk(own: &[u32]) -> Read {
+        let file = file_of(own);
+        let show = Show::of_desk_file(&file).expect("an accepted show");
+        Read { way: Way::Desk, file, show }
+    }
+
+    /// The line of a row, where it is not one of the desk, and its values; in the file they are the same.
+    fn row(&self, row: u32) -> (String, String) {
+        let before = if self.way == Way::Desk { 168 } else { 0 };
+        let values = self.show.rows[row as usize - 1].map(|value| value.to_string()).join(",");
+        let Some(own) = row.checked_sub(before).filter(|own| *own > 0) else {
+            return ("-".to_string(), values);
+        };
+        let file = std::str::from_utf8(&self.file).expect("a file is digits and commas");
+        assert_eq!(file.lines().nth(own as usize), Some(&values[..]));
+        ((own + 1).to_string(), values)
+    }
+}
+
 /// The naive tool's answer as the command prints it.
-fn text(file: &[u8], question: &Question, Answer { given, numbers, .. }: Answer) -> String {
+fn text(read: &Read, question: &Question, Answer { given, numbers, .. }: Answer) -> String {
     let lines = |numbers: &[u32]| numbers.iter().map(|cue| format!("{cue}\n")).collect::<String>();
     let steps: Vec<String> = numbers.iter().map(u32::to_string).collect();
     let path = if steps.is_empty() { "-".to_string() } else { steps.join(".") };
@@ -77,10 +111,8 @@ fn text(file: &[u8], question: &Question, Answer { given, numbers, .. }: Answer)
             format!("depth,block,own,path\n{},{},{},{path}\n", given[0], given[1], given[2])
         }
         Question::Row(..) => {
-            let file = std::str::from_utf8(file).expect("a file is digits and commas");
-            let (row, line) = (given[0], given[0] as usize + 1);
-            let text = file.lines().nth(line - 1).expect("there is such a line");
-            format!("row,line,depth,path,{NAMES}{row},{line},{},{path},{text}\n", given[1])
+            let (row, (line, values)) = (given[0], read.row(given[0]));
+            format!("row,line,depth,path,{NAMES}{row},{line},{},{path},{values}\n", given[1])
         }
         Question::Number { .. } => format!("cue\n{}\n", given[0]),
         Question::Out(_) => format!("to\n{}", lines(&numbers)),
@@ -91,18 +123,18 @@ fn text(file: &[u8], question: &Question, Answer { given, numbers, .. }: Answer)
 }
 
 /// The answer of both, or the number of the refusal.
-fn hold(file: &[u8], show: &Show, question: &Question) {
-    let expected = match show.answer(&naive(question), 3) {
-        Ok(answer) => Ok(text(file, question, answer)),
+fn hold(read: &Read, question: &Question) {
+    let expected = match read.show.answer(&naive(question), 3) {
+        Ok(answer) => Ok(text(read, question, answer)),
         Err(refusal) => Err(format!("(refusal {})", refusal.number)),
     };
-    let answered = asked(file, question).map_err(|problem| match problem {
+    let answered = asked(read.way, &read.file, question).map_err(|problem| match problem {
         Problem::Refused { said, .. } => {
             said[said.find("(refusal").expect("a number")..].to_string()
         }
         other => panic!("{other}"),
     });
-    assert_eq!(answered, expected, "{question:?}\n{}", String::from_utf8_lossy(file));
+    assert_eq!(answered, expected, "{question:?}\n{}", String::from_utf8_lossy(&read.file));
 }
 
 /// Every cue of a show, the numbers around them, and all pairs; every path to a cue, and some that lead to none.
@@ -127,10 +159,44 @@ fn answers_are_those_of_the_naive_tool() {
     for case in 0..60 {
         let prng = &mut Prng::new(23, case);
         let shape = prng.pick(&random::SHAPES);
-        let rows = random::show(prng, shape);
-        let (file, show) = (file_of(&rows), Show::of_rows(&rows).expect("an accepted show"));
-        for question in questions(&show) {
-            hold(&file, &show, &question);
+        let read = Read::alone(&random::show(prng, shape));
+        for question in questions(&read.show) {
+            hold(&read, &question);
+        }
+    }
+}
+
+#[test]
+fn answers_on_the_desk_are_those_of_the_naive_tool() {
+    let random = (0..40).map(|case| {
+        let prng = &mut Prng::new(26, case);
+        let shape = prng.pick(&random::SHAPES);
+        random::desk_show(prng, shape)
+    });
+    for own in random.chain([desk::desk_run(), desk::run(0), desk::run(15)]) {
+        let read = Read::desk(&own);
+        for question in questions(&read.show) {
+            hold(&read, &question);
+        }
+    }
+}
+
+#[test]
+fn a_file_is_written_as_by_the_naive_tool() {
+    for case in 0..100 {
+        let prng = &mut Prng::new(27, case);
+        let shape = prng.pick(&random::SHAPES);
+        let shows =
+            [Read::alone(&random::show(prng, shape)), Read::desk(&random::desk_show(prng, shape))];
+        for read in shows {
+            let padded = padding::some_way(prng, &read.file);
+            for file in [&read.file, &padded] {
+                let written = asked(read.way, file, &Question::Write).expect("an accepted show");
+                assert_eq!(written.as_bytes(), print(&read.show.rows));
+                // The whole file is read as it is, to the same sizes.
+                let sizes = |way, file: &[u8]| asked(way, file, &Question::Check).ok();
+                assert_eq!(sizes(Way::Alone, written.as_bytes()), sizes(read.way, file));
+            }
         }
     }
 }
@@ -141,9 +207,9 @@ fn sizes_are_those_of_the_naive_tool() {
         let rows = random_show(24, case);
         let (file, show) = (file_of(&rows), Show::of_rows(&rows).expect("an accepted show"));
         let (blocks, rows, cues) = (show.blocks.len(), show.rows.len(), show.count());
-        let sizes = asked(&file, &Question::Check).expect("an accepted show");
+        let sizes = asked(Way::Alone, &file, &Question::Check).expect("an accepted show");
         assert_eq!(sizes, format!("blocks,rows,cues\n{blocks},{rows},{cues}\n"));
-        let count = asked(&file, &Question::Count).expect("an accepted show");
+        let count = asked(Way::Alone, &file, &Question::Count).expect("an accepted show");
         assert_eq!(count, format!("cues\n{cues}\n"));
     }
 }

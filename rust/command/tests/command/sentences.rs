@@ -3,10 +3,11 @@
 use std::collections::BTreeSet;
 
 use second::gen::edges::many_blocks;
-use second::gen::known;
+use second::gen::{desk, known};
 use show::{Place, Refused, Rows, PATH_LEN, ROWS_LEN};
 use show_command::blocks::rows_of;
 use show_command::explain::{self, Cause, Explained};
+use show_command::way::Way;
 
 use crate::common::{file_of, refusal, ring, NAMES};
 
@@ -70,6 +71,7 @@ const LINES: &[(&str, &str)] = &[
     ("0,3,0,1,0,0,0,0,0,0,0\n", "line 2, kind: 3; a kind is 0 to 2: an opening, a link or a use (refusal 5)"),
     ("0,1,1,1,2,0,0,0,0,0,0\n", "line 2, kind: 1; the first row opens block 0, so this must be 0 (refusal 5)"),
     ("1,0,0,1,0,0,0,0,0,0,0\n", "line 2, block: 1; the first block that is opened is block 0, so this must be 0 (refusal 5)"),
+    ("16,0,0,1,0,0,0,0,0,0,0\n", "line 2, block: 16; the first block that is opened is block 0, so this must be 0, unless the file is for the desk: then say --desk (refusal 5)"),
     ("0,0,1,1,0,0,0,0,0,0,0\n2,0,0,1,0,0,0,0,0,0,0\n", "line 3, block: 2; blocks are opened without a gap, so this must be 1 (refusal 5)"),
     ("0,0,1,1,0,0,0,0,0,0,0\n0,0,0,1,0,0,0,0,0,0,0\n", "line 3, block: 0; that block is opened already, so this must be 1 (refusal 5)"),
     ("0,0,1,1,0,0,0,0,0,0,0\n1,1,1,1,2,0,0,0,0,0,0\n", "line 3, block: 1; that block is not opened: its opening is missing before this line, or this must be 0 (refusal 5)"),
@@ -100,9 +102,36 @@ const LINES: &[(&str, &str)] = &[
     ("0,0,0,1,0,0,0,0,0,0,0\n1,0,0,1,0,0,0,0,0,0,0\n", "line 2, label: 0; a block before the last has 1 to 8 joins (refusal 9)"),
 ];
 
+/// Lines of a file that is read behind the desk's blocks, and what is said of it.
+const DESK_LINES: &[(&str, &str)] = &[
+    ("", "there are no rows behind the names; a file that is read with the desk's blocks has 1 to 856 of its own (refusal 4)"),
+    ("16,0,2, 1,0,0,0,0,0,0,0\n", "line 2, a: a space stands in this value; a value is digits alone (refusal 3)"),
+    ("16,3,0,1,0,0,0,0,0,0,0\n", "line 2, kind: 3; a kind is 0 to 2: an opening, a link or a use (refusal 5)"),
+    ("15,1,2,17,1,0,0,0,0,0,0\n", "line 2, kind: 1; the first row of a file that is read with the desk's blocks opens block 16, so this must be 0 (refusal 5)"),
+    ("16,2,3,1,2,0,0,0,0,0,0\n", "line 2, kind: 2; the first row of a file that is read with the desk's blocks opens block 16, so this must be 0 (refusal 5)"),
+    ("0,0,2,1,0,0,0,0,0,0,0\n", "line 2, block: 0; the desk's blocks are 0 to 15, and the first row of the file opens the next one, so this must be 16 (refusal 5)"),
+    ("17,0,2,1,0,0,0,0,0,0,0\n", "line 2, block: 17; the desk's blocks are 0 to 15, and the first row of the file opens the next one, so this must be 16 (refusal 5)"),
+    ("16,0,1,1,0,0,0,0,0,0,0\n15,0,0,1,0,0,0,0,0,0,0\n", "line 3, block: 15; that block is opened already, so this must be 17 (refusal 5)"),
+    ("16,0,0,1,0,0,0,0,0,0,0\n15,2,0,1,2,0,0,0,0,0,0\n", "line 3, block: 15; that block ended where block 16 was opened, so this must be 16 (refusal 5)"),
+    ("16,0,0,2,0,0,0,0,0,0,0\n16,2,16,1,2,0,0,0,0,0,0\n", "line 3, label: 16; block 16 can use earlier blocks alone, 0 to 15 (refusal 6)"),
+    ("16,0,0,3,0,0,0,0,0,0,0\n16,2,15,1,2,3,0,0,0,0,0\n", "line 3, c: 3; block 15 has 2 joins, so columns from c on are idle here and this must be 0 (refusal 6)"),
+    ("16,0,0,2,0,0,0,0,0,0,0\n16,2,3,1,1,0,0,0,0,0,0\n", "line 3, b: cue 1 stands in a too; no cue takes two joins of a copy (refusal 7)"),
+    ("16,0,0,2,0,0,0,0,0,0,0\n16,2,3,1,2,0,0,0,0,0,0\n16,2,2,1,2,0,0,0,0,0,0\n", "line 4, label: 2; uses never fall by a to h and label, and the line before has 3 here (refusal 8)"),
+    ("16,0,2,1,0,0,0,0,0,0,0\n", "line 2, label: 2; the last block is the show and has no joins, so this must be 0 (refusal 9)"),
+];
+
 /// The explanation of a file that the library refuses.
-fn explained(file: &[u8]) -> Explained {
-    explain::file(file, Some(file.len() as u64), refusal(file).expect("a refused file"))
+fn explained(way: Way, file: &[u8]) -> Explained {
+    explain::file(file, Some(file.len() as u64), way, refusal(way, file).expect("a refused file"))
+}
+
+/// Files for the desk that are too large to write out.
+fn large_desk() -> Vec<(Vec<u8>, &'static str)> {
+    vec![
+        (file_of(&desk::wide(857)), "there are 857 rows; a file that is read with the desk's blocks has 1 to 856, with the desk's 168 that is 1,024 (refusal 4)"),
+        (file_of(&desk::moved(&many_blocks(113))), "line 114: this opens a 129th block, the desk's sixteen counted; a show has at most 128 (refusal 5)"),
+        (file_of(&desk::moved(&known::tower(32))), "line 93: block 47 stands for 4,294,967,295 cues; at most 2,147,483,647 are allowed (refusal 10)"),
+    ]
 }
 
 /// Files too large to write out.
@@ -164,7 +193,8 @@ fn no_own_cue() -> (Explained, &'static str) {
 /// Where nothing is found that the library refuses, its own words are said.
 fn unexplained() -> Vec<(Explained, &'static str)> {
     let file = ring();
-    let other = explain::file(&file, None, refusal(b"").expect("an empty file is refused"));
+    let empty = refusal(Way::Alone, b"").expect("an empty file is refused");
+    let other = explain::file(&file, None, Way::Alone, empty);
     vec![
         (explain::cues(Refused::TooShort, &[], 5), "a lent list is too short (refusal 11)"),
         (
@@ -175,15 +205,23 @@ fn unexplained() -> Vec<(Explained, &'static str)> {
     ]
 }
 
+/// What is said of files that are read behind the desk's blocks.
+fn all_desk() -> impl Iterator<Item = (Explained, &'static str)> {
+    let lines = DESK_LINES.iter();
+    let lines = lines.map(|(lines, said)| (format!("{NAMES}{lines}").into_bytes(), *said));
+    lines.chain(large_desk()).map(|(file, said)| (explained(Way::Desk, &file), said))
+}
+
 /// Everything that is said here, with what is expected.
 fn all() -> Vec<(Explained, &'static str)> {
     let first = FIRST_LINES.iter().map(|(file, said)| (file.as_bytes().to_vec(), *said));
     let lines = LINES.iter().map(|(lines, said)| (format!("{NAMES}{lines}").into_bytes(), *said));
-    let files = first.chain(lines).chain(large()).map(|(file, said)| (explained(&file), said));
+    let files = first.chain(lines).chain(large());
+    let files = files.map(|(file, said)| (explained(Way::Alone, &file), said));
     let longer = vec![b'0'; 65_537];
-    let unknown = explain::file(&longer, None, Refused::FileTooLong);
+    let unknown = explain::file(&longer, None, Way::Alone, Refused::FileTooLong);
     let most = "there are more than 65,536 bytes, the most that a show file has (refusal 1)";
-    let mut all: Vec<(Explained, &str)> = files.collect();
+    let mut all: Vec<(Explained, &str)> = files.chain(all_desk()).collect();
     all.extend(questions());
     all.extend(unexplained());
     all.extend([no_own_cue(), (unknown, most)]);
