@@ -1,8 +1,8 @@
 //! What is timed: for each question, the inputs of the table of figures.
 
 use crate::gen::prng::Prng;
-use crate::gen::{known, notes, padding, random};
-use crate::limits::{JOINS, PATH, TOTAL, WORK};
+use crate::gen::{desk, known, notes, padding, random};
+use crate::limits::{COLUMNS, DESK_ROWS, JOINS, OWN_ROWS, PATH, TOTAL, WORK};
 use crate::naive::file::print;
 use crate::question::{Input, Question};
 
@@ -45,12 +45,36 @@ fn some_cues(rows: &[u32]) -> Vec<u32> {
     (0..TURNS).map(|_| prng.within(1, count)).collect()
 }
 
+/// The file of these rows with this many digits to a value at least, and its name with its bytes.
+fn padded_file(name: &str, rows: &[u32], digits: usize) -> (String, Vec<u8>) {
+    let file = padding::to_digits(&print(rows.as_chunks().0), digits);
+    (format!("{name}, {} bytes", file.len()), file)
+}
+
 /// Reading a file with this many digits to a value at least. Its bytes stand in the name.
 fn read(name: &str, rows: &[u32], digits: usize) -> Entry {
-    let file = padding::to_digits(&print(rows.as_chunks().0), digits);
-    let input = format!("{name}, {} bytes", file.len());
+    let (input, file) = padded_file(name, rows, digits);
     let asked = vec![Question::Read { room: rows.len() }];
     Entry { question: "read", input, lent: Input::File(file), asked }
+}
+
+/// The same behind the desk's blocks.
+fn read_desk(name: &str, own: &[u32], digits: usize) -> Entry {
+    let (input, file) = padded_file(name, own, digits);
+    let asked = vec![Question::Read { room: DESK_ROWS * COLUMNS + own.len() }];
+    Entry { question: "read desk", input, lent: Input::Desk(file), asked }
+}
+
+/// Files for the desk: two rows, a small show, and many rows, also with five digits to a value.
+fn read_desks() -> [Entry; 5] {
+    let many = |rows: usize| random::desk_sized(&mut Prng::new(7, rows as u64), rows, 12, TOTAL);
+    [
+        read_desk("a run", &desk::run(15), 1),
+        read_desk("desk_run", &desk::desk_run(), 1),
+        read_desk("100 rows", &many(100), 1),
+        read_desk("856 rows", &many(OWN_ROWS), 1),
+        read_desk("padded 856", &many(OWN_ROWS), 5),
+    ]
 }
 
 /// All lines, in the order of the table.
@@ -66,6 +90,7 @@ pub fn entries() -> Vec<Entry> {
     entries.extend(lengths.iter().map(|show| read(&show.0, &show.1, 1)));
     entries.push(read("padded 992", &sized(992).1, 5));
     entries.push(read("padded 1024", &lengths[2].1, 4));
+    entries.extend(read_desks());
     for show in &lengths {
         entries.push(entry("write", show, vec![Question::Write { room: 65_536 }]));
     }
