@@ -139,8 +139,8 @@ impl<'a> Rows<'a> {
     /// Those are blocks 0 to 15, [`DESK_ROWS`] rows. Block k is a run of k + 1 own cues with two joins:
     /// links of label 1 lead from its first join to cue 1, from each own cue to the next, and from the
     /// last own cue to its second join. The first row of the file opens block [`DESK_BLOCKS`], or it is
-    /// [`Refused::CannotFollow`] at line 2. It has no more than [`DESK_MAX_OWN_ROWS`] rows, as the limits on
-    /// rows and blocks count those of the desk; so do the rows and blocks that are given.
+    /// [`Refused::CannotFollow`] at line 2. It has no more than [`DESK_MAX_OWN_ROWS`] rows: those of the
+    /// desk are rows of the show, for its limits and in what is given.
     ///
     /// Refusals are placed at lines of the file, and `room` is as for [`Rows::read`]. The rows are rows
     /// like any other: [`Rows::write`] makes a whole file of them, which [`Rows::read`] reads to the same

@@ -5,7 +5,9 @@ use super::checker::{Checker, Subjected};
 use super::outcome::Call;
 use crate::gen::prng::Prng;
 use crate::gen::{desk, edges, known, padding};
-use crate::limits::{Refusal, BYTES, DESK_BLOCKS, DESK_ROWS, GIVEN, NAMES, NO_CHAIN, OWN_ROWS};
+use crate::limits::{
+    Refusal, BLOCKS, BYTES, COLUMNS, DESK_BLOCKS, DESK_ROWS, GIVEN, NAMES, NO_CHAIN, OWN_ROWS, ROWS,
+};
 use crate::naive::desk::table;
 use crate::naive::file::print;
 use crate::question::{Answer, Input, Question};
@@ -146,7 +148,7 @@ fn desk_run(checker: &mut Checker) {
 fn longest(checker: &mut Checker) {
     let own = desk::longest();
     let all = with_desk(&own);
-    assert_eq!(all.len() / 11, 1024);
+    assert_eq!(all.len(), ROWS * COLUMNS);
     assert!(file_of(&all).len() < BYTES);
     reads(checker, file_of(&own), all.len(), &Ok(Answer::with_numbers(&longest_sizes(), &all)));
 }
@@ -156,7 +158,7 @@ fn longest(checker: &mut Checker) {
 fn longest_sizes() -> [u32; 3] {
     let before = 110 * 255 + 1;
     let uses = OWN_ROWS as u32 - 1 - 110 * 2 - 1;
-    [1024, 128, 255 + uses * before]
+    [ROWS as u32, BLOCKS as u32, 255 + uses * before]
 }
 
 /// Each first row with the refusal of a file that has it and then the rows of a show; none for
@@ -226,7 +228,7 @@ fn lines(checker: &mut Checker) {
 fn no_rows(checker: &mut Checker) {
     file_refused(checker, NAMES.to_vec(), (4, 0));
     let row = b"16,0,0,2,0,0,0,0,0,0,0\n";
-    for rows in [OWN_ROWS + 1, 1024, 1025] {
+    for rows in [OWN_ROWS + 1, ROWS, ROWS + 1] {
         let mut file = [NAMES, &row.repeat(rows)].concat();
         file_refused(checker, file.clone(), (4, 0));
         file.pop();
@@ -242,8 +244,8 @@ fn padded(checker: &mut Checker) {
     for own in [desk::desk_run(), desk::wide(OWN_ROWS), desk::longest()] {
         let all = with_desk(&own);
         let (file, cues) = (file_of(&own), count_of(&all));
-        let blocks = all[all.len() - 11..][0] + 1;
-        let sizes = [(DESK_ROWS + own.len() / 11) as u32, blocks, cues];
+        let blocks = all[all.len() - COLUMNS] + 1;
+        let sizes = [(all.len() / COLUMNS) as u32, blocks, cues];
         for file in [padding::to_digits(&file, 2), padding::to_digits(&file, padding::DIGITS)] {
             reads(checker, file, all.len(), &Ok(Answer::with_numbers(&sizes, &all)));
         }
@@ -264,7 +266,7 @@ fn near_rows(checker: &mut Checker) {
     let near = desk::bases().into_iter().flat_map(|base| edges::near_rows(&base));
     for (rows, turn) in near.zip(0..) {
         let mut asked = Subjected::new(checker, Input::Desk(file_of(&rows)));
-        asked.ask_once(DESK_ROWS * 11 + rows.len());
+        asked.ask_once(DESK_ROWS * COLUMNS + rows.len());
         let whole = asked.known.ok().filter(|_| turn % 20 == 0).map(|show| show.rows.concat());
         if let Some(rows) = whole {
             Subjected::new(checker, Input::Rows(rows)).ask_rows(prng);

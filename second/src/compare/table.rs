@@ -77,7 +77,7 @@ fn said(row: Option<&Row>) -> String {
 #[cfg(test)]
 mod tests {
     use super::*;
-    use crate::limits::COLUMNS;
+    use crate::limits::{COLUMNS, DESK_ROWS};
     use crate::naive::file::print;
 
     /// A source with these rows.
@@ -99,7 +99,8 @@ mod tests {
     #[test]
     fn every_changed_value_is_seen() {
         let (text, file) = (source(&table()), print(&table()));
-        for (row, column) in (0..168).flat_map(|row| (0..COLUMNS).map(move |column| (row, column)))
+        for (row, column) in
+            (0..DESK_ROWS).flat_map(|row| (0..COLUMNS).map(move |column| (row, column)))
         {
             let mut rows = table();
             rows[row][column] += 1;

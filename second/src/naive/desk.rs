@@ -9,7 +9,7 @@ pub fn table() -> Vec<Row> {
     (0..DESK_BLOCKS as u32).flat_map(block).collect()
 }
 
-/// Block k is a plain run with k + 1 own cues and two joins.
+/// The rows of block k: its own cues are one more than its number, and it has two joins.
 fn block(k: u32) -> Vec<Row> {
     let own = k + 1;
     let mut rows = vec![[k, 0, 2, own, 0, 0, 0, 0, 0, 0, 0]];
@@ -17,8 +17,8 @@ fn block(k: u32) -> Vec<Row> {
     rows
 }
 
-/// From the first join to cue 1, on from each own cue to the next, and from the last own cue to
-/// the second join; in the order that links have in a block.
+/// The links that make it a run: in by the first join, along the own cues, out by the second join. They
+/// are sorted, as links of a block have to rise.
 fn links(own: u32) -> Vec<(u32, u32)> {
     let (first_join, second_join) = (own + 1, own + 2);
     let mut links = vec![(first_join, 1)];

@@ -251,7 +251,7 @@ fn a_refusal_behind_the_desk_is_explained_by_every_command() {
 fn a_whole_file_is_written_and_read_again() {
     let (status, whole, told) = said(&["write", "--desk", DESK], b"");
     assert_eq!((status, told.as_str()), (0, ""));
-    assert_eq!(whole.lines().count(), 1 + 168 + 9);
+    assert_eq!(whole.lines().count(), 1 + show::DESK_ROWS + 9);
     let (names, rows) = whole.split_once('\n').expect("a line of names");
     let own = String::from_utf8(desk_run()).expect("a file is text");
     let (own_names, own) = own.split_once('\n').expect("a line of names");

@@ -2,7 +2,7 @@
 
 use second::gen::prng::Prng;
 use second::gen::{desk, edges, known, padding, random};
-use second::limits::{PATH, WORK};
+use second::limits::{DESK_ROWS, PATH, WORK};
 use second::naive::ask::Show;
 use second::naive::file::print;
 use second::naive::print::printed;
@@ -90,7 +90,7 @@ impl Read {
 
     /// The line of a row, where it is not one of the desk, and its values; in the file they are the same.
     fn row(&self, row: u32) -> (String, String) {
-        let before = if self.way == Way::Desk { 168 } else { 0 };
+        let before = if self.way == Way::Desk { DESK_ROWS as u32 } else { 0 };
         let values = self.show.rows[row as usize - 1].map(|value| value.to_string()).join(",");
         let Some(own) = row.checked_sub(before).filter(|own| *own > 0) else {
             return ("-".to_string(), values);

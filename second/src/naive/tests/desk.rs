@@ -2,7 +2,7 @@
 
 use super::*;
 use crate::gen::desk;
-use crate::limits::{DESK_ROWS, NO_CHAIN as N, OWN_ROWS};
+use crate::limits::{COLUMNS, DESK_ROWS, NO_CHAIN as N, OWN_ROWS, ROWS};
 use crate::naive::desk::table;
 use crate::naive::file::print;
 
@@ -76,9 +76,10 @@ fn the_first_row_opens_block_16() {
 #[test]
 fn the_limits_count_the_blocks_of_the_desk() {
     let full = of_own(&desk::wide(OWN_ROWS)).expect("856 rows are read");
-    let sizes = full.answer(&Question::Read { room: 11 * 1024 }, 3).expect("room for all rows");
+    let sizes =
+        full.answer(&Question::Read { room: COLUMNS * ROWS }, 3).expect("room for all rows");
     assert_eq!(sizes.given, [1024, 17, 255]);
-    let short = full.answer(&Question::Read { room: 11 * 1024 - 1 }, 3);
+    let short = full.answer(&Question::Read { room: COLUMNS * ROWS - 1 }, 3);
     assert_eq!(short, Err(Refusal::new(11, 0)));
     assert_eq!(of_own(&desk::wide(OWN_ROWS + 1)).err(), Some((4, 0)));
     assert_eq!(refusal(&[]), Some((4, 0)));
