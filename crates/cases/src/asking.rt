@@ -86,8 +86,8 @@ fn row(rows: &[u32], s: u32, t: u32, path: &mut [u32]) -> Said {
     }
 }
 
-fn read(file: &[u8], rows: &mut [u32]) -> Said {
-    match show::read(file, rows) {
+fn handed_out(answer: ReadAnswer) -> Said {
+    match answer {
         ReadAnswer::Read(rows, blocks, cues) => given(rows, blocks, cues),
         ReadAnswer::Refused(refusal) => refused(refusal),
     }
@@ -120,6 +120,7 @@ pub fn ask(letter: u8, file: &[u8], rows: &[u32], given: &[u32], lent: &mut [u32
         b'i' => paged(show::list_in(rows, first, second, lent)),
         b'f' => fewest(rows, first, second, lent),
         b'b' => row(rows, first, second, lent),
-        _ => read(file, lent),
+        b'd' => handed_out(show::read_desk(file, lent)),
+        _ => handed_out(show::read(file, lent)),
     }
 }
