@@ -43,7 +43,7 @@ use Rattle.shows.proofs.Desk.{own-place, desk-blocks, desk-summary}
 use Rattle.demands.specs.Acceptance.{Lawful, Check, Length, Sequence, Ranges, Repeats, Order, Ends, Totals, refusalNumber}
 use Rattle.demands.specs.Asking.{AsksDeskRead, AsksWrite}
 use Rattle.demands.specs.Files.{ReadRefusal, of-length, of-names, of-line, of-rows, of-room}
-use Rattle.demands.specs.Desk.{tableFirst, OwnRows, OpensFirst, DeskLawful, DeskBroken, bad-count, bad-first, bad-rows, ownLine, IsDeskRead, OwnLines, WritesWhole}
+use Rattle.demands.specs.Desk.{builtInFirst, OwnRows, OpensFirst, DeskLawful, DeskBroken, bad-count, bad-first, bad-rows, ownLine, IsDeskRead, OwnLines, WritesWhole}
 use Rattle.demands.proofs.Acceptance.{accepted-exactly, refused-exactly, refused-is}
 use Rattle.demands.proofs.Answers.{written-is}
 use Rattle.demands.proofs.ReadCases.{Way, Answered, answered}
@@ -54,7 +54,7 @@ use Rattle.demands.proofs.RoundTrips.{rows-left, numbers-many, wrote, r
 data DeskCase (xs : List ℕ) : Type 0 where
   no-count : (OwnRows xs → ⊥) → deskVerdict xs ≡ refused 4 0 → DeskCase xs
   no-first : OwnRows xs → (OpensFirst xs → ⊥) → deskVerdict xs ≡ refused 5 169 → DeskCase xs
-  as-rows : OwnRows xs → OpensFirst xs → checkOwn xs ≡ Accepted → checkFirst (rowAt xs 0) ≡ Accepted → deskVerdict xs ≡ verdict (tableFirst xs)
+  as-rows : OwnRows xs → OpensFirst xs → checkOwn xs ≡ Accepted → checkFirst (rowAt xs 0) ≡ Accepted → deskVerdict xs ≡ verdict (builtInFirst xs)
       → DeskCase xs
 
 desk-case : (xs : List ℕ) → DeskCase xs
@@ -92,12 +92,12 @@ desk-right xs = go (desk-case xs)
     go (no-count n e) = (λ v. absurd (not-accepted 4 0 (sym e ∙ v)), λ l. absurd (n (l .own-rows)))
     go (no-first o n e) = (λ v. absurd (not-accepted 5 169 (sym e ∙ v)), λ l. absurd (n (l .opens-first)))
     go (as-rows o f a b e) = (
-      λ v. record { own-rows = o; opens-first = f; lawful = accepted-exactly (tableFirst xs) .0 (sym e ∙ v) },
-      λ l. e ∙ accepted-exactly (tableFirst xs) .1 (l .lawful),
+      λ v. record { own-rows = o; opens-first = f; lawful = accepted-exactly (builtInFirst xs) .0 (sym e ∙ v) },
+      λ l. e ∙ accepted-exactly (builtInFirst xs) .1 (l .lawful),
     )
 
-pub desk-whole : (xs : List ℕ) → deskVerdict xs ≡ Accepted → verdict (tableFirst xs) ≡ Accepted
-desk-whole xs v = accepted-exactly (tableFirst xs) .1 (desk-right xs .0 v .lawful)
+pub desk-whole : (xs : List ℕ) → deskVerdict xs ≡ Accepted → verdict (builtInFirst xs) ≡ Accepted
+desk-whole xs v = accepted-exactly (builtInFirst xs) .1 (desk-right xs .0 v .lawful)
 
 -- and refused exactly by the first sentence that is broken.
 pub desk-broken : (xs : List ℕ) (q : Refusal) → deskVerdict xs ≡ Refused q → (c : Check) × (q .number ≡ refusalNumber c) × DeskBroken xs c (q .place)
@@ -110,7 +110,7 @@ desk-broken xs q v = go (desk-case xs)
     go : DeskCase xs → (c : Check) × (q .number ≡ refusalNumber c) × DeskBroken xs c (q .place)
     go (no-count n e) = rw (same 4 0 e) (Length, refl, bad-count n)
     go (no-first o n e) = rw (same 5 169 e) (Sequence, refl, bad-first o n)
-    go (as-rows o f a b e) = let (c, n, k) = refused-is (tableFirst xs) q (sym e ∙ v) in (c, n, bad-rows o f k)
+    go (as-rows o f a b e) = let (c, n, k) = refused-is (builtInFirst xs) q (sym e ∙ v) in (c, n, bad-rows o f k)
 
 pub desk-breaks : (xs : List ℕ) (c : Check) (p : ℕ) → DeskBroken xs c p → deskVerdict xs ≡ refused (refusalNumber c) p
 unfolding refusalNumber
@@ -125,7 +125,7 @@ desk-breaks xs c p k = go (desk-case xs) k
     go (no-first o n e) (bad-rows z f m) = absurd (n f)
     go (as-rows o f a b e) (bad-count m) = absurd (m o)
     go (as-rows o f a b e) (bad-first z m) = absurd (m f)
-    go (as-rows o f a b e) (bad-rows {c = d} {p = r} z g m) = e ∙ refused-exactly (tableFirst xs) d r .1 m
+    go (as-rows o f a b e) (bad-rows {c = d} {p = r} z g m) = e ∙ refused-exactly (builtInFirst xs) d r .1 m
 
 -- The line of a refused row.
 own-line : (c : Check) (p : ℕ) → ((refusalNumber c ≡ 4) × (ownLine c p ≡ p)) ⊎ ((5 ≤ refusalNumber c) × (ownLine c p ≡ p - 167))
@@ -160,9 +160,9 @@ own-broken xs c p k h = go (desk-case xs) k h
     go (no-count n e) (bad-rows o f m) l = absurd (n o)
     go (no-first o n e) (bad-rows z f m) l = absurd (n f)
     go (as-rows o f a b e) (bad-rows {c = d} {p = r} z g m) l =
-        let v = refused-exactly (tableFirst xs) d r .1 m in (
+        let v = refused-exactly (builtInFirst xs) d r .1 m in (
           own-place xs (refusal (refusalNumber d) r) a b v l,
-          omega (arith, with-count xs, place-most (tableFirst xs) (refusal (refusalNumber d) r) v .0),
+          omega (arith, with-count xs, place-most (builtInFirst xs) (refusal (refusalNumber d) r) v .0),
         )
 
 pub own-once : (xs : List ℕ) (c : Check) (o p : ℕ) → DeskBroken xs c o → ownLine c o ≡ ownLine c p → o ≡ p
@@ -185,11 +185,11 @@ pub refused-second : (f out xs : List ℕ) (q : Refusal) → readFile f ≡ Numb
 unfolding deskReadAsked deskFileVerdict deskReadVerdict inOwnLines onAccepted
 refused-second f out xs q e v = rw (e, v)
 
-pub taken-second : (f out xs : List ℕ) → readFile f ≡ Numbers xs → deskVerdict xs ≡ Accepted → deskReadAsked f out ≡ readInto (tableFirst xs) out
+pub taken-second : (f out xs : List ℕ) → readFile f ≡ Numbers xs → deskVerdict xs ≡ Accepted → deskReadAsked f out ≡ readInto (builtInFirst xs) out
 unfolding deskReadAsked deskFileVerdict deskReadVerdict numbersOf inOwnLines onAccepted withDesk
 taken-second f out xs e v = rw (e, v)
 
-abbrev pub second-way : Way tableFirst DeskLawful DeskBroken ownLine
+abbrev pub second-way : Way builtInFirst DeskLawful DeskBroken ownLine
 second-way =
     record {
       asked = deskReadAsked;
@@ -264,7 +264,7 @@ own-lines f out after r e n p a low high xs s = go (is-desk-read f out after r e
         (is-desk-read f out after r e .refused c o .0 (a ∙ ap ReadRefused q))
 
 -- The table is not empty.
-long-table : (xs : List ℕ) → length (tableFirst xs) ≡ 168 * 11 + length xs
+long-table : (xs : List ℕ) → length (builtInFirst xs) ≡ 168 * 11 + length xs
 unfolding withDesk
 long-table = with-length
 
@@ -287,7 +287,7 @@ writes-whole f out after rows blocks cues e w out′ after′ e′ room = go (an
         }
       where
         xs : List ℕ
-        xs = tableFirst (k .own)
+        xs = builtInFirst (k .own)
 
         v : verdict xs ≡ Accepted
         v = desk-whole (k .own) (k .lawful)

@@ -10,7 +10,7 @@ use Rattle.model.specs.Lists.{range}
 use Rattle.model.specs.Blocks.{Link, Block, blockAt, blocksOf}
 use Rattle.model.specs.Desk.{builtInNumbers}
 use Rattle.basics.proofs.Members.{map-mem, mem-map, range-bounds, range-mem}
-use Rattle.shows.proofs.DeskTable.{desk-size, table-rows, table-blocks, table-passes, table-count, table-run, plainLinks, plainBlock, table-block}
+use Rattle.shows.proofs.DeskTable.{desk-size, table-rows, table-blocks, table-passes, table-count, table-crossing, plainLinks, plainBlock, table-block}
 use Rattle.demands.specs.Desk.{PlainLink, to-first, to-next, from-last, IsPlainRun, TableFact}
 use Rattle.demands.proofs.RowByRow.{rows-keep}
 
@@ -70,8 +70,8 @@ table-fact =
       size = desk-size;
       rows = rw desk-size refl;
       blocks = ap length table-blocks ∙ table-count;
-      runs = plain-run;
+      plain = plain-run;
       passes = rows-keep builtInNumbers (rw table-rows table-passes);
-      there = λ k h. rw table-blocks (table-run k h .there);
-      back = λ k h. rw table-blocks (table-run k h .back);
+      there = λ k h. rw table-blocks (table-crossing k h .there);
+      back = λ k h. rw table-blocks (table-crossing k h .back);
     }

@@ -41,7 +41,7 @@ pub record TableFact : Type 0 where
   pub size : length builtInNumbers ≡ 168 * 11
   pub rows : rowCount builtInNumbers ≡ 168
   pub blocks : length (blocksOf builtInNumbers) ≡ 16
-  pub runs : (k : ℕ) → k < 16 → IsPlainRun (blocksOf builtInNumbers) k
+  pub plain : (k : ℕ) → k < 16 → IsPlainRun (blocksOf builtInNumbers) k
   pub passes : (c : Check) (r : ℕ) → turn c ≡ 1 → IsRow builtInNumbers r → Keeps builtInNumbers c r
   pub there : (k : ℕ) → k < 16 → summary (blocksOf builtInNumbers) k 1 2 ≡ k + 2
   pub back : (k : ℕ) → k < 16 → summary (blocksOf builtInNumbers) k 2 1 ≡ 4294967295
@@ -49,8 +49,8 @@ pub record TableFact : Type 0 where
 -- The second way of reading.
 
 -- It "puts these rows before the file's".
-abbrev pub tableFirst : List ℕ → List ℕ
-tableFirst xs = builtInNumbers ++ xs
+abbrev pub builtInFirst : List ℕ → List ℕ
+builtInFirst xs = builtInNumbers ++ xs
 
 -- "The limits on rows and blocks count them"; "A file without rows of its own meets refusal 4 here too."
 abbrev pub OwnRows : List ℕ → Type 0
@@ -60,17 +60,17 @@ OwnRows xs = (1 ≤ rowCount xs) × (168 + rowCount xs ≤ 1024)
 abbrev pub OpensFirst : List ℕ → Type 0
 OpensFirst xs = Opens (nthRow xs 1) × (nthRow xs 1 .block ≡ 16)
 
--- The rows of a file that it takes. They come "before the file's, whose blocks start at 16", and together they keep every sentence.
+-- The rows of a file that it takes: they begin with block 16, and all rows together keep every sentence.
 pub record DeskLawful (xs : List ℕ) : Type 0 where
   pub own-rows : OwnRows xs
   pub opens-first : OpensFirst xs
-  pub lawful : Lawful (tableFirst xs)
+  pub lawful : Lawful (builtInFirst xs)
 
 -- Which sentence is broken first, by the row of all: 4, then "its first row opens block 16 or meets refusal 5", then those of all rows.
 pub data DeskBroken (xs : List ℕ) : Check → ℕ → Type 0 where
   bad-count : (OwnRows xs → ⊥) → DeskBroken xs Length 0
   bad-first : OwnRows xs → (OpensFirst xs → ⊥) → DeskBroken xs Sequence 169
-  bad-rows : {c : Check} {p : ℕ} → OwnRows xs → OpensFirst xs → FirstBroken (tableFirst xs) c p → DeskBroken xs c p
+  bad-rows : {c : Check} {p : ℕ} → OwnRows xs → OpensFirst xs → FirstBroken (builtInFirst xs) c p → DeskBroken xs c p
 
 -- "places are still the file's own lines": the file's first row is row 169 of all, and its line 2.
 unfoldable pub ownLine : Check → ℕ → ℕ
@@ -84,7 +84,7 @@ ownLine Totals p = p - 167
 
 -- What it answers and leaves. "The limits on rows and blocks count them, and so do the rows and blocks given".
 abbrev pub IsDeskRead : List ℕ → List ℕ → ReadAnswer → List ℕ → Type 0
-IsDeskRead = ReadsAs tableFirst DeskLawful DeskBroken ownLine
+IsDeskRead = ReadsAs builtInFirst DeskLawful DeskBroken ownLine
 
 -- "places are still the file's own lines": those of its rows, of which none is the table's.
 abbrev pub OwnLines : List ℕ → ReadAnswer → Type 0

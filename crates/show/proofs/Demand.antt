@@ -29,7 +29,7 @@ use Rattle.demands.proofs.DeskReading.{is-desk-read, own-lines, desk-lawful, wr
 use Rattle.demands.proofs.DeskExample.{desk-file}
 use Rattle.show.specs.Demand.{RightAgainstUnfolding, Demand2, Demand3, Demand4}
 use Rattle.show.proofs.Shortest.{is-fewest, leaves-summaries}
-use Rattle.show.proofs.DeskWork.{has-table}
+use Rattle.show.proofs.DeskWork.{has-desk-summaries}
 
 -- Demand 2: of rows that keep the rules, of the rules, and of the round trips.
 right : (xs : List ℕ) → verdict xs ≡ Accepted → RightAgainstUnfolding xs
@@ -97,6 +97,6 @@ demand-4 =
       places = own-lines;
       lawful = desk-lawful;
       round-trip = writes-whole;
-      work-area = has-table;
+      work-area = has-desk-summaries;
       a-file = desk-file;
     }

@@ -14,15 +14,15 @@ use Rattle.model.specs.declared.FewestAnswer.{FewestAnswer}
 use Rattle.demands.specs.Asking.{AsksDeskRead, AsksFewest}
 use Rattle.demands.proofs.DeskTable.{table-fact}
 use Rattle.demands.proofs.DeskReading.{DeskLeft, desk-left}
-use Rattle.show.specs.Demand.{HasTable}
+use Rattle.show.specs.Demand.{HasDeskSummaries}
 use Rattle.show.proofs.Shortest.{said}
 use Rattle.show.proofs.WorkArea.{holds}
 
-pub has-table : (file out after : List ℕ) (rows blocks cues : ℕ) → AsksDeskRead file out (Read rows blocks cues) after
+pub has-desk-summaries : (file out after : List ℕ) (rows blocks cues : ℕ) → AsksDeskRead file out (Read rows blocks cues) after
     → (s t : ℕ) (work after′ : List ℕ) (r : FewestAnswer) → 1 ≤ s → s ≤ cues → 1 ≤ t → t ≤ cues → 16384 ≤ length work
-    → AsksFewest (take (rows * rowSize) after) s t work r after′ → HasTable after′
+    → AsksFewest (take (rows * rowSize) after) s t work r after′ → HasDeskSummaries after′
 unfolding answer
-has-table file out after rows blocks cues e s t work after′ r low high low′ high′ room e′ k h = go (desk-left file out after rows blocks cues e)
+has-desk-summaries file out after rows blocks cues e s t work after′ r low high low′ high′ room e′ k h = go (desk-left file out after rows blocks cues e)
   where
     xs : List ℕ
     xs = take (rows * rowSize) after

@@ -149,8 +149,8 @@ pub record Demand3 : Type 0 where
 -- Document 02, Paper 4: the blocks that come with the desk, and the second way of reading.
 
 -- "block k's summary is k + 2 from first join to second and none back": in the work area that an answer of fewest leaves.
-abbrev pub HasTable : List ℕ → Type 0
-HasTable after = (k : ℕ) → k < 16 → (getD after (64 * k + 1) 0 ≡ k + 2) × (getD after (64 * k + 8) 0 ≡ 4294967295)
+abbrev pub HasDeskSummaries : List ℕ → Type 0
+HasDeskSummaries after = (k : ℕ) → k < 16 → (getD after (64 * k + 1) 0 ≡ k + 2) × (getD after (64 * k + 8) 0 ≡ 4294967295)
 
 -- The table; what the second way answers, with which places; that what it leaves is a show for every question, is written as a whole file, and has the
 -- table's summaries; and there is a file that it reads.
@@ -164,5 +164,5 @@ pub record Demand4 : Type 0 where
       → WritesWhole file (Read rows blocks cues) (take (rows * rowSize) after) r after′
   pub work-area : (file out after : List ℕ) (rows blocks cues : ℕ) → AsksDeskRead file out (Read rows blocks cues) after
       → (s t : ℕ) (work after′ : List ℕ) (r : FewestAnswer) → 1 ≤ s → s ≤ cues → 1 ≤ t → t ≤ cues → 16384 ≤ length work
-      → AsksFewest (take (rows * rowSize) after) s t work r after′ → HasTable after′
+      → AsksFewest (take (rows * rowSize) after) s t work r after′ → HasDeskSummaries after′
   pub a-file : (file xs : List ℕ) × SpellsFile file xs × DeskLawful xs

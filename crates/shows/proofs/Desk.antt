@@ -25,7 +25,7 @@ use Rattle.basics.proofs.Choices.{eq-then, eq-else, eq-first, lt-then, lt-else,
 use Rattle.shows.proofs.AtBlock.{joinsOf-skip, total-skip, links-skip}
 use Rattle.shows.proofs.Accepted.{not-accepted}
 use Rattle.shows.proofs.RefusalPlaces.{Refuser, by-length, by-row, by-end, by-total, refuser, rows-place, blocks-place}
-use Rattle.shows.proofs.DeskTable.{with-rows, table-blocks, table-passes, table-length, table-openings, table-count, table-run}
+use Rattle.shows.proofs.DeskTable.{with-rows, table-blocks, table-passes, table-length, table-openings, table-count, table-crossing}
 
 -- Checks that pass some rows go on with those behind them.
 seenAfter : Seen → List Row → Seen
@@ -218,7 +218,7 @@ module _ (xs : List ℕ) (own : checkOwn xs ≡ Accepted) (first : checkFirst (r
   stands k h =
       let f : Front (addRows [] builtIn) (blocksOf (withDesk xs)) = own-front in
       let j : joinsOf (blocksOf (withDesk xs)) k ≡ 2 =
-      ap (λ bs. joinsOf bs k) (f .all) ∙ joins-behind (addRows [] builtIn) k (omega (arith, table-count)) (f .new ∷ f .others) ∙ table-run k h .joins in
+      ap (λ bs. joinsOf bs k) (f .all) ∙ joins-behind (addRows [] builtIn) k (omega (arith, table-count)) (f .new ∷ f .others) ∙ table-crossing k h .joins in
       eq-else (suc k) (length (blocksOf (withDesk xs))) _ _ (λ e. omega (arith, desk-blocks)) ∙ lt-then 0 (joinsOf (blocksOf (withDesk xs)) k) true false (omega arith)
 
   fits : (k : ℕ) → k < deskBlocks → totalFits (blocksOf (withDesk xs)) k ≡ true
@@ -226,7 +226,7 @@ module _ (xs : List ℕ) (own : checkOwn xs ≡ Accepted) (first : checkFirst (r
   fits k h =
       let f : Front (addRows [] builtIn) (blocksOf (withDesk xs)) = own-front in
       let t : total (blocksOf (withDesk xs)) k ≡ k + 1 =
-      ap (λ bs. total bs k) (f .all) ∙ total-behind (addRows [] builtIn) k (omega (arith, table-count)) (f .new ∷ f .others) ∙ table-run k h .total in
+      ap (λ bs. total bs k) (f .all) ∙ total-behind (addRows [] builtIn) k (omega (arith, table-count)) (f .new ∷ f .others) ∙ table-crossing k h .total in
       lt-else maxTotal (total (blocksOf (withDesk xs)) k) false true (omega arith)
 
 -- "places are still the file's own lines": a refusal of the rows falls on none of the table's.

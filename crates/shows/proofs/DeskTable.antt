@@ -139,9 +139,9 @@ table-openings = refl
 pub table-count : length (addRows [] builtIn) ≡ deskBlocks
 table-count = omega (arith, open-count 1 builtIn [], table-openings)
 
--- "block k's summary is k + 2 from first join to second and none back": what is tested of block k.
-isRun : List Block → ℕ → Bool
-isRun bs k =
+-- "block k's summary is k + 2 from first join to second and none back": what is tested of block k, from join to join.
+isCrossed : List Block → ℕ → Bool
+isCrossed bs k =
     ifEq (summary bs k 1 2) (k + 2)
     (ifEq (summary bs k 2 1) noChain
     (ifEq (joinsOf bs k) 2
@@ -150,30 +150,30 @@ isRun bs k =
     false)
     false
 
-table-runs : every (isRun (addRows [] builtIn)) (range 0 deskBlocks) ≡ true
-unfolding isRun every ifEq ifLt ifTrue builtIn flatMap range plainRun plainOpening plainLink noBlock blockAt joinsOf addLink addUse addRow addRows sumOver total cueAt renamed usesLinks links followed isIn successors searchFrom fewest blockLinks orNone summary
-table-runs = refl
+table-crossed : every (isCrossed (addRows [] builtIn)) (range 0 deskBlocks) ≡ true
+unfolding isCrossed every ifEq ifLt ifTrue builtIn flatMap range plainRun plainOpening plainLink noBlock blockAt joinsOf addLink addUse addRow addRows sumOver total cueAt renamed usesLinks links followed isIn successors searchFrom fewest blockLinks orNone summary
+table-crossed = refl
 
 -- The rule at each block.
-pub record Runs (bs : List Block) (k : ℕ) : Type 0 where
+pub record Crossed (bs : List Block) (k : ℕ) : Type 0 where
   pub there : summary bs k 1 2 ≡ k + 2
   pub back : summary bs k 2 1 ≡ noChain
   pub joins : joinsOf bs k ≡ 2
   pub total : total bs k ≡ k + 1
 
-run-passed : (bs : List Block) (k : ℕ) → isRun bs k ≡ true → Runs bs k
-unfolding isRun
-run-passed bs k e =
+crossed-so : (bs : List Block) (k : ℕ) → isCrossed bs k ≡ true → Crossed bs k
+unfolding isCrossed
+crossed-so bs k e =
     let (a, e₁) = passed-eq (summary bs k 1 2) (k + 2) _ e in
     let (b, e₂) = passed-eq (summary bs k 2 1) noChain _ e₁ in
     let (c, e₃) = passed-eq (joinsOf bs k) 2 _ e₂ in
     let (d, e₄) = passed-eq (total bs k) (k + 1) true e₃ in
     record { there = a; back = b; joins = c; total = d }
 
-pub table-run : (k : ℕ) → k < deskBlocks → Runs (addRows [] builtIn) k
-table-run k h =
-    run-passed (addRows [] builtIn) k
-    (every-mem (isRun (addRows [] builtIn)) (range 0 deskBlocks) table-runs k (range-mem 0 deskBlocks k (omega arith) (omega arith)))
+pub table-crossing : (k : ℕ) → k < deskBlocks → Crossed (addRows [] builtIn) k
+table-crossing k h =
+    crossed-so (addRows [] builtIn) k
+    (every-mem (isCrossed (addRows [] builtIn)) (range 0 deskBlocks) table-crossed k (range-mem 0 deskBlocks k (omega arith) (omega arith)))
 
 -- The block of a plain run, and the blocks 0 to n - 1, the last one first.
 abbrev pub plainLinks : ℕ → List Link
