@@ -66,8 +66,8 @@ pub data ReadRefusal (line : Check → ℕ → ℕ) (q : Refusal) : Type 0 where
   of-rows : (c : Check) (p : ℕ) → q ≡ refusal (refusalNumber c) (line c p) → ReadRefusal line q
   of-room : q ≡ refusal 11 0 → ReadRefusal line q
 
--- What a way of reading answers and leaves, for a file and a lent output. There are two such ways (02, Paper 4), so this page says it for any: all rows
--- where the file's own are xs, that these are right or which sentence of them is broken first, at which place, and the line of that place.
+-- What a way of reading answers and leaves, for a file and a lent output. There are two (02, Paper 4), and this is said of both: `all` gives all rows
+-- from the file's own, `Right` says which of the latter are taken, `Broken` which sentence is broken first and where, `line` the line of that place.
 pub record ReadsAs (all : List ℕ → List ℕ) (Right : List ℕ → Type 0) (Broken : List ℕ → Check → ℕ → Type 0) (line : Check → ℕ → ℕ)
     (f out : List ℕ) (r : ReadAnswer) (after : List ℕ) : Type 0 where
   -- It answers exactly if the text keeps the rules, its rows do, and the output is long enough.
