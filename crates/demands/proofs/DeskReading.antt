@@ -235,7 +235,7 @@ desk-left f out after rows blocks cues e = go (answered second-way f out after _
 pub desk-lawful : (f out after : List ℕ) (rows blocks cues : ℕ) → AsksDeskRead f out (Read rows blocks cues) after → Lawful (take (rows * rowSize) after)
 desk-lawful f out after rows blocks cues e = accepted-exactly (take (rows * rowSize) after) .0 (desk-left f out after rows blocks cues e .accepted)
 
--- Its places are the file's own lines.
+-- "places are still the file's own lines".
 pub own-lines : (f out after : List ℕ) (r : ReadAnswer) → AsksDeskRead f out r after → OwnLines f r
 unfolding refusal
 own-lines f out after r e n p a low high xs s = go (is-desk-read f out after r e .no-other (refusal n p) a)
@@ -263,12 +263,12 @@ own-lines f out after r e n p a low high xs s = go (is-desk-read f out after r e
         lines c o (number (refusalNumber c) (ownLine c o) q) (ap (λ (x : Refusal). x .place) q)
         (is-desk-read f out after r e .refused c o .0 (a ∙ ap ReadRefused q))
 
--- The table is not empty.
+-- How much longer all rows are than the file's own.
 long-table : (xs : List ℕ) → length (builtInFirst xs) ≡ 168 * 11 + length xs
 unfolding withDesk
 long-table = with-length
 
--- What is written for rows that were read the second way is a whole file, which the first way reads to the same rows.
+-- What is written for rows that were read the second way is "a whole file, which the first way reads to the same rows".
 pub writes-whole : (f out after : List ℕ) (rows blocks cues : ℕ) → AsksDeskRead f out (Read rows blocks cues) after
     → (w : WriteAnswer) (out′ after′ : List ℕ) → AsksWrite (take (rows * rowSize) after) out′ w after′ → 65536 ≤ length out′
     → WritesWhole f (Read rows blocks cues) (take (rows * rowSize) after) w after′

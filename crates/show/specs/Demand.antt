@@ -1,6 +1,7 @@
--- Demands 2 and 3, and what document 02, Paper 4, demands, of the answers that the entry points give, in the words of documents 01 and 02. What an entry point is asked and answers is known by
--- its promise (crates/demands/specs/Asking); the words are those of crates/demands/specs, a page for each part; for the text of a file, of
--- crates/shows/specs/Files and crates/basics/specs/Values; for the work area, of WorkArea beside this page and crates/distances/specs/Demand.
+-- Demands 2 and 3, and what document 02, Paper 4, demands, of the answers that the entry points give, in the words of documents 01 and 02. What an entry
+-- point is asked and answers is known by its promise (crates/demands/specs/Asking); the words are those of crates/demands/specs, a page for each part; for
+-- the text of a file, of crates/shows/specs/Files and crates/basics/specs/Values; for the work area, of WorkArea beside this page and
+-- crates/distances/specs/Demand.
 use Prim.Native.Nat.{ℕ, _+_, _*_, _≤_, _<_}
 use mathlib.Core.Path.{_≡_}
 use mathlib.Core.Bool.{Bool}

@@ -1,5 +1,5 @@
--- The built-in table (02, Paper 4): its numbers are its rows, its rows pass checks 5 to 8, and each of its blocks is as it must be. What is true of
--- the table is computed over all of it at once, and one law hands it on to each block.
+-- The built-in table (02, Paper 4): its numbers are its rows, no check of rows refuses one of them, and each of its blocks is as it must be. What is true
+-- of the table is computed over all of it at once, and one law hands it on to each block.
 use Prim.Native.Nat.{ℕ, zero, suc, _+_, _*_, _%_, _<_}
 use mathlib.Core.Path.{_≡_, refl, sym, _∙_, ap, ap₂}
 use mathlib.Core.Bool.{Bool, true, false}
