@@ -7,8 +7,9 @@ use std::process::{Command, ExitCode, Stdio};
 use std::thread;
 
 use second::gen::prng::Prng;
-use second::gen::{damage, edges, known, notes, padding, random};
+use second::gen::{damage, desk, edges, known, notes, padding, random};
 use second::limits::BYTES;
+use second::naive::desk::table;
 use second::naive::file::print;
 use second::naive::print::printed;
 
@@ -46,6 +47,8 @@ fn named() -> Vec<(String, Vec<u8>)> {
         ("1,000 cues", known::labelled(1000)),
         ("1,001 cues", known::labelled(1001)),
         ("millions of triples", known::millions()),
+        ("rows of the desk before a show", [table().concat(), desk::desk_run()].concat()),
+        ("a file for the desk", desk::desk_run()),
     ];
     shows.extend(edges::bases().into_iter().map(|rows| ("base", rows)));
     for (name, rows) in shows {

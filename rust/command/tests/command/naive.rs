@@ -168,7 +168,7 @@ fn answers_are_those_of_the_naive_tool() {
 
 #[test]
 fn answers_on_the_desk_are_those_of_the_naive_tool() {
-    let random = (0..40).map(|case| {
+    let random = (0..12).map(|case| {
         let prng = &mut Prng::new(26, case);
         let shape = prng.pick(&random::SHAPES);
         random::desk_show(prng, shape)
@@ -182,7 +182,7 @@ fn answers_on_the_desk_are_those_of_the_naive_tool() {
 }
 
 #[test]
-fn a_file_is_written_as_by_the_naive_tool() {
+fn a_file_is_written_and_its_links_are_listed_as_by_the_naive_tool() {
     for case in 0..100 {
         let prng = &mut Prng::new(27, case);
         let shape = prng.pick(&random::SHAPES);
@@ -193,6 +193,8 @@ fn a_file_is_written_as_by_the_naive_tool() {
             for file in [&read.file, &padded] {
                 let written = asked(read.way, file, &Question::Write).expect("an accepted show");
                 assert_eq!(written.as_bytes(), print(&read.show.rows));
+                let links = asked(read.way, file, &Question::Links).expect("an accepted show");
+                assert_eq!(links, printed(written.as_bytes()));
                 // The whole file is read as it is, to the same sizes.
                 let sizes = |way, file: &[u8]| asked(way, file, &Question::Check).ok();
                 assert_eq!(sizes(Way::Alone, written.as_bytes()), sizes(read.way, file));
