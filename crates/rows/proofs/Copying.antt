@@ -3,8 +3,8 @@ use Prim.Native.Nat.{ℕ, suc, _+_, _*_, _-_, _≤_, _<_}
 use native.Mathlib.Omega.{arith}
 use mathlib.Core.Path.{_≡_, refl, sym, _∙_, ap, ap₂}
 use mathlib.Core.List.{List, [], _∷_, _++_, append-nil, append-assoc}
-use lib.ListN.{length, getD, set, take, drop, length-set, length-append, length-drop, drop-of-length-le}
-use lib.Seq.{sets, sets-eq, take-suc, drop-cons, drop-at, drop-append-add, drop-drop, take-append-seam, set-at, append-snoc, length-take-le, take-length, take-take, take-set-le, set-split, getD-take}
+use lib.ListN.{length, getD, set, take, drop, length-set, length-drop, drop-of-length-le}
+use lib.Seq.{sets, sets-eq, take-suc, drop-cons, drop-at, drop-drop, set-at, append-snoc, length-take-le, take-length, take-take, take-set-le, set-split, getD-take}
 use Rattle.model.specs.Limits.{rowSize}
 use Rattle.model.specs.Lists.{overwrite}
 
@@ -18,15 +18,6 @@ copy-on from to now i h l e =
 pub copy-done : (from to now : List ℕ) (i : ℕ) → length from ≤ i → i ≤ length from → now ≡ take i from ++ drop i to → now ≡ overwrite from to
 unfolding overwrite
 copy-done from to now i h l e = let q : i ≡ length from = omega arith in e ∙ rw (q, take-length from)
-
--- Numbers stored behind those that stand at the beginning of a list.
-pub overwrite-on : (xs vs first : List ℕ) → length xs + length vs ≤ length first → sets (overwrite xs first) (length xs) vs ≡ overwrite (xs ++ vs) first
-unfolding overwrite
-overwrite-on xs vs first h =
-    let room : length xs + length vs ≤ length (xs ++ drop (length xs) first) = rw (length-append xs (drop (length xs) first), length-drop (length xs) first) (omega arith) in
-    let rest : drop (length xs + length vs) (xs ++ drop (length xs) first) ≡ drop (length xs + length vs) first =
-    drop-append-add xs (drop (length xs) first) (length vs) ∙ drop-drop (length vs) (length xs) first in
-    sets-eq vs (xs ++ drop (length xs) first) (length xs) room ∙ rw (take-append-seam xs (drop (length xs) first), rest, length-append xs vs)
 
 -- A row is copied to its part of the list: xs before, zs the part afterwards.
 pub row-put : (row xs zs : List ℕ) (a : ℕ) → length row ≡ rowSize → a + rowSize ≤ length xs → zs ≡ overwrite row (take (a + rowSize - a) (drop a xs))

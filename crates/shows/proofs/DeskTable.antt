@@ -50,7 +50,7 @@ use Rattle.shows.proofs.Accepted.{open-count}
 use Rattle.shows.proofs.FlatRows.{first-values, rows-first}
 
 -- Every row has eight columns.
-unfoldable pub eights : List Row → Bool
+eights : List Row → Bool
 eights [] = true
 eights (w ∷ ws) = ifEq (length (w .columns)) 8 (eights ws) false
 
@@ -62,7 +62,7 @@ row-back : (w : Row) (xs : List ℕ) → length (w .columns) ≡ 8 → rowAt (ro
 unfolding ofValues rowValues
 row-back w xs e = ap ofValues (first-values (rowValues w) xs (omega arith))
 
-pub row-long : (w : Row) → length (w .columns) ≡ 8 → length (rowValues w) ≡ rowSize
+row-long : (w : Row) → length (w .columns) ≡ 8 → length (rowValues w) ≡ rowSize
 unfolding rowValues
 row-long w e = omega arith
 
@@ -105,7 +105,7 @@ pub with-row : (xs : List ℕ) (r : ℕ) → rowAt (withDesk xs) (deskRows + r) 
 unfolding rowAt
 with-row xs r = simp (with-cell xs r)
 
-pub table-eights : eights builtIn ≡ true
+table-eights : eights builtIn ≡ true
 unfolding eights builtIn flatMap range plainRun plainOpening plainLink ifEq
 table-eights = refl
 

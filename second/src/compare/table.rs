@@ -1,7 +1,7 @@
 //! The rows of the desk as they stand in the library's source, as its program prints them, and as the
 //! naive tool makes them.
 
-use crate::limits::Row;
+use crate::limits::{Row, COLUMNS};
 use crate::naive::desk::table;
 use crate::naive::file::parse;
 
@@ -30,7 +30,7 @@ pub fn difference(source: &str, printed: &[u8]) -> Option<String> {
     })
 }
 
-/// The rows of the constant, one to a line.
+/// The rows of the constant: each below its line of a show file, one number to a line.
 fn in_source(source: &str) -> Result<Vec<Row>, String> {
     let mut lines = source.lines().zip(1..);
     let begins = |line: &str| line.trim_start_matches("pub ").starts_with(BEGIN);
@@ -38,18 +38,26 @@ fn in_source(source: &str) -> Result<Vec<Row>, String> {
         return Err(format!("the source: no line begins with '{BEGIN}' and ends with '= ['"));
     }
     let mut rows = Vec::new();
-    for (line, number) in lines {
+    while let Some((line, number)) = lines.next() {
         if line == END {
             return Ok(rows);
         }
-        rows.push(row_of(line).ok_or(format!("the source: line {number} is no row: '{line}'"))?);
+        let below: Vec<&str> = lines.by_ref().take(COLUMNS).map(|(below, _)| below).collect();
+        let wrong = format!("the source: line {number} is no row above its numbers: '{line}'");
+        rows.push(row_of(line, &below).ok_or(wrong)?);
     }
     Err(format!("the source: no line '{END}' ends the rows"))
 }
 
-/// A row between brackets, with a comma and a space between two values, and a comma behind it.
-fn row_of(line: &str) -> Option<Row> {
-    let values = line.trim_start().strip_prefix('[')?.strip_suffix("],")?.split(", ");
+/// The row that a comment and the numbers below it say, if both say the same.
+fn row_of(comment: &str, below: &[&str]) -> Option<Row> {
+    let said = row_in(comment.trim_start().strip_prefix("// ")?.split(','))?;
+    let numbers: Option<Vec<&str>> =
+        below.iter().map(|line| line.trim_start().strip_suffix(',')).collect();
+    (row_in(numbers?.into_iter()) == Some(said)).then_some(said)
+}
+
+fn row_in<'a>(values: impl Iterator<Item = &'a str>) -> Option<Row> {
     let row: Option<Vec<u32>> = values.map(|value| value.parse().ok()).collect();
     row?.try_into().ok()
 }
@@ -77,16 +85,19 @@ fn said(row: Option<&Row>) -> String {
 #[cfg(test)]
 mod tests {
     use super::*;
-    use crate::limits::{COLUMNS, DESK_ROWS};
+    use crate::limits::DESK_ROWS;
     use crate::naive::file::print;
 
     /// A source with these rows.
     fn source(rows: &[Row]) -> String {
         let lines: String = rows
             .iter()
-            .map(|row| format!("    [{}],\n", row.map(|value| value.to_string()).join(", ")))
+            .map(|row| {
+                let row = row.map(|value| value.to_string());
+                format!("    // {}\n    {},\n", row.join(","), row.join(",\n    "))
+            })
             .collect();
-        format!("const OTHER: [u32; 2] = [\n    1,\n];\n\npub {BEGIN}[[u32; ROW_SIZE]; DESK_ROWS] = [\n{lines}{END}\n\nfn more() {{}}\n")
+        format!("const OTHER: [u32; 2] = [\n    1,\n];\n\npub {BEGIN}[u32; DESK_SIZE] = [\n{lines}{END}\n\nfn more() {{}}\n")
     }
 
     #[test]
@@ -146,8 +157,11 @@ mod tests {
         assert!(told(&text.replace("];", "]"), &file).starts_with("the source: line "));
         let cut = text.split_once("];\n\nfn").expect("the rows end").0;
         assert_eq!(told(cut, &file), "the source: no line '];' ends the rows");
-        let ten = text.replacen("[0, 0, 2, 1, 0, 0, 0, 0, 0, 0, 0]", "[0, 0, 2, 1]", 1);
-        assert_eq!(told(&ten, &file), "the source: line 6 is no row: '    [0, 0, 2, 1],'");
+        let wrong = |line: u32| format!("the source: line {line} is no row above its numbers: ");
+        let ten = text.replacen("// 0,0,2,1,0", "// 0,0,2,1", 1);
+        assert!(told(&ten, &file).starts_with(&wrong(6)));
+        let other = text.replacen("// 0,1,1,1,3", "// 0,1,1,1,2", 1);
+        assert!(told(&other, &file).starts_with(&wrong(18)));
         let refused = "the printed file is no show file: refusal 2, place 1";
         assert_eq!(told(&text, b""), refused);
     }

@@ -4,17 +4,16 @@ use mathlib.Core.Path.{refl}
 use mathlib.Core.List.{flatMap}
 use Rattle.model.specs.Rows.{rowValues}
 use Rattle.model.specs.Lists.{range}
-use Rattle.model.specs.Desk.{plainOpening, plainLink, plainRun, builtIn}
+use Rattle.model.specs.Desk.{plainOpening, plainLink, plainRun, builtIn, builtInNumbers}
 use Rattle.desk.proofs.Rows.{behind-table}
 use Rattle.desk.proofs.put_before.Statement.{statement}
 use Rattle.desk.proofs.put_before.Tie as tie
 
-put-built-in-requires : tie.Need-put-built-in-requires
-unfolding builtIn flatMap range plainRun plainOpening plainLink rowValues
-put-built-in-requires c κs = (refl, search needs)
-
 returns : tie.Need-returns
-returns c = (search (behind-table, needs), search needs)
+unfolding builtInNumbers builtIn flatMap range plainRun plainOpening plainLink rowValues
+returns c =
+    let asked = c .before .before .before .before .before .args in
+    (behind-table _ (asked .numbers .now) _ _ (asked .many) refl (c .before .before .before .move-up .ensures) (c .copy .ensures), search needs)
 
 pub put-before-spec : {M : Type 1} → statement M
-put-before-spec = tie.close (tie.spec (λ c. search needs) (λ c κs. search needs) put-built-in-requires returns)
+put-before-spec = tie.close (tie.spec (λ c. search needs) (λ c κs. search needs) (λ c. search needs) (λ c κs. search needs) returns)
