@@ -1,11 +1,10 @@
 -- The answers of locating, numbering, writing and reading.
-use Prim.Native.Nat.{ℕ, suc, _+_, _*_, _-_, _/_, _≤_, _<_}
+use Prim.Native.Nat.{ℕ, _+_, _*_, _-_, _/_, _≤_, _<_}
 use native.Mathlib.Omega.{arith}
 use mathlib.Core.Path.{_≡_, refl, sym, _∙_, ap}
 use mathlib.Core.Bool.{Bool, true, false}
-use mathlib.Core.List.{List, _++_}
-use lib.ListN.{length, getD, set, take, drop}
-use lib.Seq.{take-suc, drop-cons, set-at, append-snoc, length-take-le, take-length}
+use mathlib.Core.List.{List}
+use lib.ListN.{length}
 use Rattle.model.specs.Limits.{rowSize, maxRows, maxBytes, maxDepth, maxBlocks}
 use Rattle.model.specs.Rows.{rowsFrom, rowCount, rowsOf, fileText}
 use Rattle.model.specs.Rules.{isCue}

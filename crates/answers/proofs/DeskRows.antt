@@ -1,7 +1,7 @@
 -- Reading the second way: what is answered for rows that stand behind the built-in table.
 use Prim.Native.Nat.{ℕ, _+_, _*_, _≤_, _<_}
 use native.Mathlib.Omega.{arith}
-use mathlib.Core.Path.{_≡_, refl, sym, _∙_, ap}
+use mathlib.Core.Path.{_≡_, sym, _∙_, ap}
 use mathlib.Core.Bool.{Bool, true, false}
 use mathlib.Core.List.{List}
 use lib.ListN.{length}
@@ -9,7 +9,7 @@ use Rattle.model.specs.Choice.{ifLt}
 use Rattle.model.specs.Limits.{rowSize, deskRows}
 use Rattle.model.specs.Rows.{rowAt, rowCount}
 use Rattle.model.specs.Verdicts.{refusal, refused, andThen, verdict}
-use Rattle.model.specs.Desk.{withDesk, checkFirst, deskVerdict, byOwnLine, inOwnLines}
+use Rattle.model.specs.Desk.{checkFirst, deskVerdict, byOwnLine, inOwnLines}
 use Rattle.model.specs.Answers.{ofRead}
 use Rattle.model.specs.Questions.{Outcome, outcome, refuse, onAccepted, readInto}
 use Rattle.model.specs.declared.Refusal.{Refusal}

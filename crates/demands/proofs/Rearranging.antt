@@ -2,11 +2,12 @@
 use Prim.Native.Nat.{ℕ, zero, suc, _+_, _<_}
 use native.Mathlib.Omega.{arith}
 use native.Mathlib.Nat.{add-zero}
-use mathlib.Core.Path.{_≡_, refl, sym, _∙_, ap, ap₂}
+use mathlib.Core.Path.{_≡_, refl, _∙_, ap, ap₂}
 use mathlib.Core.Logic.{_⊎_, inl, inr}
-use mathlib.Core.List.{List, [], _∷_, _++_, map, flatMap, map-append, append-assoc, List·Permᴰ, List·Permᴰ·nil, List·Permᴰ·cons, List·Permᴰ·swap, List·Permᴰ·trans, List·Memᴰ, List·Memᴰ·head, List·Memᴰ·tail, List·Memᴰ·cases-cons, List·Permᴰ·append-comm, Permᴰ·append-left, Permᴰ·append-right}
+use mathlib.Core.List.{List, _∷_, _++_, map, flatMap, map-append, append-assoc, List·Permᴰ, List·Permᴰ·nil, List·Permᴰ·cons, List·Permᴰ·swap, List·Permᴰ·trans, List·Memᴰ, List·Memᴰ·head, List·Memᴰ·tail, List·Memᴰ·cases-cons, List·Permᴰ·append-comm, Permᴰ·append-left, Permᴰ·append-right}
 use lib.ListN.{length, getD}
 use Rattle.model.specs.Lists.{range}
+use Rattle.basics.proofs.Members.{flat-append}
 use Rattle.basics.proofs.Keeping.{range-append}
 
 -- A member of a list is its first entry or one of the others.
@@ -43,18 +44,12 @@ shuffle own before after new =
     (Permᴰ·append-left (before ++ own) (List·Permᴰ·append-comm after new)))
 
 module _ {A B : Type 0} (f : A → List B) where
-  -- The lists of two lists of things.
-  flat-append : (xs ys : List A) → flatMap f (xs ++ ys) ≡ flatMap f xs ++ flatMap f ys
-  unfolding flatMap
-  flat-append [] ys = refl
-  flat-append (x ∷ xs) ys = ap (λ zs. f x ++ zs) (flat-append xs ys) ∙ sym (append-assoc (f x) (flatMap f xs) (flatMap f ys))
-
   -- Each thing stands for a list. One that stands for some list of its own, followed by the lists of new things, is replaced by these.
   pub replaced : (done own : List B) (before : List A) (x : A) (after new : List A) → f x ≡ own ++ flatMap f new
       → List·Permᴰ ((done ++ own) ++ flatMap f ((before ++ after) ++ new)) (done ++ flatMap f (before ++ (x ∷ after)))
   unfolding flatMap
   replaced done own before x after new e =
-      rw (flat-append (before ++ after) new, flat-append before after, flat-append before (x ∷ after), e, append-assoc done own _)
+      rw (flat-append f (before ++ after) new, flat-append f before after, flat-append f before (x ∷ after), e, append-assoc done own _)
       (Permᴰ·append-left done (shuffle own (flatMap f before) (flatMap f after) (flatMap f new)))
 
 module _ {B : Type 0} where

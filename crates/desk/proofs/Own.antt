@@ -5,7 +5,6 @@ use native.Mathlib.Decide.{ℕ-discrete, decLt}
 use mathlib.Core.Path.{_≡_, sym, _∙_}
 use mathlib.Core.Bool.{Bool, true, false, false≢true}
 use mathlib.Core.List.{List}
-use Rattle.model.specs.Choice.{ifLt, ifEq}
 use Rattle.model.specs.Limits.{maxRows, deskRows, deskBlocks}
 use Rattle.model.specs.Rows.{Row, rowCount}
 use Rattle.model.specs.Verdicts.{refused}

@@ -1,7 +1,7 @@
 -- The numbers of rows that are put one behind the other: what is left of a block's links, and of all blocks.
 use Prim.Native.Nat.{ℕ, suc, _+_, _*_, _-_, _≤_, _<_}
-use mathlib.Core.Path.{_≡_, refl, sym, _∙_, ap}
-use mathlib.Core.List.{List, [], _∷_, _++_, flatMap, append-nil, append-assoc}
+use mathlib.Core.Path.{_≡_, refl, _∙_}
+use mathlib.Core.List.{List, [], _∷_, _++_, flatMap, append-nil}
 use native.Mathlib.Omega.{arith}
 use native.Mathlib.Numerals.{add-one}
 use lib.ListN.{length, drop-of-length-le}
@@ -9,15 +9,9 @@ use Rattle.model.specs.Limits.{rowSize, deskBlocks}
 use Rattle.model.specs.Lists.{range, overwrite}
 use Rattle.model.specs.Rows.{Row, rowValues}
 use Rattle.model.specs.Desk.{plainOpening, plainLink, plainRun, builtIn, builtInNumbers}
+use Rattle.basics.proofs.Members.{flat-append}
 use Rattle.codec.proofs.Stores.{puts-both, puts-as, puts-long, puts-over, room-first, room-next, Stored, stored-begin, stored-on, stored-room, stored-end}
 use Rattle.plain_runs.specs.Putting.{ownLinks, PutsRows, HasRoom}
-
--- The numbers of two lists of rows in a row.
-numbers-both : (vs ws : List Row) → flatMap rowValues (vs ++ ws) ≡ flatMap rowValues vs ++ flatMap rowValues ws
-unfolding flatMap
-numbers-both [] ws = refl
-numbers-both (v ∷ vs) ws =
-    ap (λ (r : List ℕ). rowValues v ++ r) (numbers-both vs ws) ∙ sym (append-assoc (rowValues v) (flatMap rowValues vs) (flatMap rowValues ws))
 
 -- So many numbers from c on: the first, and the others.
 range-next : (c end : ℕ) → c < end → range c (end - c) ≡ c ∷ range (c + 1) (end - (c + 1))
@@ -48,7 +42,7 @@ runsLeft k = flatMap rowValues (flatMap plainRun (range k (deskBlocks - k)))
 
 links-next : (k c : ℕ) → c ≤ k → linksLeft k c ≡ flatMap rowValues (plainLink k c (c + 1) ∷ []) ++ linksLeft k (c + 1)
 unfolding linksLeft ownLinks
-links-next k c h = rw (range-next c (k + 1) (omega arith)) (numbers-both (plainLink k c (c + 1) ∷ []) _)
+links-next k c h = rw (range-next c (k + 1) (omega arith)) (flat-append rowValues (plainLink k c (c + 1) ∷ []) _)
 
 pub links-none : (k c : ℕ) → k < c → linksLeft k c ≡ []
 unfolding linksLeft ownLinks flatMap
@@ -56,7 +50,7 @@ links-none k c h = rw (range-none c (k + 1) (omega arith))
 
 runs-next : (k : ℕ) → k < deskBlocks → runsLeft k ≡ flatMap rowValues (plainRun k) ++ runsLeft (k + 1)
 unfolding runsLeft flatMap
-runs-next k h = rw (range-next k deskBlocks h) (numbers-both (plainRun k) _)
+runs-next k h = rw (range-next k deskBlocks h) (flat-append rowValues (plainRun k) _)
 
 pub runs-none : (k : ℕ) → deskBlocks ≤ k → runsLeft k ≡ []
 unfolding runsLeft flatMap
@@ -100,14 +94,14 @@ runs-full k n o p h l s =
 -- Rows in two parts: room for them, and both put.
 module _ (vs ws : List Row) (n : ℕ) (o : List ℕ) where
   rows-first : HasRoom (vs ++ ws) o n → HasRoom vs o n
-  rows-first h = room-first (flatMap rowValues vs) (flatMap rowValues ws) _ (n * rowSize) (length o) (numbers-both vs ws) h
+  rows-first h = room-first (flatMap rowValues vs) (flatMap rowValues ws) _ (n * rowSize) (length o) (flat-append rowValues vs ws) h
 
   module _ (i : ℕ) (p : List ℕ) (s : PutsRows vs o n i p) where
     rows-next : HasRoom (vs ++ ws) o n → HasRoom ws p i
-    rows-next h = room-next (flatMap rowValues vs) (flatMap rowValues ws) _ o p (n * rowSize) (i * rowSize) (numbers-both vs ws) h s
+    rows-next h = room-next (flatMap rowValues vs) (flatMap rowValues ws) _ o p (n * rowSize) (i * rowSize) (flat-append rowValues vs ws) h s
 
     rows-both : (j : ℕ) (q : List ℕ) → PutsRows ws p i j q → PutsRows (vs ++ ws) o n j q
-    rows-both j q t = puts-as (numbers-both vs ws) (puts-both s t)
+    rows-both j q t = puts-as (flat-append rowValues vs ws) (puts-both s t)
 
 -- A block's rows: its opening, the links of its own cues, and two links more.
 unfoldable lastLinks : ℕ → List Row

@@ -1,18 +1,14 @@
 -- Lists made of lists, and ranges in two parts.
 use Prim.Native.Nat.{ℕ, zero, suc, _+_}
 use native.Mathlib.Omega.{arith}
-use mathlib.Core.Path.{_≡_, refl, sym, _∙_, ap}
+use mathlib.Core.Path.{_≡_, refl, _∙_, ap}
 use mathlib.Core.Bool.{Bool, true, false}
-use mathlib.Core.List.{List, [], _∷_, _++_, map, flatMap, append-assoc}
+use mathlib.Core.List.{List, [], _∷_, _++_, map, flatMap}
 use Rattle.model.specs.Choice.{ifTrue}
 use Rattle.model.specs.Lists.{range, keep}
+use Rattle.basics.proofs.Members.{flat-append}
 
 module _ {A B : Type 0} (f : A → List B) where
-  flat-append : (xs ys : List A) → flatMap f (xs ++ ys) ≡ flatMap f xs ++ flatMap f ys
-  unfolding flatMap
-  flat-append [] ys = refl
-  flat-append (x ∷ xs) ys = ap (λ (w : List B). f x ++ w) (flat-append xs ys) ∙ sym (append-assoc (f x) (flatMap f xs) (flatMap f ys))
-
   pub flat-same : (g : A → List B) → ((x : A) → f x ≡ g x) → (xs : List A) → flatMap f xs ≡ flatMap g xs
   unfolding flatMap
   flat-same g h [] = refl
@@ -27,7 +23,7 @@ module _ {A B : Type 0} (f : A → List B) where
     pub flat-flat : (g : C → List A) (xs : List C) → flatMap f (flatMap g xs) ≡ flatMap (λ (x : C). flatMap f (g x)) xs
     unfolding flatMap
     flat-flat g [] = refl
-    flat-flat g (x ∷ xs) = flat-append (g x) (flatMap g xs) ∙ ap (λ (w : List B). flatMap f (g x) ++ w) (flat-flat g xs)
+    flat-flat g (x ∷ xs) = flat-append f (g x) (flatMap g xs) ∙ ap (λ (w : List B). flatMap f (g x) ++ w) (flat-flat g xs)
 
 -- What is kept of a list, from its first number on; and of two lists in a row.
 pub flat-keep : {B : Type 0} (f : ℕ → List B) (test : ℕ → Bool) (x : ℕ) (xs : List ℕ)

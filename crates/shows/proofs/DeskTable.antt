@@ -2,7 +2,7 @@
 -- of the table is computed over all of it at once, and one law hands it on to each block.
 use Prim.Native.Nat.{ℕ, zero, suc, _+_, _*_, _%_, _<_}
 use mathlib.Core.Path.{_≡_, refl, sym, _∙_, ap, ap₂}
-use mathlib.Core.Bool.{Bool, true, false}
+use mathlib.Core.Bool.{Bool, true, false, false≢true}
 use mathlib.Core.List.{List, [], _∷_, _++_, map, flatMap, append-assoc, append-nil}
 use native.Mathlib.Omega.{arith}
 use native.Mathlib.Decide.{ℕ-discrete}
@@ -42,9 +42,10 @@ use Rattle.model.specs.Chains.{followed, isIn, successors, searchFrom, fewest}
 use Rattle.model.specs.Summaries.{blockLinks, orNone, summary}
 use Rattle.model.specs.Verdicts.{checkRows, openingRows}
 use Rattle.model.specs.Desk.{plainOpening, plainLink, plainRun, builtIn, builtInNumbers, withDesk}
-use Rattle.model.specs.declared.Verdict.the-variants.{Accepted}
+use Rattle.model.specs.declared.Verdict.{Verdict}
+use Rattle.model.specs.declared.Verdict.the-variants.{Accepted, Refused}
 use Rattle.basics.proofs.Members.{range-mem, every-mem}
-use Rattle.basics.proofs.Choices.{passed-eq}
+use Rattle.basics.proofs.Choices.{passed, passed-eq}
 use Rattle.shows.proofs.AtBlock.{blockAt-hit, blockAt-skip}
 use Rattle.shows.proofs.Accepted.{open-count}
 use Rattle.shows.proofs.FlatRows.{first-values, rows-first}
@@ -122,11 +123,6 @@ pub table-blocks : blocksOf builtInNumbers ≡ addRows [] builtIn
 unfolding blocksOf
 table-blocks = ap (addRows []) table-rows
 
--- "its rows pass checks 5 to 8".
-pub table-passes : checkRows start 1 builtIn ≡ Accepted
-unfolding builtIn flatMap range plainRun plainOpening plainLink checkRows start fault after mayFollow mayOpen goesOn inRange labelFits ownFits every isCue cuesIn named columnsUsed isZero distinct differs inOrder isBelow linkKey useKey ifEq ifLt ifTrue
-table-passes = refl
-
 -- How many rows and blocks it has.
 pub table-length : length builtIn ≡ deskRows
 unfolding builtIn flatMap range plainRun plainOpening plainLink
@@ -150,9 +146,30 @@ isCrossed bs k =
     false)
     false
 
-table-crossed : every (isCrossed (addRows [] builtIn)) (range 0 deskBlocks) ≡ true
-unfolding isCrossed every ifEq ifLt ifTrue builtIn flatMap range plainRun plainOpening plainLink noBlock blockAt joinsOf addLink addUse addRow addRows sumOver total cueAt renamed usesLinks links followed isIn successors searchFrom fewest blockLinks orNone summary
-table-crossed = refl
+-- "Over the whole table one fact is proved: its rows pass checks 5 to 8, and block k's summary ..": one test of some rows and their first n blocks.
+accepts : Verdict → Bool
+accepts Accepted = true
+accepts (Refused r) = false
+
+isRight : List Row → ℕ → Bool
+isRight ws n = ifTrue (accepts (checkRows start 1 ws)) (every (isCrossed (addRows [] ws)) (range 0 n)) false
+
+table-right : isRight builtIn deskBlocks ≡ true
+unfolding isRight accepts isCrossed every ifEq ifLt ifTrue builtIn flatMap range plainRun plainOpening plainLink checkRows start fault after mayFollow mayOpen goesOn inRange labelFits ownFits isCue cuesIn named columnsUsed isZero distinct differs inOrder isBelow linkKey useKey noBlock blockAt joinsOf addLink addUse addRow addRows sumOver total cueAt renamed usesLinks links followed isIn successors searchFrom fewest blockLinks orNone summary
+table-right = refl
+
+-- The rule at the rows: they pass.
+accepts-so : (v : Verdict) → accepts v ≡ true → v ≡ Accepted
+unfolding accepts
+accepts-so Accepted e = refl
+accepts-so (Refused r) e = absurd (false≢true e)
+
+both-right : (accepts (checkRows start 1 builtIn) ≡ true) × (every (isCrossed (addRows [] builtIn)) (range 0 deskBlocks) ≡ true)
+unfolding isRight
+both-right = passed (accepts (checkRows start 1 builtIn)) (every (isCrossed (addRows [] builtIn)) (range 0 deskBlocks)) table-right
+
+pub table-passes : checkRows start 1 builtIn ≡ Accepted
+table-passes = accepts-so (checkRows start 1 builtIn) (both-right .0)
 
 -- The rule at each block.
 pub record Crossed (bs : List Block) (k : ℕ) : Type 0 where
@@ -173,7 +190,7 @@ crossed-so bs k e =
 pub table-crossing : (k : ℕ) → k < deskBlocks → Crossed (addRows [] builtIn) k
 table-crossing k h =
     crossed-so (addRows [] builtIn) k
-    (every-mem (isCrossed (addRows [] builtIn)) (range 0 deskBlocks) table-crossed k (range-mem 0 deskBlocks k (omega arith) (omega arith)))
+    (every-mem (isCrossed (addRows [] builtIn)) (range 0 deskBlocks) (both-right .1) k (range-mem 0 deskBlocks k (omega arith) (omega arith)))
 
 -- The block of a plain run, and the blocks 0 to n - 1, the last one first.
 abbrev pub plainLinks : ℕ → List Link
