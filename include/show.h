@@ -133,9 +133,9 @@ SHOW_NODISCARD uint64_t show_read(const uint8_t *file, size_t file_len, uint32_t
                                   size_t given_len);
 
 /* Reads a file to rows, with the rows of the blocks that come with the desk before its own.
- *   Blocks     0 to 15, in SHOW_DESK_ROWS rows. Block k is a run of k + 1 own cues with two joins: links of label 1 lead from its first
- *              join to cue 1, from each own cue to the next, and from the last own cue to its second join, k + 2 follow-ons in
- *              all. The program desk_blocks of the repository prints them.
+ *   Blocks     0 to 15, in SHOW_DESK_ROWS rows. Block k has k + 1 own cues in a line: join 1 leads in to the first of them, each to the
+ *              one behind it, and the last out to join 2, by links that all have label 1; that is k + 2 follow-ons. The
+ *              program desk_blocks of the repository prints them.
  *   file       Its own rows alone, 1 to SHOW_DESK_MAX_OWN_ROWS. The first one opens block SHOW_DESK_BLOCKS, and any block of the file can
  *              use those of the desk. Its bytes, names and values are as for show_read, and so is its limit of bytes.
  *   given      rows and blocks, the desk's counted, and cues

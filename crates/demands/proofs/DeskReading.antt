@@ -282,7 +282,7 @@ writes-whole f out after rows blocks cues e w out′ after′ e′ room = go (an
           answer = said;
           fits = fits;
           other-bytes = λ q. other (sym same-text ∙ q);
-          same-rows = λ r out″ after″ e″ h.
+          first-way = λ r out″ after″ e″ h.
               reads-again second-way f out after rows blocks cues e (length text) out′ after′ (rw said at e′) r out″ after″ e″ (omega (arith, long, h));
         }
       where

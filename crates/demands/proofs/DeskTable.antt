@@ -1,13 +1,16 @@
 -- The built-in table is as document 02, Paper 4, describes it.
-use Prim.Native.Nat.{ℕ, _+_, _<_}
+use Prim.Native.Nat.{ℕ, _+_, _≤_, _<_}
 use native.Mathlib.Omega.{arith}
+use native.Mathlib.Decide.{decLt}
 use mathlib.Core.Path.{_≡_, refl, _∙_, ap}
+use mathlib.Core.Bool.{Bool, true, false}
 use mathlib.Core.Logic.{_⊎_, inl, inr, _↔_}
 use mathlib.Core.List.{
   List,
   [],
   _∷_,
   map,
+  flatMap,
   List·Memᴰ,
   List·Memᴰ·head,
   List·Memᴰ·tail,
@@ -17,14 +20,20 @@ use mathlib.Core.List.{
   Memᴰ·append-left,
   Memᴰ·append-right,
 }
-use lib.ListN.{length}
-use Rattle.model.specs.Rows.{rowCount}
+use lib.ListN.{length, getD, List·getD-eq-default}
+use Rattle.model.specs.Choice.{ifLt, ifTrue}
+use Rattle.model.specs.Rules.{every}
+use Rattle.model.specs.Rows.{rowCount, rowValues, fileText}
 use Rattle.model.specs.Lists.{range}
 use Rattle.model.specs.Blocks.{Link, Block, blockAt, blocksOf}
-use Rattle.model.specs.Desk.{builtInNumbers}
-use Rattle.basics.proofs.Members.{map-mem, mem-map, range-bounds, range-mem}
+use Rattle.model.specs.Desk.{plainOpening, plainLink, plainRun, builtIn, builtInNumbers}
+use Rattle.basics.proofs.Choices.{passed-not-lt}
+use Rattle.basics.proofs.Members.{getD-mem, every-mem, map-mem, mem-map, range-bounds, range-mem}
 use Rattle.shows.proofs.DeskTable.{desk-size, table-rows, table-blocks, table-passes, table-count, table-crossing, plainLinks, plainBlock, table-block}
+use Rattle.shows.proofs.Files.{rows-file}
+use Rattle.demands.specs.Files.{UnpaddedFile}
 use Rattle.demands.specs.Desk.{PlainLink, to-first, to-next, from-last, IsPlainRun, TableFact}
+use Rattle.demands.proofs.Padding.{text-file-unpadded}
 use Rattle.demands.proofs.RowByRow.{rows-keep}
 
 -- A link is known by its cues and label.
@@ -75,6 +84,28 @@ plain-run k h =
       links = λ l. rw e (plain-links k l);
     }
 
+-- Its numbers are small, so their text is a file.
+isSmall : ℕ → Bool
+isSmall x = ifLt 999 x false true
+
+all-small : every isSmall builtInNumbers ≡ true
+unfolding every isSmall ifTrue ifLt builtInNumbers builtIn flatMap range plainRun plainOpening plainLink rowValues
+all-small = refl
+
+small-at : (i : ℕ) → getD builtInNumbers i 0 ≤ 999
+unfolding isSmall
+small-at i = go (decLt i (length builtInNumbers))
+  where
+    go : Dec (i < length builtInNumbers) → getD builtInNumbers i 0 ≤ 999
+    go (yes h) = passed-not-lt 999 (getD builtInNumbers i 0) true (every-mem isSmall builtInNumbers all-small _ (getD-mem builtInNumbers i h)) .0
+    go (no h) = rw (List·getD-eq-default builtInNumbers 0 {n = i} (omega arith)) (omega arith)
+
+file-printed : UnpaddedFile (fileText builtIn) builtInNumbers
+unfolding rowCount
+file-printed =
+    rw table-rows at
+    (text-file-unpadded (rows-file builtInNumbers (rw desk-size refl) small-at (rw desk-size (omega arith))))
+
 -- "Over the whole table one fact is proved".
 pub table-fact : TableFact
 unfolding rowCount
@@ -84,6 +115,7 @@ table-fact =
       rows = rw desk-size refl;
       blocks = ap length table-blocks ∙ table-count;
       plain = plain-run;
+      printed = file-printed;
       passes = rows-keep builtInNumbers (rw table-rows table-passes);
       there = λ k h. rw table-blocks (table-crossing k h .there);
       back = λ k h. rw table-blocks (table-crossing k h .back);

@@ -4,11 +4,11 @@ use mathlib.Core.Path.{_≡_}
 use mathlib.Core.Logic.{_↔_}
 use mathlib.Core.List.{List, [], _++_, List·Memᴰ}
 use lib.ListN.{length, take}
-use Rattle.model.specs.Rows.{rowCount}
+use Rattle.model.specs.Rows.{rowCount, fileText}
 use Rattle.model.specs.Blocks.{Link, Block, blockAt, blocksOf}
 use Rattle.model.specs.Summaries.{summary}
 use Rattle.model.specs.Verdicts.{refusal}
-use Rattle.model.specs.Desk.{builtInNumbers}
+use Rattle.model.specs.Desk.{builtIn, builtInNumbers}
 use Rattle.model.specs.declared.ReadAnswer.{ReadAnswer}
 use Rattle.model.specs.declared.ReadAnswer.the-variants.{Refused}
 use Rattle.model.specs.declared.WriteAnswer.{WriteAnswer}
@@ -16,7 +16,7 @@ use Rattle.model.specs.declared.WriteAnswer.the-variants.{Written}
 use Rattle.shows.specs.Files.{SpellsFile}
 use Rattle.demands.specs.Asking.{AsksRead}
 use Rattle.demands.specs.Acceptance.{nthRow, IsRow, Opens, Lawful, Check, Length, Sequence, Ranges, Repeats, Order, Ends, Totals, Keeps, turn, FirstBroken}
-use Rattle.demands.specs.Files.{ReadsAs}
+use Rattle.demands.specs.Files.{UnpaddedFile, ReadsAs}
 use Rattle.demands.specs.RoundTrips.{ReadsAgain}
 
 -- The table.
@@ -35,13 +35,15 @@ pub record IsPlainRun (bs : List Block) (k : ℕ) : Type 0 where
   pub uses : blockAt bs k .uses ≡ []
   pub links : (l : Link) → List·Memᴰ l (blockAt bs k .links) ↔ PlainLink k l
 
--- "a built-in table of 168 rows, sixteen blocks numbered 0 to 15". "Over the whole table one fact is proved: its rows pass checks 5 to 8, and block k's
+-- "a built-in table of 168 rows, sixteen blocks numbered 0 to 15". "A small program generates the table, and its printed file equals the constant": it
+-- prints `fileText builtIn` (crates/plain_runs), and the constant's numbers (crates/desk) are the table's, so that is the one unpadded file of them. "Over the whole table one fact is proved: its rows pass checks 5 to 8, and block k's
 -- summary is k + 2 from first join to second and none back."
 pub record TableFact : Type 0 where
   pub size : length builtInNumbers ≡ 168 * 11
   pub rows : rowCount builtInNumbers ≡ 168
   pub blocks : length (blocksOf builtInNumbers) ≡ 16
   pub plain : (k : ℕ) → k < 16 → IsPlainRun (blocksOf builtInNumbers) k
+  pub printed : UnpaddedFile (fileText builtIn) builtInNumbers
   pub passes : (c : Check) (r : ℕ) → turn c ≡ 1 → IsRow builtInNumbers r → Keeps builtInNumbers c r
   pub there : (k : ℕ) → k < 16 → summary (blocksOf builtInNumbers) k 1 2 ≡ k + 2
   pub back : (k : ℕ) → k < 16 → summary (blocksOf builtInNumbers) k 2 1 ≡ 4294967295
@@ -98,5 +100,5 @@ pub record WritesWhole (f : List ℕ) (first : ReadAnswer) (xs : List ℕ) (w : 
   pub answer : w ≡ Written bytes
   pub fits : bytes ≤ 65536
   pub other-bytes : take bytes after ≡ f → ⊥
-  pub same-rows : (r : ReadAnswer) (out′ after′ : List ℕ) → AsksRead (take bytes after) out′ r after′ → length xs ≤ length out′
+  pub first-way : (r : ReadAnswer) (out′ after′ : List ℕ) → AsksRead (take bytes after) out′ r after′ → length xs ≤ length out′
       → ReadsAgain first xs r out′ after′

@@ -11,25 +11,25 @@ use Rattle.model.specs.Verdicts.{refused}
 use Rattle.model.specs.Desk.{checkOwn, checkFirst}
 use Rattle.model.specs.declared.Verdict.the-variants.{Accepted}
 use Rattle.basics.proofs.Choices.{lt-then, lt-else, eq-then, eq-else, passed-eq, passed-not-lt}
-use Rattle.desk.specs.Own.{ownFits, opensFirst}
+use Rattle.desk.specs.Own.{ownRowsFit, opensFirst}
 
 -- So many rows of its own fit.
-pub fits-few : (n : ℕ) (t : Bool) → t ≡ ownFits n → t ≡ true → deskRows + n ≤ maxRows
-unfolding ownFits
+pub fits-few : (n : ℕ) (t : Bool) → t ≡ ownRowsFit n → t ≡ true → deskRows + n ≤ maxRows
+unfolding ownRowsFit
 fits-few n t q e =
     let (a, k) = passed-not-lt n 1 _ (sym q ∙ e) in
     let (b, z) = passed-not-lt (maxRows - deskRows) n true k in
     omega arith
 
-pub own-yes : (xs : List ℕ) (n : ℕ) → n ≡ rowCount xs → ownFits n ≡ true → checkOwn xs ≡ Accepted
-unfolding checkOwn ownFits
+pub own-yes : (xs : List ℕ) (n : ℕ) → n ≡ rowCount xs → ownRowsFit n ≡ true → checkOwn xs ≡ Accepted
+unfolding checkOwn ownRowsFit
 own-yes xs n e h =
     let (a, k) = passed-not-lt n 1 _ h in
     let (b, z) = passed-not-lt (maxRows - deskRows) n true k in
     lt-else (rowCount xs) 1 _ _ (omega arith) ∙ lt-else maxRows (deskRows + rowCount xs) _ _ (omega arith)
 
-pub own-no : (xs : List ℕ) (n : ℕ) → n ≡ rowCount xs → ownFits n ≡ false → checkOwn xs ≡ refused 4 0
-unfolding checkOwn ownFits
+pub own-no : (xs : List ℕ) (n : ℕ) → n ≡ rowCount xs → ownRowsFit n ≡ false → checkOwn xs ≡ refused 4 0
+unfolding checkOwn ownRowsFit
 own-no xs n e h = go (decLt n 1) (decLt (maxRows - deskRows) n)
   where
     go : Dec (n < 1) → Dec (maxRows - deskRows < n) → checkOwn xs ≡ refused 4 0

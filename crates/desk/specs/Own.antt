@@ -6,8 +6,8 @@ use Rattle.model.specs.Limits.{maxRows, deskRows, deskBlocks}
 use Rattle.model.specs.Rows.{Row}
 
 -- A file may have so many rows of its own.
-unfoldable pub ownFits : ℕ → Bool
-ownFits many = ifLt many 1 false (ifLt (maxRows - deskRows) many false true)
+unfoldable pub ownRowsFit : ℕ → Bool
+ownRowsFit many = ifLt many 1 false (ifLt (maxRows - deskRows) many false true)
 
 -- A row opens the first block behind those of the table.
 unfoldable pub opensFirst : Row → Bool

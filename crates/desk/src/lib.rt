@@ -14,19 +14,19 @@ ghost use lib.ListN.{length, take};
 ghost use Rattle.model.specs.Limits.{rowSize, maxRows, deskRows};
 ghost use Rattle.model.specs.Rows.{rowAt};
 ghost use Rattle.model.specs.Desk.{withDesk};
-ghost use Rattle.desk.specs.Own.{ownFits, opensFirst};
+ghost use Rattle.desk.specs.Own.{ownRowsFit, opensFirst};
 
 // How many rows a file may have of its own.
-const OWN_ROWS: usize = MAX_ROWS - DESK_ROWS;
+const MAX_OWN_ROWS: usize = MAX_ROWS - DESK_ROWS;
 
 // A file may have so many rows of its own.
 pub fn fits(many: usize) -> bool
-    ensures { λ r. ⌜ r ≡ ownFits many ⌝ }
+    ensures { λ r. ⌜ r ≡ ownRowsFit many ⌝ }
 {
     if many < 1 {
         return false;
     }
-    if OWN_ROWS < many {
+    if MAX_OWN_ROWS < many {
         return false;
     }
     true

@@ -11,7 +11,7 @@ use Rattle.model.specs.Rows.{Row, rowValues}
 use Rattle.model.specs.Desk.{plainOpening, plainLink, plainRun, builtIn, builtInNumbers}
 use Rattle.basics.proofs.Members.{flat-append}
 use Rattle.codec.proofs.Stores.{puts-both, puts-as, puts-long, puts-over, room-first, room-next, Stored, stored-begin, stored-on, stored-room, stored-end}
-use Rattle.plain_runs.specs.Putting.{ownLinks, PutsRows, HasRoom}
+use Rattle.plain_runs.specs.Putting.{ownLinks, PutsRows, RowsFit}
 
 -- So many numbers from c on: the first, and the others.
 range-next : (c end : ℕ) → c < end → range c (end - c) ≡ c ∷ range (c + 1) (end - (c + 1))
@@ -34,18 +34,18 @@ unfolding flatMap rowValues plainLink
 link-size k a b = refl
 
 -- The numbers of what is left of the links of block k from cue c on, and of all blocks from block k on.
-unfoldable pub linksLeft : ℕ → ℕ → List ℕ
-linksLeft k c = flatMap rowValues (ownLinks k c (k + 1 - c))
+unfoldable pub ownLinksLeft : ℕ → ℕ → List ℕ
+ownLinksLeft k c = flatMap rowValues (ownLinks k c (k + 1 - c))
 
 unfoldable pub runsLeft : ℕ → List ℕ
 runsLeft k = flatMap rowValues (flatMap plainRun (range k (deskBlocks - k)))
 
-links-next : (k c : ℕ) → c ≤ k → linksLeft k c ≡ flatMap rowValues (plainLink k c (c + 1) ∷ []) ++ linksLeft k (c + 1)
-unfolding linksLeft ownLinks
+links-next : (k c : ℕ) → c ≤ k → ownLinksLeft k c ≡ flatMap rowValues (plainLink k c (c + 1) ∷ []) ++ ownLinksLeft k (c + 1)
+unfolding ownLinksLeft ownLinks
 links-next k c h = rw (range-next c (k + 1) (omega arith)) (flat-append rowValues (plainLink k c (c + 1) ∷ []) _)
 
-pub links-none : (k c : ℕ) → k < c → linksLeft k c ≡ []
-unfolding linksLeft ownLinks flatMap
+pub links-none : (k c : ℕ) → k < c → ownLinksLeft k c ≡ []
+unfolding ownLinksLeft ownLinks flatMap
 links-none k c h = rw (range-none c (k + 1) (omega arith))
 
 runs-next : (k : ℕ) → k < deskBlocks → runsLeft k ≡ flatMap rowValues (plainRun k) ++ runsLeft (k + 1)
@@ -57,31 +57,31 @@ unfolding runsLeft flatMap
 runs-none k h = rw (range-none k deskBlocks h)
 
 -- A block's links are put one by one.
-pub links-begin : (k n : ℕ) (o : List ℕ) → Stored (flatMap rowValues (ownLinks k 1 k)) (linksLeft k 1) o (n * rowSize) (n * rowSize) o
-unfolding linksLeft
-links-begin k n o = let e : k + 1 - 1 ≡ k = omega arith in rw e (stored-begin _ o (n * rowSize))
+pub own-links-begin : (k n : ℕ) (o : List ℕ) → Stored (flatMap rowValues (ownLinks k 1 k)) (ownLinksLeft k 1) o (n * rowSize) (n * rowSize) o
+unfolding ownLinksLeft
+own-links-begin k n o = let e : k + 1 - 1 ≡ k = omega arith in rw e (stored-begin _ o (n * rowSize))
 
-module _ (k c n r : ℕ) (o p : List ℕ) (s : Stored (flatMap rowValues (ownLinks k 1 k)) (linksLeft k c) o (n * rowSize) (r * rowSize) p) (h : c ≤ k) where
-  pub links-room : HasRoom (ownLinks k 1 k) o n → r * rowSize + rowSize ≤ length p
+module _ (k c n r : ℕ) (o p : List ℕ) (s : Stored (flatMap rowValues (ownLinks k 1 k)) (ownLinksLeft k c) o (n * rowSize) (r * rowSize) p) (h : c ≤ k) where
+  pub links-room : RowsFit (ownLinks k 1 k) o n → r * rowSize + rowSize ≤ length p
   links-room l =
       rw (link-size k c (c + 1)) at
-      (stored-room _ _ (flatMap rowValues (plainLink k c (c + 1) ∷ [])) (linksLeft k (c + 1)) o p (n * rowSize) (r * rowSize) (links-next k c h) s l)
+      (stored-room _ _ (flatMap rowValues (plainLink k c (c + 1) ∷ [])) (ownLinksLeft k (c + 1)) o p (n * rowSize) (r * rowSize) (links-next k c h) s l)
 
-  pub links-on : (q : List ℕ) (next : ℕ) → PutsRows (plainLink k c (c + 1) ∷ []) p r next q
-      → Stored (flatMap rowValues (ownLinks k 1 k)) (linksLeft k (c + 1)) o (n * rowSize) (next * rowSize) q
-  links-on q next t = stored-on _ _ (flatMap rowValues (plainLink k c (c + 1) ∷ [])) (linksLeft k (c + 1)) o p (n * rowSize) (r * rowSize) (links-next k c h) s q (next * rowSize) t
+  pub own-links-on : (q : List ℕ) (next : ℕ) → PutsRows (plainLink k c (c + 1) ∷ []) p r next q
+      → Stored (flatMap rowValues (ownLinks k 1 k)) (ownLinksLeft k (c + 1)) o (n * rowSize) (next * rowSize) q
+  own-links-on q next t = stored-on _ _ (flatMap rowValues (plainLink k c (c + 1) ∷ [])) (ownLinksLeft k (c + 1)) o p (n * rowSize) (r * rowSize) (links-next k c h) s q (next * rowSize) t
 
 -- The blocks are put one by one.
-pub runs-begin : (o : List ℕ) → Stored builtInNumbers (runsLeft 0) o 0 0 o
+pub plain-runs-begin : (o : List ℕ) → Stored builtInNumbers (runsLeft 0) o 0 0 o
 unfolding builtInNumbers builtIn runsLeft
-runs-begin o = stored-begin _ o 0
+plain-runs-begin o = stored-begin _ o 0
 
 module _ (k n : ℕ) (o p : List ℕ) (s : Stored builtInNumbers (runsLeft k) o 0 (n * rowSize) p) (h : k < deskBlocks) where
-  pub runs-room : length o ≡ length builtInNumbers → HasRoom (plainRun k) p n
+  pub runs-room : length o ≡ length builtInNumbers → RowsFit (plainRun k) p n
   runs-room l = stored-room _ _ (flatMap rowValues (plainRun k)) (runsLeft (k + 1)) o p 0 (n * rowSize) (runs-next k h) s (omega arith)
 
-  pub runs-on : (q : List ℕ) (next : ℕ) → PutsRows (plainRun k) p n next q → Stored builtInNumbers (runsLeft (k + 1)) o 0 (next * rowSize) q
-  runs-on q next t = stored-on _ _ (flatMap rowValues (plainRun k)) (runsLeft (k + 1)) o p 0 (n * rowSize) (runs-next k h) s q (next * rowSize) t
+  pub plain-runs-on : (q : List ℕ) (next : ℕ) → PutsRows (plainRun k) p n next q → Stored builtInNumbers (runsLeft (k + 1)) o 0 (next * rowSize) q
+  plain-runs-on q next t = stored-on _ _ (flatMap rowValues (plainRun k)) (runsLeft (k + 1)) o p 0 (n * rowSize) (runs-next k h) s q (next * rowSize) t
 
 -- They fill the lent numbers.
 pub runs-full : (k n : ℕ) (o p : List ℕ) → deskBlocks ≤ k → length o ≡ length builtInNumbers → Stored builtInNumbers (runsLeft k) o 0 (n * rowSize) p
@@ -93,11 +93,11 @@ runs-full k n o p h l s =
 
 -- Rows in two parts: room for them, and both put.
 module _ (vs ws : List Row) (n : ℕ) (o : List ℕ) where
-  rows-first : HasRoom (vs ++ ws) o n → HasRoom vs o n
+  rows-first : RowsFit (vs ++ ws) o n → RowsFit vs o n
   rows-first h = room-first (flatMap rowValues vs) (flatMap rowValues ws) _ (n * rowSize) (length o) (flat-append rowValues vs ws) h
 
   module _ (i : ℕ) (p : List ℕ) (s : PutsRows vs o n i p) where
-    rows-next : HasRoom (vs ++ ws) o n → HasRoom ws p i
+    rows-next : RowsFit (vs ++ ws) o n → RowsFit ws p i
     rows-next h = room-next (flatMap rowValues vs) (flatMap rowValues ws) _ o p (n * rowSize) (i * rowSize) (flat-append rowValues vs ws) h s
 
     rows-both : (j : ℕ) (q : List ℕ) → PutsRows ws p i j q → PutsRows (vs ++ ws) o n j q
@@ -115,22 +115,22 @@ run-parts : (k : ℕ) → plainRun k ≡ (plainOpening k ∷ []) ++ (ownLinks k 
 unfolding plainRun ownLinks lastLinks
 run-parts k = refl
 
-module _ (k n : ℕ) (o : List ℕ) (h : HasRoom (plainRun k) o n) where
-  run-room : HasRoom ((plainOpening k ∷ []) ++ (ownLinks k 1 k ++ lastLinks k)) o n
+module _ (k n : ℕ) (o : List ℕ) (h : RowsFit (plainRun k) o n) where
+  run-room : RowsFit ((plainOpening k ∷ []) ++ (ownLinks k 1 k ++ lastLinks k)) o n
   run-room = rw (run-parts k) at h
 
   pub opening-room : n * rowSize + rowSize ≤ length o
   opening-room = rw (opening-size k) at (rows-first (plainOpening k ∷ []) (ownLinks k 1 k ++ lastLinks k) n o run-room)
 
   module _ (i : ℕ) (p : List ℕ) (s : PutsRows (plainOpening k ∷ []) o n i p) where
-    behind-opening : HasRoom (ownLinks k 1 k ++ lastLinks k) p i
+    behind-opening : RowsFit (ownLinks k 1 k ++ lastLinks k) p i
     behind-opening = rows-next (plainOpening k ∷ []) (ownLinks k 1 k ++ lastLinks k) n o i p s run-room
 
-    pub own-room : HasRoom (ownLinks k 1 k) p i
+    pub own-room : RowsFit (ownLinks k 1 k) p i
     own-room = rows-first (ownLinks k 1 k) (lastLinks k) i p behind-opening
 
     module _ (j : ℕ) (q : List ℕ) (t : PutsRows (ownLinks k 1 k) p i j q) where
-      behind-own : HasRoom (lastLinks k) q j
+      behind-own : RowsFit (lastLinks k) q j
       behind-own = rows-next (ownLinks k 1 k) (lastLinks k) i p j q t behind-opening
 
       pub out-room : j * rowSize + rowSize ≤ length q

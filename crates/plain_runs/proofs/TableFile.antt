@@ -1,6 +1,6 @@
--- The file of the rows that are generated is that of the built-in table's numbers.
+-- The file of the rows that are generated is that of the built-in table.
 use Prim.Native.Nat.{ℕ, _*_, _≤_, _/_}
-use mathlib.Core.Path.{_≡_, refl, _∙_, ap}
+use mathlib.Core.Path.{_≡_, refl, _∙_}
 use mathlib.Core.List.{List, flatMap, append-nil}
 use native.Mathlib.Omega.{arith}
 use lib.ListN.{length, drop-of-length-le}
@@ -20,9 +20,6 @@ deskBytes = 3902
 pub text-size : length (fileText builtIn) ≡ deskBytes
 unfolding builtIn flatMap range plainRun plainOpening plainLink fileText names rowLines rowValues lineText ends digits digitAt ifLt
 text-size = refl
-
-pub same-file : fileText (rowsOf builtInNumbers) ≡ fileText builtIn
-same-file = ap fileText table-rows
 
 rows-are : rowsFrom builtInNumbers 0 deskRows ≡ builtIn
 unfolding rowsOf rowCount

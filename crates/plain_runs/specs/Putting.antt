@@ -13,8 +13,8 @@ unfoldable pub ownLinks : ℕ → ℕ → ℕ → List Row
 ownLinks k c many = map (λ a. plainLink k a (a + 1)) (range c many)
 
 -- Rows have room from row n on.
-abbrev pub HasRoom : List Row → List ℕ → ℕ → Type 0
-HasRoom ws xs n = n * rowSize + length (flatMap rowValues ws) ≤ length xs
+abbrev pub RowsFit : List Row → List ℕ → ℕ → Type 0
+RowsFit ws xs n = n * rowSize + length (flatMap rowValues ws) ≤ length xs
 
 -- The values of rows are stored from row n on, and the next row goes behind them.
 abbrev pub PutsRows : List Row → List ℕ → ℕ → ℕ → List ℕ → Type 0

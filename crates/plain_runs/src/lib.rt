@@ -9,7 +9,7 @@ ghost use lib.ListN.{length};
 ghost use Rattle.model.specs.Limits.{rowSize, deskBlocks};
 ghost use Rattle.model.specs.Rows.{fileText};
 ghost use Rattle.model.specs.Desk.{plainOpening, plainLink, plainRun, builtIn, builtInNumbers};
-ghost use Rattle.plain_runs.specs.Putting.{HasRoom, PutsRows, ownLinks};
+ghost use Rattle.plain_runs.specs.Putting.{RowsFit, PutsRows, ownLinks};
 
 // The bytes of the file of the blocks that come with the desk.
 pub const DESK_BYTES: usize = 3902;
@@ -20,7 +20,7 @@ fn put_opening(k: u32, numbers: &mut [u32], n: usize) -> usize
     ensures { λ r. ⌜ PutsRows (plainOpening k ∷ []) (now (numbers .entry)) n r (now (numbers .exit)) ⌝ }
 {
     let row = [k, 0, 2, k + 1, 0, 0, 0, 0, 0, 0, 0];
-    rows::put_row(&row, n, numbers);
+    rows::set_row(&row, n, numbers);
     n + 1
 }
 
@@ -30,13 +30,13 @@ fn put_link(k: u32, a: u32, b: u32, numbers: &mut [u32], n: usize) -> usize
     ensures { λ r. ⌜ PutsRows (plainLink k a b ∷ []) (now (numbers .entry)) n r (now (numbers .exit)) ⌝ }
 {
     let row = [k, 1, 1, a, b, 0, 0, 0, 0, 0, 0];
-    rows::put_row(&row, n, numbers);
+    rows::set_row(&row, n, numbers);
     n + 1
 }
 
 // Puts the links of block k from each own cue to the next, from row n on.
 fn put_own_links(k: u32, numbers: &mut [u32], n: usize) -> usize
-    requires { ⌜ (k < deskBlocks) × HasRoom (ownLinks k 1 k) (now numbers) n ⌝ }
+    requires { ⌜ (k < deskBlocks) × RowsFit (ownLinks k 1 k) (now numbers) n ⌝ }
     ensures { λ r. ⌜ PutsRows (ownLinks k 1 k) (now (numbers .entry)) n r (now (numbers .exit)) ⌝ }
 {
     let mut r = n;
@@ -50,7 +50,7 @@ fn put_own_links(k: u32, numbers: &mut [u32], n: usize) -> usize
 
 // Puts the rows of block k from row n on. The first join's link stands last, as links rise by the cue they start from.
 fn put_run(k: u32, numbers: &mut [u32], n: usize) -> usize
-    requires { ⌜ (k < deskBlocks) × HasRoom (plainRun k) (now numbers) n ⌝ }
+    requires { ⌜ (k < deskBlocks) × RowsFit (plainRun k) (now numbers) n ⌝ }
     ensures { λ r. ⌜ PutsRows (plainRun k) (now (numbers .entry)) n r (now (numbers .exit)) ⌝ }
 {
     let i = put_opening(k, numbers, n);

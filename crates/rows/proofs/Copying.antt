@@ -20,10 +20,10 @@ unfolding overwrite
 copy-done from to now i h l e = let q : i ≡ length from = omega arith in e ∙ rw (q, take-length from)
 
 -- A row is copied to its part of the list: xs before, zs the part afterwards.
-pub row-put : (row xs zs : List ℕ) (a : ℕ) → length row ≡ rowSize → a + rowSize ≤ length xs → zs ≡ overwrite row (take (a + rowSize - a) (drop a xs))
+pub row-set : (row xs zs : List ℕ) (a : ℕ) → length row ≡ rowSize → a + rowSize ≤ length xs → zs ≡ overwrite row (take (a + rowSize - a) (drop a xs))
     → take a xs ++ (zs ++ drop (a + rowSize - a) (drop a xs)) ≡ sets xs a row
 unfolding overwrite
-row-put row xs zs a n h e =
+row-set row xs zs a n h e =
     let d : a + rowSize - a ≡ length row = omega arith in
     let part : length (take (length row) (drop a xs)) ≡ length row = length-take-le (length row) (drop a xs) (rw (length-drop a xs) (omega arith)) in
     let none : drop (length row) (take (length row) (drop a xs)) ≡ [] = drop-of-length-le (take (length row) (drop a xs)) {i = length row} (omega arith) in

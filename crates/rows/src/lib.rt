@@ -1,4 +1,4 @@
-// Numbers put into a list of rows: `copy` to its beginning, `put_row` at a row, `move_up` to make room before them.
+// Numbers put into a list of rows: `copy` to its beginning, `set_row` at a row, `move_up` to make room before them.
 use model::limits::ROW_SIZE;
 ghost use mathlib.Core.Path.{_≡_};
 ghost use Prim.Native.Nat.{_+_, _*_, _≤_};
@@ -20,7 +20,7 @@ pub fn copy(from: &[u32], to: &mut [u32])
 }
 
 // A row's numbers written as row r, counted from 0.
-pub fn put_row(row: &[u32], r: usize, numbers: &mut [u32])
+pub fn set_row(row: &[u32], r: usize, numbers: &mut [u32])
     requires { ⌜ (length (now row) ≡ rowSize) × (r * rowSize + rowSize ≤ length (now numbers)) ⌝ }
     ensures { λ _. ⌜ now (numbers .exit) ≡ sets (now (numbers .entry)) (r * rowSize) (now (row .entry)) ⌝ }
 {
@@ -29,7 +29,7 @@ pub fn put_row(row: &[u32], r: usize, numbers: &mut [u32])
     copy(row, &mut numbers[a..e]);
 }
 
-// The first n numbers moved up by so many places; what stands in these places afterwards is left open.
+// The first n numbers moved up by so many places. What stands before and behind them afterwards is left open.
 pub fn move_up(numbers: &mut [u32], n: usize, by: usize)
     requires { ⌜ n + by ≤ length (now numbers) ⌝ }
     ensures { λ _. ⌜ take n (drop by (now (numbers .exit))) ≡ take n (now (numbers .entry)) ⌝ }

@@ -9,17 +9,18 @@ use lib.Seq.{take-all, drop-at}
 use Rattle.model.specs.Choice.{ifLt}
 use Rattle.model.specs.Limits.{rowSize, maxRows, deskRows}
 use Rattle.model.specs.Rows.{rowCount}
-use Rattle.model.specs.Verdicts.{refusal, refused, andThen, Numbers, Unread, readFile, numbersOf}
+use Rattle.model.specs.Verdicts.{refusal, refused, andThen, Numbers, readFile, numbersOf}
 use Rattle.model.specs.Desk.{builtInNumbers, withDesk, deskVerdict, byOwnLine, inOwnLines, deskReadVerdict, deskFileVerdict}
 use Rattle.model.specs.Answers.{ofRead}
 use Rattle.model.specs.Questions.{Outcome, outcome, refuse, onAccepted, deskReadAsked}
 use Rattle.model.specs.declared.Refusal.{Refusal}
 use Rattle.model.specs.declared.ReadAnswer.the-variants.{Refused as ReadRefused}
 use Rattle.shows.proofs.DeskTable.{desk-size}
+use Rattle.demands.proofs.DeskReading.{unread-second}
 use Rattle.codec.specs.Parsing.{Parses}
 use Rattle.codec.specs.declared.Parsed.{Parsed}
 use Rattle.codec.specs.declared.Parsed.the-variants.{Rows, Refused as Unparsed}
-use Rattle.desk.specs.Own.{ownFits}
+use Rattle.desk.specs.Own.{ownRowsFit}
 use Rattle.desk.proofs.Own.{fits-few, own-yes, own-no}
 use Rattle.answers.specs.Asked.{ownNumbers, BehindTable, deskNumbers}
 use Rattle.show.proofs.Reading.{refused-unread, Parsed-rows, parsed-rows}
@@ -29,10 +30,6 @@ asked-numbers : (f out xs : List ℕ) → readFile f ≡ Numbers xs → deskRead
 unfolding deskReadAsked deskFileVerdict deskReadVerdict numbersOf deskNumbers
 asked-numbers f out xs e = rw e
 
-asked-unread : (f out : List ℕ) (r : Refusal) → readFile f ≡ Unread r → deskReadAsked f out ≡ refuse r out
-unfolding deskReadAsked deskFileVerdict deskReadVerdict onAccepted
-asked-unread f out r e = rw e
-
 -- The numbers behind the table.
 own-behind : (xs : List ℕ) → ownNumbers (withDesk xs) ≡ xs
 unfolding ownNumbers withDesk
@@ -40,10 +37,10 @@ own-behind xs = drop-at builtInNumbers xs (deskRows * rowSize) desk-size
 
 module _ (f out ys : List ℕ) where
   pub desk-unread : (p : Parsed) (r : Refusal) → Parses (readFile f) p ys → p ≡ Unparsed r → outcome (ofRead (ReadRefused r)) out ≡ deskReadAsked f out
-  desk-unread = refused-unread f out ys (deskReadAsked f out) (asked-unread f out)
+  desk-unread = refused-unread f out ys (deskReadAsked f out) (unread-second f out)
 
   -- n rows were parsed; t is the test of their number.
-  module _ (p : Parsed) (n : ℕ) (P : Parses (readFile f) p ys) (e : p ≡ Rows n) (t : Bool) (q : t ≡ ownFits n) where
+  module _ (p : Parsed) (n : ℕ) (P : Parses (readFile f) p ys) (e : p ≡ Rows n) (t : Bool) (q : t ≡ ownRowsFit n) where
     parsed : Parsed-rows f out ys n
     parsed = parsed-rows f out ys p n P e
 

@@ -30,6 +30,7 @@ use Rattle.model.specs.declared.Refusal.{Refusal}
 use Rattle.model.specs.declared.ReadAnswer.the-variants.{Refused as ReadRefused}
 use Rattle.basics.proofs.Choices.{lt-then, lt-else, eq-then}
 use Rattle.shows.proofs.Files.{read-whole}
+use Rattle.demands.proofs.Reading.{unread-first}
 use Rattle.codec.specs.Parsing.{Parses}
 use Rattle.codec.specs.declared.Parsed.{Parsed}
 use Rattle.codec.specs.declared.Parsed.the-variants.{Rows, Refused as Unparsed}
@@ -39,10 +40,6 @@ use Rattle.answers.specs.Asked.{readNumbers}
 asked-numbers : (f out xs : List ℕ) → readFile f ≡ Numbers xs → readAsked f out ≡ readNumbers xs out
 unfolding readAsked fileVerdict readVerdict numbersOf readNumbers
 asked-numbers f out xs e = rw e
-
-asked-unread : (f out : List ℕ) (r : Refusal) → readFile f ≡ Unread r → readAsked f out ≡ refuse r out
-unfolding readAsked fileVerdict readVerdict onAccepted
-asked-unread f out r e = rw e
 
 -- Too many rows.
 too-many : (xs out : List ℕ) → length xs % rowSize ≡ 0 → maxRows < rowCount xs → readNumbers xs out ≡ refuse (refusal 4 0) out
@@ -61,7 +58,7 @@ module _ (f out ys : List ℕ) where
       go (Unread s) q P = let same : r ≡ s = cc (sym e ∙ P) in rw (u s q, same)
 
   pub read-unread : (p : Parsed) (r : Refusal) → Parses (readFile f) p ys → p ≡ Unparsed r → outcome (ofRead (ReadRefused r)) out ≡ readAsked f out
-  read-unread = refused-unread (readAsked f out) (asked-unread f out)
+  read-unread = refused-unread (readAsked f out) (unread-first f out)
 
   -- The rows that were parsed.
   pub record Parsed-rows (n : ℕ) : Type 0 where

@@ -162,26 +162,26 @@ abbrev NoneRead : ReadAnswer → Verdict → Type 0
 NoneRead a v = ofRead a ≡ onAccepted v (λ r. returned r) (returned (refusal 11 0))
 
 module _ (f : List ℕ) (x : ℕ) (a : ReadAnswer) (after : List ℕ) where
-  pub file-unread : outcome (ofRead a) after ≡ readAsked f (x ∷ []) → NoneRead a (fileVerdict f)
-  file-unread e = ap (λ (o : Outcome). o .answer) e ∙ none-read f x (fileVerdict f) refl
+  pub not-read-first : outcome (ofRead a) after ≡ readAsked f (x ∷ []) → NoneRead a (fileVerdict f)
+  not-read-first e = ap (λ (o : Outcome). o .answer) e ∙ none-read f x (fileVerdict f) refl
 
-  pub desk-unread : outcome (ofRead a) after ≡ deskReadAsked f (x ∷ []) → NoneRead a (deskFileVerdict f)
-  desk-unread e = ap (λ (o : Outcome). o .answer) e ∙ none-read-desk f x (deskFileVerdict f) refl
+  pub not-read-second : outcome (ofRead a) after ≡ deskReadAsked f (x ∷ []) → NoneRead a (deskFileVerdict f)
+  not-read-second e = ap (λ (o : Outcome). o .answer) e ∙ none-read-desk f x (deskFileVerdict f) refl
 
-pub unread-refused : (a : ReadAnswer) (v : Verdict) → NoneRead a v → IsRefused (ofRead a)
+pub not-read-refused : (a : ReadAnswer) (v : Verdict) → NoneRead a v → IsRefused (ofRead a)
 unfolding onAccepted
-unread-refused a Accepted e = record { refusal = refusal 11 0; said = e }
-unread-refused a (Refused r) e = record { refusal = r; said = e }
+not-read-refused a Accepted e = record { told = refusal 11 0; said = e }
+not-read-refused a (Refused r) e = record { told = r; said = e }
 
-pub unread-code : (a : ReadAnswer) (v : Verdict) (c : ℕ) → NoneRead a v → c ≡ code (ofRead a) → c ≡ shortOf v
+pub not-read-code : (a : ReadAnswer) (v : Verdict) (c : ℕ) → NoneRead a v → c ≡ code (ofRead a) → c ≡ shortOf v
 unfolding shortOf
-unread-code a v c e h = h ∙ ap code e
+not-read-code a v c e h = h ∙ ap code e
 
 -- An answer is no refusal; and the number of a refusal.
-pub unread-never : (a : ReadAnswer) (k l m c : ℕ) → IsRefused (ofRead a) → a ≡ Read k l m → c ≡ code (ofRead a)
+pub never-answered : (a : ReadAnswer) (k l m c : ℕ) → IsRefused (ofRead a) → a ≡ Read k l m → c ≡ code (ofRead a)
 unfolding ofRead
-unread-never a k l m c s q = absurd (no-values k (l ∷ m ∷ []) (s .refusal) (rw q at (s .said)))
+never-answered a k l m c s q = absurd (no-values k (l ∷ m ∷ []) (s .told) (rw q at (s .said)))
 
-pub unread-is : (a : ReadAnswer) (r : Refusal) (c : ℕ) → a ≡ ReadRefused r → c ≡ number r → c ≡ code (ofRead a)
+pub not-read-is : (a : ReadAnswer) (r : Refusal) (c : ℕ) → a ≡ ReadRefused r → c ≡ number r → c ≡ code (ofRead a)
 unfolding ofRead code returned
-unread-is a r c q h = rw q h
+not-read-is a r c q h = rw q h

@@ -17,8 +17,8 @@ code r = r .number * 4294967296 + r .place
 
 -- Nothing but a refusal was returned.
 pub record IsRefused (r : Returned) : Type 0 where
-  pub refusal : Refusal
-  pub said : r ≡ returned refusal
+  pub told : Refusal
+  pub said : r ≡ returned told
 
 -- The values of an answer stand first in `given`; a refusal has none.
 unfoldable pub givenAfter : Returned → List ℕ → List ℕ

@@ -47,8 +47,8 @@ fn short_rows(rows: &[u32]) -> u64
     }
 }
 
-// The refusal of a file that was read to a list of one number, for which nothing is short enough.
-fn unread(answer: ReadAnswer) -> u64
+// The refusal of a file that was read to a list of one number, which has room for no row: it is never answered.
+fn not_read(answer: ReadAnswer) -> u64
     requires { ⌜ IsRefused (ofRead answer) ⌝ }
     ensures { λ c. ⌜ c ≡ code (ofRead answer) ⌝ }
 {
@@ -58,19 +58,19 @@ fn unread(answer: ReadAnswer) -> u64
     }
 }
 
-// What is said of a file there, read the first way and the second.
+// What is said of a file where `given` is too short, read the first way and the second.
 fn short_file(file: &[u8]) -> u64
     ensures { λ c. ⌜ c ≡ shortOf (fileVerdict (now (file .entry))) ⌝ }
 {
     let mut none = [0u32; 1];
-    unread(show::read(file, &mut none))
+    not_read(show::read(file, &mut none))
 }
 
 fn short_desk_file(file: &[u8]) -> u64
     ensures { λ c. ⌜ c ≡ shortOf (deskFileVerdict (now (file .entry))) ⌝ }
 {
     let mut none = [0u32; 1];
-    unread(show::read_desk(file, &mut none))
+    not_read(show::read_desk(file, &mut none))
 }
 
 // 1 for yes, 0 for no.

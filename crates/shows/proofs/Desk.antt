@@ -100,12 +100,12 @@ module _ (bs : List Block) (k : ℕ) (h : k < length bs) where
       rw (joins-behind front, total-behind front, links-behind front 0 (range (suc (total bs k)) (joinsOf bs k))) refl
 
 -- Rows that open a block first leave the blocks before them behind the new ones.
-pub record Front (bs cs : List Block) : Type 0 where
+record NewFirst (bs cs : List Block) : Type 0 where
   pub new : Block
   pub others : List Block
   pub all : cs ≡ (new ∷ others) ++ bs
 
-front-row : (bs cs : List Block) (w : Row) → Front bs cs → Front bs (addRow cs w)
+front-row : (bs cs : List Block) (w : Row) → NewFirst bs cs → NewFirst bs (addRow cs w)
 unfolding addRow addLink addUse
 front-row bs cs w f = go (ℕ-discrete (w .kind) 0) (ℕ-discrete (w .kind) 1)
   where
@@ -127,7 +127,7 @@ front-row bs cs w f = go (ℕ-discrete (w .kind) 0) (ℕ-discrete (w .kind) 1)
     used : Block
     used = record { joins = f .new .joins; own = f .new .own; links = f .new .links; uses = f .new .uses ++ (u ∷ []) }
 
-    go : Dec (w .kind ≡ 0) → Dec (w .kind ≡ 1) → Front bs (addRow cs w)
+    go : Dec (w .kind ≡ 0) → Dec (w .kind ≡ 1) → NewFirst bs (addRow cs w)
     go (yes q) d =
         record { new = opened; others = f .new ∷ f .others; all = ap (λ ds. addRow ds w) (f .all) ∙ eq-then (w .kind) 0 (opened ∷ old) _ q }
     go (no n) (yes q) =
@@ -143,12 +143,12 @@ front-row bs cs w f = go (ℕ-discrete (w .kind) 0) (ℕ-discrete (w .kind) 1)
           all = ap (λ ds. addRow ds w) (f .all) ∙ eq-else (w .kind) 0 (opened ∷ old) _ n ∙ eq-else (w .kind) 1 (addLink l old) (addUse u old) m;
         }
 
-front-rows : (bs cs : List Block) (ws : List Row) → Front bs cs → Front bs (addRows cs ws)
+front-rows : (bs cs : List Block) (ws : List Row) → NewFirst bs cs → NewFirst bs (addRows cs ws)
 unfolding addRows
 front-rows bs cs [] f = f
 front-rows bs cs (w ∷ ws) f = front-rows bs (addRow cs w) ws (front-row bs cs w f)
 
-front-first : (bs : List Block) (w : Row) (ws : List Row) → w .kind ≡ 0 → Front bs (addRows bs (w ∷ ws))
+front-first : (bs : List Block) (w : Row) (ws : List Row) → w .kind ≡ 0 → NewFirst bs (addRows bs (w ∷ ws))
 unfolding addRows addRow
 front-first bs w ws q =
     front-rows bs (addRow bs w) ws (record { new = _; others = []; all = eq-then (w .kind) 0 _ _ q })
@@ -166,7 +166,7 @@ desk-length xs e =
     let (b, e₂) = lt-second maxRows (deskRows + rowCount xs) (refused 4 0) Accepted Accepted (not-accepted 4 0) e₁ in
     (a, b)
 
-pub desk-first : (w : Row) → checkFirst w ≡ Accepted → (w .kind ≡ 0) × (w .block ≡ deskBlocks)
+desk-first : (w : Row) → checkFirst w ≡ Accepted → (w .kind ≡ 0) × (w .block ≡ deskBlocks)
 unfolding checkFirst
 desk-first w e =
     let (a, e₁) = eq-first (w .kind) 0 _ (refused 5 (deskRows + 1)) Accepted (not-accepted 5 (deskRows + 1)) e in
@@ -195,7 +195,7 @@ row-place xs q e =
 
 module _ (xs : List ℕ) (own : checkOwn xs ≡ Accepted) (first : checkFirst (rowAt xs 0) ≡ Accepted) where
   -- The blocks of all rows are those of the table, behind at least one of the file's.
-  own-front : Front (addRows [] builtIn) (blocksOf (withDesk xs))
+  own-front : NewFirst (addRows [] builtIn) (blocksOf (withDesk xs))
   unfolding blocksOf rowsOf
   own-front =
       let (vs, e) = some-row xs (rowCount xs) (desk-length xs own .0) in
@@ -204,19 +204,19 @@ module _ (xs : List ℕ) (own : checkOwn xs ≡ Accepted) (first : checkFirst (r
 
   pub desk-summary : (k i j : ℕ) → k < deskBlocks → summary (blocksOf (withDesk xs)) k i j ≡ summary (blocksOf builtInNumbers) k i j
   desk-summary k i j h =
-      let f : Front (addRows [] builtIn) (blocksOf (withDesk xs)) = own-front in
+      let f : NewFirst (addRows [] builtIn) (blocksOf (withDesk xs)) = own-front in
       rw (f .all, table-blocks) (summary-behind (addRows [] builtIn) k (omega (arith, table-count)) (f .new ∷ f .others) i j)
 
   pub desk-blocks : deskBlocks < length (blocksOf (withDesk xs))
   desk-blocks =
-      let f : Front (addRows [] builtIn) (blocksOf (withDesk xs)) = own-front in
+      let f : NewFirst (addRows [] builtIn) (blocksOf (withDesk xs)) = own-front in
       rw (f .all) (omega (arith, length-append (f .new ∷ f .others) (addRows [] builtIn), table-count))
 
   -- Each block of the table passes checks 9 and 10.
   stands : (k : ℕ) → k < deskBlocks → mayStand (blocksOf (withDesk xs)) k ≡ true
   unfolding mayStand
   stands k h =
-      let f : Front (addRows [] builtIn) (blocksOf (withDesk xs)) = own-front in
+      let f : NewFirst (addRows [] builtIn) (blocksOf (withDesk xs)) = own-front in
       let j : joinsOf (blocksOf (withDesk xs)) k ≡ 2 =
       ap (λ bs. joinsOf bs k) (f .all) ∙ joins-behind (addRows [] builtIn) k (omega (arith, table-count)) (f .new ∷ f .others) ∙ table-crossing k h .joins in
       eq-else (suc k) (length (blocksOf (withDesk xs))) _ _ (λ e. omega (arith, desk-blocks)) ∙ lt-then 0 (joinsOf (blocksOf (withDesk xs)) k) true false (omega arith)
@@ -224,7 +224,7 @@ module _ (xs : List ℕ) (own : checkOwn xs ≡ Accepted) (first : checkFirst (r
   fits : (k : ℕ) → k < deskBlocks → totalFits (blocksOf (withDesk xs)) k ≡ true
   unfolding totalFits
   fits k h =
-      let f : Front (addRows [] builtIn) (blocksOf (withDesk xs)) = own-front in
+      let f : NewFirst (addRows [] builtIn) (blocksOf (withDesk xs)) = own-front in
       let t : total (blocksOf (withDesk xs)) k ≡ k + 1 =
       ap (λ bs. total bs k) (f .all) ∙ total-behind (addRows [] builtIn) k (omega (arith, table-count)) (f .new ∷ f .others) ∙ table-crossing k h .total in
       lt-else maxTotal (total (blocksOf (withDesk xs)) k) false true (omega arith)

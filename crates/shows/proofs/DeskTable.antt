@@ -1,6 +1,6 @@
 -- The built-in table (02, Paper 4): its numbers are its rows, no check of rows refuses one of them, and each of its blocks is as it must be. What is true
 -- of the table is computed over all of it at once, and one law hands it on to each block.
-use Prim.Native.Nat.{ℕ, zero, suc, _+_, _*_, _%_, _<_}
+use Prim.Native.Nat.{ℕ, zero, suc, _+_, _*_, _<_}
 use mathlib.Core.Path.{_≡_, refl, sym, _∙_, ap, ap₂}
 use mathlib.Core.Bool.{Bool, true, false, false≢true}
 use mathlib.Core.List.{List, [], _∷_, _++_, map, flatMap, append-assoc, append-nil}
@@ -92,9 +92,6 @@ with-length xs = length-append builtInNumbers xs ∙ ap (λ (n : ℕ). n + lengt
 pub with-count : (xs : List ℕ) → rowCount (withDesk xs) ≡ deskRows + rowCount xs
 unfolding rowCount
 with-count xs = rw (with-length xs) (omega arith)
-
-pub with-whole : (xs : List ℕ) → length xs % rowSize ≡ 0 → length (withDesk xs) % rowSize ≡ 0
-with-whole xs e = rw (with-length xs) (omega arith)
 
 with-cell : (xs : List ℕ) (r c : ℕ) → cell (withDesk xs) (deskRows + r) c ≡ cell xs r c
 unfolding cell withDesk

@@ -136,9 +136,9 @@ impl<'a> Rows<'a> {
     /// Reads a file to the beginning of `room`, with the rows of the blocks that come with the desk before
     /// its own.
     ///
-    /// Those are blocks 0 to 15, [`DESK_ROWS`] rows. Block k is a run of k + 1 own cues with two joins:
-    /// links of label 1 lead from its first join to cue 1, from each own cue to the next, and from the
-    /// last own cue to its second join. The first row of the file opens block [`DESK_BLOCKS`], or it is
+    /// Those are blocks 0 to 15, [`DESK_ROWS`] rows. Block k has k + 1 own cues in a line:
+    /// join 1 leads in to the first of them, each to the one behind it, and the last out to join 2, by
+    /// links that all have label 1. The first row of the file opens block [`DESK_BLOCKS`], or it is
     /// [`Refused::CannotFollow`] at line 2. It has no more than [`DESK_MAX_OWN_ROWS`] rows: those of the
     /// desk are rows of the show, for its limits and in what is given.
     ///

@@ -24,7 +24,7 @@ pub enum Refused {
     /// 3: this line of the file is not eleven values.
     BadLine(u32),
     /// 4: no row, more than 1,024 with those of the desk where they are read, or a length of lent numbers that is no
-    /// multiple of eleven. A file has rows of its own.
+    /// multiple of eleven; of a file that is read with those of the desk, also no row of its own.
     BadRowCount,
     /// 5: block number or kind cannot follow here.
     CannotFollow(Place),

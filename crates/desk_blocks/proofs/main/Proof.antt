@@ -1,4 +1,4 @@
--- `desk_blocks::main` meets its contract: what it writes is the whole file.
+-- `desk_blocks::main`: the part that is lent to be written has the length of the file.
 use mathlib.Core.Path.{sym, _∙_, ap}
 use lib.ListN.{length}
 use borrow.Author.Needs.{needs}

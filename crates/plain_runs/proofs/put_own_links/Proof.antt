@@ -8,20 +8,20 @@ use Rattle.model.specs.Limits.{rowSize}
 use Rattle.model.specs.Rows.{rowValues}
 use Rattle.codec.proofs.Stores.{Stored, stored-end}
 use Rattle.plain_runs.specs.Putting.{ownLinks}
-use Rattle.plain_runs.proofs.Runs.{linksLeft, links-begin, links-room, links-on, links-none}
+use Rattle.plain_runs.proofs.Runs.{ownLinksLeft, own-links-begin, links-room, own-links-on, links-none}
 use Rattle.plain_runs.proofs.put_own_links.Statement.{statement}
 use Rattle.plain_runs.proofs.put_own_links.Tie as tie
 
 abbrev Inv-loop : tie.InvT-loop
 Inv-loop k numbers₀ n r₀ c₀ numbers r c =
     (length numbers ≡ length numbers₀)
-    × Stored (flatMap rowValues (ownLinks k 1 k)) (linksLeft k c) numbers₀ (n * rowSize) (r * rowSize) numbers
+    × Stored (flatMap rowValues (ownLinks k 1 k)) (ownLinksLeft k c) numbers₀ (n * rowSize) (r * rowSize) numbers
 
 abbrev μ-loop : tie.MeasureT-loop
 μ-loop k numbers₀ n r₀ c₀ numbers r c = k + 1 - c
 
 loop-holds : tie.Need-loop-holds Inv-loop μ-loop
-loop-holds c = (search needs, search (links-begin, needs))
+loop-holds c = (search needs, search (own-links-begin, needs))
 
 put-link-requires : tie.Need-put-link-requires Inv-loop μ-loop
 put-link-requires c κs = links-room _ _ _ _ _ _ (c .before .before .loop .inv .1) (search needs) (search needs)
@@ -29,7 +29,7 @@ put-link-requires c κs = links-room _ _ _ _ _ _ (c .before .before .loop .inv .
 loop-again : tie.Need-loop-again Inv-loop μ-loop
 loop-again c = (
   search needs,
-  links-on _ _ _ _ _ _ (c .before .before .before .before .before .loop .inv .1) (search needs) _ _ (c .before .before .put-link .ensures),
+  own-links-on _ _ _ _ _ _ (c .before .before .before .before .before .loop .inv .1) (search needs) _ _ (c .before .before .put-link .ensures),
 )
 
 returns : tie.Need-returns Inv-loop μ-loop

@@ -6,7 +6,7 @@ use borrow.Author.Needs.{needs}
 use Rattle.model.specs.Limits.{rowSize, deskBlocks}
 use Rattle.model.specs.Desk.{builtInNumbers}
 use Rattle.codec.proofs.Stores.{Stored}
-use Rattle.plain_runs.proofs.Runs.{runsLeft, runs-begin, runs-room, runs-on, runs-full}
+use Rattle.plain_runs.proofs.Runs.{runsLeft, plain-runs-begin, runs-room, plain-runs-on, runs-full}
 use Rattle.plain_runs.proofs.put_runs.Statement.{statement}
 use Rattle.plain_runs.proofs.put_runs.Tie as tie
 
@@ -18,7 +18,7 @@ abbrev μ-loop : tie.MeasureT-loop
 μ-loop numbers₀ n₀ k₀ numbers n k = deskBlocks - k
 
 loop-holds : tie.Need-loop-holds Inv-loop μ-loop
-loop-holds c = (search needs, search (runs-begin, needs))
+loop-holds c = (search needs, search (plain-runs-begin, needs))
 
 put-run-requires : tie.Need-put-run-requires Inv-loop μ-loop
 put-run-requires c κs = (search needs, runs-room _ _ _ _ (c .before .before .loop .inv .1) (search needs) (search needs))
@@ -26,7 +26,7 @@ put-run-requires c κs = (search needs, runs-room _ _ _ _ (c .before .before .lo
 loop-again : tie.Need-loop-again Inv-loop μ-loop
 loop-again c = (
   search needs,
-  runs-on _ _ _ _ (c .before .before .before .before .before .loop .inv .1) (search needs) _ _ (c .before .before .put-run .ensures),
+  plain-runs-on _ _ _ _ (c .before .before .before .before .before .loop .inv .1) (search needs) _ _ (c .before .before .put-run .ensures),
 )
 
 returns : tie.Need-returns Inv-loop μ-loop
