@@ -144,7 +144,7 @@ SHOW_NODISCARD uint64_t show_read(const uint8_t *file, size_t file_len, uint32_t
  *              SHOW_DESK_BLOCKS, also where it would go on with block 15; 5 to 10 over all rows, then 11 for rows or given. A
  *              129th block, the desk's counted, is 5. Places of 3 and 5 to 10 are lines of the file: row r of all is line r - 167.
  *   Writing    show_write makes a whole file of these rows, the desk's among them, that show_read reads to the same rows.
- *   Cost       as show_read, and 1 us for the rows of the desk: 19 us for 856 rows in 20,249 bytes. Stack: 56 kB. */
+ *   Cost       as show_read, and 1 us for the rows of the desk: 18 us for 856 rows in 20,249 bytes. Stack: 51 kB. */
 SHOW_NODISCARD uint64_t show_read_desk(const uint8_t *file, size_t file_len, uint32_t *rows, size_t rows_len, uint32_t *given,
                                        size_t given_len);
 
