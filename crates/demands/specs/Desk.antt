@@ -36,8 +36,8 @@ pub record IsPlainRun (bs : List Block) (k : ℕ) : Type 0 where
   pub links : (l : Link) → List·Memᴰ l (blockAt bs k .links) ↔ PlainLink k l
 
 -- "a built-in table of 168 rows, sixteen blocks numbered 0 to 15". "A small program generates the table, and its printed file equals the constant": it
--- prints `fileText builtIn` (crates/plain_runs), and the constant's numbers (crates/desk) are the table's, so that is the one unpadded file of them. "Over the whole table one fact is proved: its rows pass checks 5 to 8, and block k's
--- summary is k + 2 from first join to second and none back."
+-- prints `fileText builtIn` (crates/plain_runs), and the constant's numbers (crates/desk) are the table's, so that is the one unpadded file of them.
+-- "Over the whole table one fact is proved: its rows pass checks 5 to 8, and block k's summary is k + 2 from first join to second and none back."
 pub record TableFact : Type 0 where
   pub size : length builtInNumbers ≡ 168 * 11
   pub rows : rowCount builtInNumbers ≡ 168
