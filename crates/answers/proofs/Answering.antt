@@ -1,5 +1,5 @@
 -- The answers of locating, numbering, writing and reading.
-use Prim.Native.Nat.{ℕ, _+_, _*_, _-_, _/_, _≤_, _<_}
+use Prim.Native.Nat.{ℕ, _+_, _*_, _/_, _≤_, _<_}
 use native.Mathlib.Omega.{arith}
 use mathlib.Core.Path.{_≡_, refl, sym, _∙_, ap}
 use mathlib.Core.Bool.{Bool, true, false}
@@ -26,27 +26,28 @@ use Rattle.basics.proofs.Choices.{eq-then, eq-else}
 use Rattle.shows.proofs.Accepted.{accepted-show}
 use Rattle.shows.proofs.Numbering.{numbering}
 use Rattle.shows.proofs.RoundTrips.{rows-fit}
+use Rattle.shows.proofs.Outcomes.{has-room, no-room, has-cue, no-cue}
 use Rattle.verdicts.specs.Passing.{IsChecked}
 use Rattle.blocks.specs.Loaded.{Loaded}
 use Rattle.blocks.specs.declared.Place.{Place}
 use Rattle.blocks.proofs.Loaded.{loaded-show}
 use Rattle.paths.specs.Locating.{placeOf}
 use Rattle.answers.specs.Asked.{readNumbers}
-use Rattle.answers.proofs.Outcomes.{said-yes, said-no, no-room, has-room, no-cue, has-cue, cue-yes}
+use Rattle.answers.proofs.Outcomes.{said-yes, said-no, cue-no, cue-yes}
 use Rattle.shows.proofs.RefusalPlaces.{place-few}
 
 -- Locating.
 pub locate-room : (bs : List Block) (n : ℕ) (path : List ℕ) → length path < maxDepth
     → outcome (ofLocate (LocateRefused (record { number = 11; place = 0 }))) path ≡ locateIn bs n path
 unfolding ofLocate locateIn refuse refusal
-locate-room bs n path h = no-room path _ maxDepth h
+locate-room bs n path h = sym (no-room maxDepth path _ h)
 
 -- b is the test of cue n.
 module _ (xs t : List ℕ) (g : Loaded xs t) (n cues : ℕ) (b : Bool) (q : b ≡ isCue cues n) (e : cues ≡ count (blocksOf xs)) (path : List ℕ)
     (room : maxDepth ≤ length path) where
   pub locate-no : b ≡ false → outcome (ofLocate (LocateRefused (record { number = 12; place = 0 }))) path ≡ locateIn (blocksOf xs) n path
   unfolding ofLocate locateIn refuse refusal
-  locate-no k = no-cue path _ (blocksOf xs) n cues b q e k ∙ has-room path _ maxDepth room
+  locate-no k = sym (has-room maxDepth path _ room ∙ no-cue (blocksOf xs) n path _ (cue-no (blocksOf xs) n cues b q e k))
 
   pub locate-asks : b ≡ true → Loaded xs t × (1 ≤ n) × (n ≤ count (blocksOf xs)) × (maxDepth ≤ length path)
   locate-asks k = let c = cue-yes (blocksOf xs) n cues b q e k in (g, c .0, c .1, room)
@@ -65,7 +66,8 @@ module _ (xs t : List ℕ) (g : Loaded xs t) (n cues : ℕ) (b : Bool) (q : b �
       → outcome (ofLocate (Found d m (r .own))) after ≡ locateIn (blocksOf xs) n path
   unfolding ofLocate locateIn located answer
   locate-found r d m after k f ed em a =
-      rw (ed, em, f, a) (has-cue path _ (blocksOf xs) n cues b q e k ∙ has-room path _ maxDepth room)
+      let c = cue-yes (blocksOf xs) n cues b q e k in
+      rw (ed, em, f, a) (sym (has-room maxDepth path _ room ∙ has-cue (blocksOf xs) n path _ (c .0) (c .1)))
 
 -- Numbering: n is what was found.
 pub number-none : (n m : ℕ) → n ≡ m → n ≡ 0 → ofNumber (NumberRefused (record { number = 13; place = 0 })) ≡ numbered m
@@ -94,20 +96,20 @@ text-few xs n v e = rw (e, same-text xs) (rows-fit xs v)
 module _ (xs out : List ℕ) (n : ℕ) (e : n ≡ length (text xs)) where
   pub write-room : length out < n → outcome (ofWrite (WriteRefused (record { number = 11; place = 0 }))) out ≡ writeInto (fileText (rowsOf xs)) out
   unfolding ofWrite writeInto refuse refusal
-  write-room h = no-room out _ (length (fileText (rowsOf xs))) (rw (e, same-text xs) at h)
+  write-room h = sym (no-room (length (fileText (rowsOf xs))) out _ (rw (e, same-text xs) at h))
 
   pub write-done : (m : ℕ) (after : List ℕ) → m ≡ n → n ≤ length out → after ≡ overwrite (text xs) out
       → outcome (ofWrite (Written m)) after ≡ writeInto (fileText (rowsOf xs)) out
   unfolding ofWrite writeInto answer
   write-done m after em h a =
       let q : n ≡ length (fileText (rowsOf xs)) = e ∙ ap length (same-text xs) in
-      rw (em, a, same-text xs, q) (has-room out _ (length (fileText (rowsOf xs))) (rw q at h))
+      rw (em, a, same-text xs, q) (sym (has-room (length (fileText (rowsOf xs))) out _ (rw q at h)))
 
 -- Reading.
 module _ (xs t : List ℕ) (g : Loaded xs t) (out : List ℕ) where
   pub read-room : length out < length xs → outcome (ofRead (ReadRefused (record { number = 11; place = 0 }))) out ≡ readInto xs out
   unfolding ofRead readInto refuse refusal
-  read-room h = no-room out _ (length xs) h
+  read-room h = sym (no-room (length xs) out _ h)
 
   pub read-done : (many last blocks cues : ℕ) (after : List ℕ) → length xs ≤ length out → after ≡ overwrite xs out → many ≡ length xs / rowSize
       → last ≡ lastBlock (blocksOf xs) → blocks ≡ last + 1 → cues ≡ count (blocksOf xs)
@@ -115,7 +117,7 @@ module _ (xs t : List ℕ) (g : Loaded xs t) (out : List ℕ) where
   unfolding ofRead readInto answer rowCount lastBlock
   read-done many last blocks cues after h a em el eb ec =
       let n : blocks ≡ length (blocksOf xs) = omega (arith, el, eb, loaded-show g .blocks) in
-      rw (em, n, ec, a) (has-room out _ (length xs) h)
+      rw (em, n, ec, a) (sym (has-room (length xs) out _ h))
 
 module _ (xs t : List ℕ) (v : Verdict) (c : IsChecked xs t v) where
   pub read-yes : (out : List ℕ) (o : Outcome) → v ≡ Accepted → o ≡ readInto xs out → o ≡ readNumbers xs out

@@ -1,5 +1,5 @@
--- What a question answers once the rows are checked: after an acceptance, after a refusal, and refusals 11 and 12.
-use Prim.Native.Nat.{ℕ, _≤_, _<_}
+-- What a question answers once the rows are checked, from the tests that the code has made.
+use Prim.Native.Nat.{ℕ, _≤_}
 use mathlib.Core.Path.{_≡_, refl, sym, _∙_}
 use mathlib.Core.Bool.{Bool, true, false, false≢true}
 use mathlib.Core.List.{List}
@@ -12,20 +12,12 @@ use Rattle.model.specs.Questions.{Outcome, refuse, onAccepted, withRoom, withCu
 use Rattle.model.specs.declared.Refusal.{Refusal}
 use Rattle.model.specs.declared.Verdict.{Verdict}
 use Rattle.model.specs.declared.Verdict.the-variants.{Accepted, Refused}
-use Rattle.basics.proofs.Choices.{lt-then, lt-else, true-then, true-else}
+use Rattle.basics.proofs.Choices.{true-then, true-else}
 use Rattle.shows.proofs.Passed.{isCue-bounds}
+use Rattle.shows.proofs.Outcomes.{on-yes, on-no, has-room}
 use Rattle.verdicts.specs.Passing.{IsChecked}
 use Rattle.blocks.specs.Loaded.{Loaded}
 use Rattle.answers.specs.Asked.{areCues, ShowCue}
-
--- What follows an acceptance, and what a refusal.
-pub on-yes : {A : Type 0} (xs : List ℕ) (refuse : Refusal → A) (answer : A) → verdict xs ≡ Accepted → onAccepted (verdict xs) refuse answer ≡ answer
-unfolding onAccepted
-on-yes xs refuse answer e = rw e
-
-on-no : {A : Type 0} (xs : List ℕ) (refuse : Refusal → A) (answer : A) (f : Refusal) → verdict xs ≡ Refused f → onAccepted (verdict xs) refuse answer ≡ refuse f
-unfolding onAccepted
-on-no xs refuse answer f e = rw e
 
 module _ (xs t : List ℕ) (v : Verdict) (c : IsChecked xs t v) where
   pub said-yes : v ≡ Accepted → verdict xs ≡ Accepted
@@ -36,37 +28,22 @@ module _ (xs t : List ℕ) (v : Verdict) (c : IsChecked xs t v) where
 
   -- What is answered to a question about rows, from the answer for accepted rows, and from the refusal.
   pub asked-yes : {A : Type 0} (refuse : Refusal → A) (o answer : A) → v ≡ Accepted → o ≡ answer → o ≡ onAccepted (verdict xs) refuse answer
-  asked-yes refuse o answer e h = h ∙ sym (on-yes xs refuse answer (said-yes e))
+  asked-yes refuse o answer e h = h ∙ sym (on-yes (verdict xs) refuse answer (said-yes e))
 
   pub asked-no : {A : Type 0} (refuse : Refusal → A) (o answer : A) (f : Refusal) → v ≡ Refused f → o ≡ refuse f → o ≡ onAccepted (verdict xs) refuse answer
-  asked-no refuse o answer f e h = h ∙ sym (on-no xs refuse answer f (said-no f e))
+  asked-no refuse o answer f e h = h ∙ sym (on-no (verdict xs) refuse answer f (said-no f e))
 
   -- What was checked and accepted is loaded.
   pub loaded : v ≡ Accepted → Loaded xs t
   loaded e = let a = said-yes e in record { accepted = a; index = c .table a }
 
--- Refusals 11 and 12, and none of them.
-module _ (lent : List ℕ) (o : Outcome) where
-  pub no-room : (need : ℕ) → length lent < need → refuse (refusal 11 0) lent ≡ withRoom need lent o
-  unfolding withRoom
-  no-room need h = sym (lt-then _ _ _ _ h)
+-- b is the test of cue n, and cues the count, as the code has them: a number that is no cue, and a cue.
+module _ (bs : List Block) (n cues : ℕ) (b : Bool) (q : b ≡ isCue cues n) (e : cues ≡ count bs) where
+  pub cue-no : b ≡ false → isCue (count bs) n ≡ false
+  cue-no k = rw (← e) (sym q ∙ k)
 
-  pub has-room : (need : ℕ) → need ≤ length lent → o ≡ withRoom need lent o
-  unfolding withRoom
-  has-room need h = sym (lt-else _ _ _ _ h)
-
-  -- b is the test of cue n, and cues the count, as the code has them.
-  module _ (bs : List Block) (n cues : ℕ) (b : Bool) (q : b ≡ isCue cues n) (e : cues ≡ count bs) where
-    tested : isCue (count bs) n ≡ b
-    tested = rw (← e) (sym q)
-
-    pub no-cue : b ≡ false → refuse (refusal 12 0) lent ≡ withCue bs n lent o
-    unfolding withCue
-    no-cue k = sym (true-else _ _ _ (tested ∙ k))
-
-    pub has-cue : b ≡ true → o ≡ withCue bs n lent o
-    unfolding withCue
-    has-cue k = sym (true-then _ _ _ (tested ∙ k))
+  pub cue-yes : b ≡ true → (1 ≤ n) × (n ≤ count bs)
+  cue-yes k = let c = isCue-bounds cues n (sym q ∙ k) in (c .0, rw e at (c .1))
 
 -- Two tests one after the other are one of both.
 two-tests : {A : Type 0} (b d : Bool) (x y : A) → ifTrue (ifTrue b d false) x y ≡ ifTrue b (ifTrue d x y) y
@@ -84,7 +61,7 @@ module _ (lent : List ℕ) (o : Outcome) (need : ℕ) (h : need ≤ length lent)
     (e : cues ≡ count bs) where
   asked-both : ifTrue b o (refuse (refusal 12 0) lent) ≡ withRoom need lent (withCue bs s lent (withCue bs t lent o))
   unfolding areCues withCue
-  asked-both = rw (q, e) (two-tests (isCue (count bs) s) (isCue (count bs) t) o (refuse (refusal 12 0) lent)) ∙ has-room lent _ need h
+  asked-both = rw (q, e) (two-tests (isCue (count bs) s) (isCue (count bs) t) o (refuse (refusal 12 0) lent)) ∙ sym (has-room need lent _ h)
 
   pub no-cues : b ≡ false → refuse (refusal 12 0) lent ≡ withRoom need lent (withCue bs s lent (withCue bs t lent o))
   no-cues k = sym (true-else _ _ _ k) ∙ asked-both
@@ -92,14 +69,7 @@ module _ (lent : List ℕ) (o : Outcome) (need : ℕ) (h : need ≤ length lent)
   pub has-cues : (w : Outcome) → b ≡ true → w ≡ o → w ≡ withRoom need lent (withCue bs s lent (withCue bs t lent o))
   has-cues w k f = f ∙ sym (true-then _ _ _ k) ∙ asked-both
 
--- A cue passes the test, and a number that passes it is one.
-pub cue-test : (cues n : ℕ) → 1 ≤ n → n ≤ cues → true ≡ isCue cues n
-unfolding isCue
-cue-test cues n l h = sym (lt-else _ _ _ _ l ∙ lt-else _ _ _ _ h)
-
-pub cue-yes : (bs : List Block) (n cues : ℕ) (b : Bool) → b ≡ isCue cues n → cues ≡ count bs → b ≡ true → (1 ≤ n) × (n ≤ count bs)
-cue-yes bs n cues b q e k = let c = isCue-bounds cues n (sym q ∙ k) in (c .0, rw e at (c .1))
-
+-- Both are cues of the show.
 pub cues-yes : (xs : List ℕ) (s t cues : ℕ) (b : Bool) → b ≡ areCues cues s t → cues ≡ count (blocksOf xs) → b ≡ true → ShowCue xs s × ShowCue xs t
 unfolding areCues
 cues-yes xs s t cues b q e k =

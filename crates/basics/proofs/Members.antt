@@ -7,6 +7,7 @@ use mathlib.Core.Path.{_≡_, refl, sym, _∙_, ap, ap₂}
 use mathlib.Core.Bool.{Bool, true, false, false≢true}
 use mathlib.Core.Logic.{_⊎_, inl, inr}
 use mathlib.Core.List.{List, [], _∷_, _++_, map, flatMap, append-assoc, List·Memᴰ, List·Memᴰ·head, List·Memᴰ·tail, List·Memᴰ·cases-cons, List·Memᴰ·not-nil}
+use mathlib.Core.List.{List·Memᴰ·append-cases, Memᴰ·append-left, Memᴰ·append-right}
 use lib.ListN.{length, getD}
 use borrow.Author.Tests.{eq-eqb}
 use Rattle.model.specs.Choice.{ifEq, ifTrue}
@@ -44,18 +45,29 @@ pub map-same : {A B : Type 0} (f g : A → B) (xs : List A) → ((x : A) → Lis
 map-same f g [] h = refl
 map-same f g (x ∷ xs) h = ap₂ _∷_ (h x (List·Memᴰ·head refl)) (map-same f g xs (λ y i. h y (List·Memᴰ·tail i)))
 
-pub flat-same : {A B : Type 0} (f g : A → List B) (xs : List A) → ((x : A) → List·Memᴰ x xs → f x ≡ g x) → flatMap f xs ≡ flatMap g xs
-unfolding flatMap
-flat-same f g [] h = refl
-flat-same f g (x ∷ xs) h = ap₂ _++_ (h x (List·Memᴰ·head refl)) (flat-same f g xs (λ y i. h y (List·Memᴰ·tail i)))
-
--- A place of a mapped list, inside it.
 -- The lists of two lists in a row.
 pub flat-append : {A B : Type 0} (f : A → List B) (xs ys : List A) → flatMap f (xs ++ ys) ≡ flatMap f xs ++ flatMap f ys
 unfolding flatMap
 flat-append f [] ys = refl
 flat-append f (x ∷ xs) ys = ap (λ zs. f x ++ zs) (flat-append f xs ys) ∙ sym (append-assoc (f x) (flatMap f xs) (flatMap f ys))
 
+-- The members of such lists.
+pub flat-mem : {A B : Type 0} (f : A → List B) (y : B) (xs : List A) → List·Memᴰ y (flatMap f xs) → (x : A) × List·Memᴰ x xs × List·Memᴰ y (f x)
+unfolding flatMap
+flat-mem f y [] i = absurd (List·Memᴰ·not-nil i)
+flat-mem {A} {B} f y (x ∷ xs) i = go (λ j. flat-mem f y xs j) (List·Memᴰ·append-cases (f x) i)
+  where
+    go : (List·Memᴰ y (flatMap f xs) → (z : A) × List·Memᴰ z xs × List·Memᴰ y (f z)) → List·Memᴰ y (f x) ⊎ List·Memᴰ y (flatMap f xs)
+        → (z : A) × List·Memᴰ z (x ∷ xs) × List·Memᴰ y (f z)
+    go below (inl j) = (x, List·Memᴰ·head refl, j)
+    go below (inr j) = let (z, k, m) = below j in (z, List·Memᴰ·tail k, m)
+
+pub mem-flat : {A B : Type 0} (f : A → List B) {x : A} {y : B} {xs : List A} → List·Memᴰ x xs → List·Memᴰ y (f x) → List·Memᴰ y (flatMap f xs)
+unfolding flatMap
+mem-flat f {xs = z ∷ zs} (List·Memᴰ·head e) j = Memᴰ·append-left (flatMap f zs) (rw e at j)
+mem-flat f {xs = z ∷ zs} (List·Memᴰ·tail i) j = Memᴰ·append-right (f z) (mem-flat f i j)
+
+-- A place of a mapped list, inside it.
 pub getD-map-in : (f : ℕ → ℕ) (xs : List ℕ) (i : ℕ) → i < length xs → getD (map f xs) i 0 ≡ f (getD xs i 0)
 getD-map-in f [] i h = absurd (omega arith)
 getD-map-in f (x ∷ xs) zero h = refl

@@ -127,8 +127,8 @@ no-check c n (inl l) e = omega (arith, numbers c .low)
 no-check c n (inr l) e = omega (arith, numbers c .high)
 
 -- What a question returns says so.
-pub checks-rows : (xs : List ℕ) (a b : Returned) → a ≡ onAccepted (verdict xs) (λ r. returned r) b → (b .number ≡ 0) ⊎ (10 < b .number)
-    → ChecksRows xs a
+pub checks-rows : (xs : List ℕ) (a b : Returned) → a ≡ onAccepted (verdict xs) (λ r. returned r) b
+    → (verdict xs ≡ Accepted → (b .number ≡ 0) ⊎ (10 < b .number)) → ChecksRows xs a
 unfolding onAccepted returned refused refusal
 checks-rows xs a b h o = go (verdict-says xs)
   where
@@ -136,8 +136,8 @@ checks-rows xs a b h o = go (verdict-says xs)
     go (lawful e k) =
         let z : a ≡ b = rw e at h in
         record {
-          refused = λ c p. (λ n. absurd (no-check c (b .number) o (rw z at (n .0))), λ f. absurd (not-both xs c p f k));
-          accepted = (λ _. all-lawful xs k, λ _. rw z o);
+          refused = λ c p. (λ n. absurd (no-check c (b .number) (o e) (rw z at (n .0))), λ f. absurd (not-both xs c p f k));
+          accepted = (λ _. all-lawful xs k, λ _. rw z (o e));
         }
     go (unlawful d q e f) =
         let z : a ≡ record { number = refusalNumber d; place = q; values = [] } = rw e at h in

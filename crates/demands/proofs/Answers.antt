@@ -6,7 +6,7 @@ use mathlib.Core.Bool.{Bool, true, false}
 use mathlib.Core.List.{List, [], _∷_}
 use lib.ListN.{length, getD}
 use Rattle.model.specs.Verdicts.{refusal}
-use Rattle.model.specs.Answers.{Returned, given, returned, flag, ofRead, ofWrite, ofCount, ofLocate, ofNumber, ofList, ofRow, ofFewest}
+use Rattle.model.specs.Answers.{Returned, given, returned, flag, ofRead, ofWrite, ofCount, ofLocate, ofNumber, ofList, ofRow}
 use Rattle.model.specs.declared.Refusal.{Refusal}
 use Rattle.model.specs.declared.ReadAnswer.{ReadAnswer}
 use Rattle.model.specs.declared.ReadAnswer.the-variants.{Read, Refused as Unread}
@@ -22,8 +22,6 @@ use Rattle.model.specs.declared.ListAnswer.{ListAnswer}
 use Rattle.model.specs.declared.ListAnswer.the-variants.{Page, Refused as Unlisted}
 use Rattle.model.specs.declared.RowAnswer.{RowAnswer}
 use Rattle.model.specs.declared.RowAnswer.the-variants.{Row, Refused as Untraced}
-use Rattle.model.specs.declared.FewestAnswer.{FewestAnswer}
-use Rattle.model.specs.declared.FewestAnswer.the-variants.{Steps, None, Refused as Unsearched}
 
 -- Refusals that are returned alike are one refusal, values that are given alike are the same, and a refusal has no values.
 same-refusal : (p q : Refusal) → returned p ≡ returned q → p ≡ q
@@ -34,7 +32,7 @@ same-value : (vs ws : List ℕ) → given vs ≡ given ws → (i : ℕ) → getD
 unfolding given
 same-value vs ws e i = ap (λ (x : Returned). getD (x .values) i 0) e
 
-pub no-values : (vs : List ℕ) (q : Refusal) → 1 ≤ length vs → given vs ≡ returned q → ⊥
+no-values : (vs : List ℕ) (q : Refusal) → 1 ≤ length vs → given vs ≡ returned q → ⊥
 unfolding given returned
 no-values vs q h e = let k = ap (λ (x : Returned). length (x .values)) e in omega arith
 
@@ -57,11 +55,6 @@ unfolding ofWrite
 written-is (Written n) bytes e = ap Written (same-value _ _ e 0)
 written-is (Unwritten p) bytes e = absurd (no-values _ p (omega arith) (sym e))
 
-pub unwritten-is : (r : WriteAnswer) (q : Refusal) → ofWrite r ≡ returned q → r ≡ Unwritten q
-unfolding ofWrite
-unwritten-is (Written n) q e = absurd (no-values _ q (omega arith) e)
-unwritten-is (Unwritten p) q e = ap Unwritten (same-refusal p q e)
-
 pub cues-is : (r : CountAnswer) (n : ℕ) → ofCount r ≡ given (n ∷ []) → r ≡ Cues n
 unfolding ofCount
 cues-is (Cues m) n e = ap Cues (same-value _ _ e 0)
@@ -75,11 +68,6 @@ found-is (Found a b c) depth block own e =
     let s : c ≡ own = same-value _ _ e 2 in
     cc
 found-is (Unlocated p) depth block own e = absurd (no-values _ p (omega arith) (sym e))
-
-pub unlocated-is : (r : LocateAnswer) (q : Refusal) → ofLocate r ≡ returned q → r ≡ Unlocated q
-unfolding ofLocate
-unlocated-is (Found a b c) q e = absurd (no-values _ q (omega arith) e)
-unlocated-is (Unlocated p) q e = ap Unlocated (same-refusal p q e)
 
 pub number-is : (r : NumberAnswer) (n : ℕ) → ofNumber r ≡ given (n ∷ []) → r ≡ Number n
 unfolding ofNumber
@@ -107,11 +95,6 @@ page-is (Page n b) written more e =
     cc
 page-is (Unlisted p) written more e = absurd (no-values _ p (omega arith) (sym e))
 
-pub unlisted-is : (r : ListAnswer) (q : Refusal) → ofList r ≡ returned q → r ≡ Unlisted q
-unfolding ofList
-unlisted-is (Page a b) q e = absurd (no-values _ q (omega arith) e)
-unlisted-is (Unlisted p) q e = ap Unlisted (same-refusal p q e)
-
 pub row-is : (r : RowAnswer) (row depth : ℕ) → ofRow r ≡ given (row ∷ depth ∷ []) → r ≡ Row row depth
 unfolding ofRow
 row-is (Row a b) row depth e =
@@ -124,9 +107,3 @@ pub untraced-is : (r : RowAnswer) (q : Refusal) → ofRow r ≡ returned q → r
 unfolding ofRow
 untraced-is (Row a b) q e = absurd (no-values _ q (omega arith) e)
 untraced-is (Untraced p) q e = ap Untraced (same-refusal p q e)
-
-pub unsearched-is : (r : FewestAnswer) (q : Refusal) → ofFewest r ≡ returned q → r ≡ Unsearched q
-unfolding ofFewest
-unsearched-is (Steps n) q e = absurd (no-values _ q (omega arith) e)
-unsearched-is None q e = absurd (no-values _ q (omega arith) e)
-unsearched-is (Unsearched p) q e = ap Unsearched (same-refusal p q e)

@@ -1,5 +1,5 @@
 -- The blocks that are asked about are those that accepted rows stand for, and their totals are those of the rows.
-use Prim.Native.Nat.{ℕ, _-_}
+use Prim.Native.Nat.{ℕ, _-_, _<_}
 use native.Mathlib.Omega.{arith}
 use mathlib.Core.Path.{_≡_}
 use mathlib.Core.List.{List}
@@ -8,7 +8,7 @@ use Rattle.model.specs.Rows.{rowCount}
 use Rattle.model.specs.Blocks.{blocksOf, total, lastBlock, count}
 use Rattle.model.specs.Verdicts.{verdict}
 use Rattle.model.specs.declared.Verdict.the-variants.{Accepted}
-use Rattle.shows.proofs.Accepted.{Passes, passes, counted}
+use Rattle.shows.proofs.Accepted.{Passes, passes, counted, accepted-show}
 use Rattle.demands.specs.Acceptance.{nthRow, AreTotals}
 use Rattle.demands.specs.Blocks.{AreBlocks}
 use Rattle.demands.proofs.RowByRow.{RowsPassed, rows-passed}
@@ -21,6 +21,11 @@ all-passed xs ok = let p : Passes xs = passes xs ok in rows-passed xs (counted x
 
 pub are-blocks : (xs : List ℕ) → verdict xs ≡ Accepted → AreBlocks xs (blocksOf xs)
 are-blocks xs ok = blocks-are xs (all-passed xs ok)
+
+-- The show is one of them.
+pub last-low : (xs : List ℕ) → verdict xs ≡ Accepted → lastBlock (blocksOf xs) < length (blocksOf xs)
+unfolding lastBlock
+last-low xs ok = omega (arith, accepted-show xs ok .blocks)
 
 -- Their totals are totals of the rows, and the count is the total of the show, whoever gives the totals.
 pub rows-totals : (xs : List ℕ) → verdict xs ≡ Accepted → (T : ℕ → ℕ) × AreTotals xs T

@@ -41,7 +41,7 @@ use Rattle.shows.proofs.RoundTrips.{rows-spell, rows-fit, write-answer}
 use Rattle.shows.proofs.DeskTable.{with-count, with-length}
 use Rattle.shows.proofs.Desk.{own-place, desk-blocks, desk-summary}
 use Rattle.demands.specs.Acceptance.{Lawful, Check, Length, Sequence, Ranges, Repeats, Order, Ends, Totals, refusalNumber}
-use Rattle.demands.specs.Asking.{AsksDeskRead, AsksWrite}
+use Rattle.model.specs.Asking.{AsksDeskRead, AsksWrite}
 use Rattle.demands.specs.Files.{ReadRefusal, of-length, of-names, of-line, of-rows, of-room}
 use Rattle.demands.specs.Desk.{builtInFirst, OwnRows, OpensFirst, DeskLawful, DeskBroken, bad-count, bad-first, bad-rows, ownLine, IsDeskRead, OwnLines, WritesWhole}
 use Rattle.demands.proofs.Acceptance.{accepted-exactly, refused-exactly, refused-is}

@@ -34,7 +34,8 @@ use Rattle.shows.proofs.Files.{rows-file}
 use Rattle.demands.specs.Files.{UnpaddedFile}
 use Rattle.demands.specs.Desk.{PlainLink, to-first, to-next, from-last, IsPlainRun, TableFact}
 use Rattle.demands.proofs.Padding.{text-file-unpadded}
-use Rattle.demands.proofs.RowByRow.{rows-keep}
+use Rattle.demands.proofs.RowByRow.{rows-keep, rows-passed}
+use Rattle.demands.proofs.BlocksOfRows.{blocks-are}
 
 -- A link is known by its cues and label.
 abbrev one : ℕ → ℕ → Link
@@ -114,6 +115,7 @@ table-fact =
       size = desk-size;
       rows = rw desk-size refl;
       blocks = ap length table-blocks ∙ table-count;
+      are = blocks-are builtInNumbers (rows-passed builtInNumbers (rw desk-size (omega arith)) (rw table-rows table-passes));
       plain = plain-run;
       printed = file-printed;
       passes = rows-keep builtInNumbers (rw table-rows table-passes);

@@ -18,7 +18,6 @@ pub mod BlockByBlock
 pub mod Together
 pub mod Acceptance
 pub mod Blocks
-pub mod Checking
 pub mod Refusals
 pub mod Words
 -- files
@@ -32,13 +31,17 @@ pub mod Writing
 pub mod Rearranging
 pub mod Counts
 pub mod PutIn
-pub mod Standing
 pub mod Nodes
+pub mod Standing
 pub mod Replacement
+pub mod RingSteps
+pub mod Apart
 pub mod Ring
 -- numbers and paths
 pub mod NumberOrder
 pub mod Numbers
+-- copies by their paths
+pub mod Copies
 -- lists and pages
 pub mod Rising
 pub mod Pages
@@ -48,9 +51,17 @@ pub mod LinkRows
 pub mod LinksOfRows
 pub mod Winning
 pub mod RowBehind
--- notes
+-- the fewest follow-ons, the work area, notes
+pub mod WorkArea
+pub mod Shortest
 pub mod Notes
+-- what is printed
+pub mod NumberTexts
+pub mod Triples
+pub mod Printed
+pub mod OneText
 -- the built-in table, and the second way of reading
 pub mod DeskTable
 pub mod DeskReading
 pub mod DeskExample
+pub mod DeskWork

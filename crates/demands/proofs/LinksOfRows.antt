@@ -6,7 +6,7 @@ use mathlib.Core.Path.{_≡_, sym, _∙_, ap}
 use mathlib.Core.List.{List, List·Memᴰ}
 use lib.ListN.{length}
 use Rattle.model.specs.Rows.{rowsOf}
-use Rattle.model.specs.Blocks.{Link, Block, blocksOf, lastBlock}
+use Rattle.model.specs.Blocks.{Link, Block, blocksOf}
 use Rattle.model.specs.Verdicts.{verdict}
 use Rattle.model.specs.Unfolding.{renamed, links}
 use Rattle.model.specs.Behind.{Traced, traced, openingRow}
@@ -44,11 +44,6 @@ module _ (xs : List ℕ) (v : verdict xs ≡ Accepted) where
 
   pub place : (q : ℕ) → IsRow xs q → InPlace xs q
   place = accepted-exactly xs .0 v .sequence
-
-  -- The show is one of the blocks.
-  pub last-low : lastBlock bs < length bs
-  unfolding lastBlock
-  last-low = omega (arith, shown .blocks)
 
   -- A copy of one of the blocks.
   module _ (k base : ℕ) (met : List ℕ) (h : k < length bs) where

@@ -22,11 +22,11 @@ use Rattle.shows.specs.Lists.{Rising}
 use Rattle.shows.proofs.Accepted.{accepted-show}
 use Rattle.shows.proofs.Lists.{in-out, in-in, after-rising}
 use Rattle.shows.proofs.Ranges.{Within, inner, join, links-within}
-use Rattle.demands.specs.Asking.{AsksOut, AsksIn}
+use Rattle.shows.proofs.Outcomes.{on-yes, has-cue}
+use Rattle.model.specs.Asking.{AsksOut, AsksIn}
 use Rattle.demands.specs.Lists.{LinkedOut, LinkedIn, Smallest, IsList, Pages, ArePages}
 use Rattle.demands.proofs.Answers.{page-is}
 use Rattle.demands.proofs.Buffers.{leaves}
-use Rattle.demands.proofs.Outcomes.{on-yes, has-cue}
 use Rattle.demands.proofs.Rising.{Parts, rising-parts, not-in}
 use Rattle.demands.proofs.Pages.{are-pages}
 
@@ -98,15 +98,17 @@ module _ (Linked : ℕ → Type 0) (after : ℕ → List ℕ) (rises : (n : ℕ)
       }
 
 -- Every link of an accepted show ends at its cues.
-within : (xs : List ℕ) → verdict xs ≡ Accepted → (l : Link) → List·Memᴰ l (showLinks (blocksOf xs))
-    → (l .from ≤ count (blocksOf xs)) × (l .to ≤ count (blocksOf xs))
+pub within : (xs : List ℕ) → verdict xs ≡ Accepted → (l : Link) → List·Memᴰ l (showLinks (blocksOf xs))
+    → (1 ≤ l .from) × (l .from ≤ count (blocksOf xs)) × (1 ≤ l .to) × (l .to ≤ count (blocksOf xs))
 unfolding showLinks count
 within xs e l i =
     let s : Show xs = accepted-show xs e in
     let (x, y) = links-within (blocksOf xs) (s .good) (lastBlock (blocksOf xs)) 0 [] (sym (s .no-joins)) l i in
-    (at (l .from) x, at (l .to) y)
+    let (a, b) = at (l .from) x in
+    let (c, d) = at (l .to) y in
+    (a, b, c, d)
   where
-    at : (v : ℕ) → Within 0 (total (blocksOf xs) (lastBlock (blocksOf xs))) [] v → v ≤ total (blocksOf xs) (lastBlock (blocksOf xs))
+    at : (v : ℕ) → Within 0 (total (blocksOf xs) (lastBlock (blocksOf xs))) [] v → (1 ≤ v) × (v ≤ total (blocksOf xs) (lastBlock (blocksOf xs)))
     at v (inner x y) = omega arith
     at v (join j) = absurd (List·Memᴰ·not-nil j)
 

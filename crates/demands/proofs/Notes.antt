@@ -2,32 +2,33 @@
 -- and leaves what it did while all labels counted.
 use Prim.Native.Nat.{ℕ, _+_, _*_, _-_, _≤_, _<_}
 use native.Mathlib.Omega.{arith}
-use mathlib.Core.Path.{_≡_, refl, _∙_, ap, ap₂}
+use mathlib.Core.Path.{_≡_, refl, _∙_}
 use mathlib.Core.Bool.{true}
-use mathlib.Core.List.{List, [], _++_, List·Memᴰ}
-use lib.ListN.{length, replicate}
+use mathlib.Core.List.{List, [], List·Memᴰ}
+use lib.ListN.{length}
 use lib.Dec.{ltb}
 use borrow.Author.Tests.{ltb-true}
 use Rattle.model.specs.Choice.{ifTrue}
-use Rattle.model.specs.Limits.{maxLabel, workSize, summarySize}
+use Rattle.model.specs.Limits.{maxLabel}
 use Rattle.model.specs.Rows.{cell, rowAt, rowCount}
 use Rattle.model.specs.Rules.{every}
 use Rattle.model.specs.Blocks.{Link, Block, blocksOf, lastBlock, count}
 use Rattle.model.specs.Verdicts.{verdict}
 use Rattle.model.specs.Unfolding.{links, showLinks}
-use Rattle.model.specs.Lists.{range, overwrite}
-use Rattle.model.specs.Chains.{followed, Distance, fewest}
-use Rattle.model.specs.Summaries.{blockLinks, summary, summaryOf, summaries, workAfter}
-use Rattle.model.specs.Questions.{Outcome, refuse, answer, onAccepted, withRoom, withCue, distanceValues, fewestIn, fewestAsked}
+use Rattle.model.specs.Chains.{followed}
+use Rattle.model.specs.Summaries.{blockLinks}
+use Rattle.model.specs.Asking.{AsksFewest}
 use Rattle.model.specs.Ring.{ring, notedRing}
-use Rattle.model.specs.declared.Verdict.{Verdict}
-use Rattle.model.specs.declared.Verdict.the-variants.{Accepted, Refused}
-use Rattle.basics.proofs.Members.{getD-mem, flat-same, range-bounds, every-mem}
+use Rattle.model.specs.declared.Verdict.the-variants.{Accepted}
+use Rattle.model.specs.declared.FewestAnswer.{FewestAnswer}
+use Rattle.basics.proofs.Members.{getD-mem, every-mem}
 use Rattle.shows.proofs.Followed.{followed-is, followed-has, followed-all}
 use Rattle.demands.specs.Acceptance.{nthRow, IsRow}
-use Rattle.demands.specs.Notes.{IsNote, NoNotes, ChainsHave, ChainLinks, fewestOfAll, summaryOfAll, summariesOfAll, workOfAll, fewestBefore, OldFigure}
+use Rattle.demands.specs.Notes.{IsNote, NoNotes, followedLinks, followedInside, ChainsHave, ChainLinks, OldFigure}
 use Rattle.demands.proofs.Acceptance.{accepted-exactly}
-use Rattle.demands.proofs.LinksOfRows.{last-low, label-row}
+use Rattle.demands.proofs.Blocks.{last-low}
+use Rattle.demands.proofs.LinksOfRows.{label-row}
+use Rattle.demands.proofs.Shortest.{is-fewest, leaves-summaries}
 
 module _ (xs : List ℕ) (v : verdict xs ≡ Accepted) where
   abbrev bs : List Block
@@ -55,41 +56,39 @@ module _ (xs : List ℕ) (v : verdict xs ≡ Accepted) where
     all-followed : NoNotes xs → followed (links bs k base met) ≡ links bs k base met
     all-followed n = followed-all _ (no-note n)
 
+  -- Of the show.
+  pub show-labels : (l : Link) → List·Memᴰ l (showLinks bs) → (1 ≤ l .label) × (l .label ≤ maxLabel)
+  unfolding showLinks
+  show-labels = labels (lastBlock bs) 0 [] (last-low xs v)
+
   pub chain-links : ChainLinks xs
   unfolding showLinks blockLinks
   chain-links = record { of-show = chains-have (lastBlock bs) 0 [] (last-low xs v); of-block = λ k h. chains-have k 0 _ h }
 
-  -- Where there are no notes: the distances, and the summaries block by block.
+  -- Where there are no notes, these are all links: the answer and the work area are those of all.
   module _ (n : NoNotes xs) where
-    same-fewest : (s t : ℕ) → fewest (showLinks bs) (count bs) s t ≡ fewestOfAll (showLinks bs) (count bs) s t
-    unfolding fewest fewestOfAll showLinks
-    same-fewest s t = ap (λ (E : List Link). fewestOfAll E (count bs) s t) (all-followed (lastBlock bs) 0 [] (last-low xs v) n)
+    all-of-show : followedLinks xs ≡ showLinks bs
+    unfolding showLinks
+    all-of-show = all-followed (lastBlock bs) 0 [] (last-low xs v) n
 
-    same-summaries : summaries bs ≡ summariesOfAll bs
-    unfolding summaries summaryOf summary fewest blockLinks summariesOfAll summaryOfAll fewestOfAll
-    same-summaries =
-        flat-same _ _ (range 0 (length bs))
-        (λ k i. let (_, h) = range-bounds 0 (length bs) k i in rw (all-followed k 0 _ (omega arith) n))
+    all-inside : (k : ℕ) → k < length bs → followedInside xs k ≡ blockLinks bs k
+    unfolding blockLinks
+    all-inside k h = all-followed k 0 _ h n
 
-    same-work : (work : List ℕ) → workAfter bs work ≡ workOfAll bs work
-    unfolding workAfter workOfAll
-    same-work work = ap (λ (zs : List ℕ). overwrite (zs ++ replicate (workSize - summarySize * length bs) 0) work) same-summaries
-
--- The question's answer from a distance and a work area. Refusals are the same, whatever these are.
-abbrev told : List ℕ → ℕ → ℕ → List ℕ → Distance → List ℕ → Outcome
-told xs s t work d after =
-    withRoom workSize work (withCue (blocksOf xs) s work (withCue (blocksOf xs) t work (answer (distanceValues d) after)))
-
-pub old-figure : OldFigure
-unfolding fewestAsked fewestIn fewestBefore onAccepted
-old-figure xs s t work after r n e = e ∙ go (verdict xs) refl
-  where
-    go : (w : Verdict) → verdict xs ≡ w
-        → onAccepted w (λ q. refuse q work) (fewestIn (blocksOf xs) s t work)
-        ≡ onAccepted w (λ q. refuse q work)
-        (told xs s t work (fewestOfAll (showLinks (blocksOf xs)) (count (blocksOf xs)) s t) (workOfAll (blocksOf xs) work))
-    go Accepted v = ap₂ (told xs s t work) (same-fewest xs v n s t) (same-work xs v n work)
-    go (Refused q) v = refl
+    pub old-figure : (s t : ℕ) (work after : List ℕ) (r : FewestAnswer) → 1 ≤ s → s ≤ count bs → 1 ≤ t → t ≤ count bs → 16384 ≤ length work
+        → AsksFewest xs s t work r after → OldFigure xs s t work r after
+    old-figure s t work after r low high low′ high′ room e =
+        let area = leaves-summaries xs v s t work after r low high low′ high′ room e in
+        record {
+          fewest = rw all-of-show at (is-fewest xs v s t work after r low high low′ high′ room e);
+          work-area =
+              record {
+                summaries = λ k i j h a b c d. rw (all-inside k h) at (area .summaries k i j h a b c d);
+                others = area .others;
+                beyond = area .beyond;
+                size = area .size;
+              };
+        }
 
 -- Rows whose numbers are all below 255 have no note; so it is with the ring. Where its row 8 has label 255, that is one.
 small-not : (x : ℕ) → ltb x 255 ≡ true → x ≡ 255 → ⊥

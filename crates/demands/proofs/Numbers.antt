@@ -7,8 +7,9 @@ use mathlib.Core.Logic.{_⊎_, inl, inr, _≢_}
 use mathlib.Core.List.{List, List·Memᴰ}
 use lib.ListN.{length, take, length-map}
 use Rattle.model.specs.Limits.{maxDepth}
-use Rattle.model.specs.Blocks.{blocksOf, lastBlock, count}
+use Rattle.model.specs.Blocks.{ownOf, blocksOf, lastBlock, count}
 use Rattle.model.specs.Verdicts.{refusal, verdict}
+use Rattle.model.specs.Unfolding.{showLinks}
 use Rattle.model.specs.Paths.{Place, numberIn, placeIn}
 use Rattle.model.specs.Lists.{range, overwrite}
 use Rattle.model.specs.Answers.{ofLocate, ofNumber}
@@ -25,20 +26,21 @@ use Rattle.shows.specs.Accepted.{Show}
 use Rattle.shows.specs.Numbering.{IsPlace}
 use Rattle.shows.proofs.Accepted.{accepted-show}
 use Rattle.shows.proofs.Numbering.{numbering, never-too-deep}
+use Rattle.shows.proofs.Outcomes.{on-yes, has-room, has-cue}
+use Rattle.demands.specs.Acceptance.{ownIn}
 use Rattle.demands.specs.Replacement.{Graph, Ended, nodeNumber, Unfolds}
-use Rattle.demands.specs.Asking.{AsksCount, AsksLocate, AsksNumber}
+use Rattle.model.specs.Asking.{AsksCount, AsksLocate, AsksNumber}
 use Rattle.demands.specs.Numbers.{node, Before, IsCount, IsNumber, IsLocated}
 use Rattle.demands.proofs.Answers.{cues-is, found-is, number-is, unnumbered-is}
 use Rattle.demands.proofs.Buffers.{leaves}
-use Rattle.demands.proofs.Outcomes.{on-yes, has-room, has-cue}
-use Rattle.demands.proofs.Blocks.{rows-totals, count-total}
+use Rattle.demands.proofs.Blocks.{are-blocks, last-low, rows-totals, count-total}
 use Rattle.demands.proofs.Rearranging.{perm-length}
 use Rattle.demands.proofs.NumberOrder.{number-order}
 use Rattle.demands.proofs.Nodes.{numbered-cue, cue-numbered}
-use Rattle.demands.proofs.Replacement.{unfolds}
+use Rattle.demands.proofs.Replacement.{unfolds-show}
 
 -- What number says of the number of a path and an own cue, which is 0 where they have none.
-data Says (n : ℕ) (r : NumberAnswer) : Type 0 where
+pub data Says (n : ℕ) (r : NumberAnswer) : Type 0 where
   says : n ≢ 0 → r ≡ Number n → Says n r
   none : n ≡ 0 → r ≡ Unnumbered (refusal 13 0) → Says n r
 
@@ -49,13 +51,16 @@ unfolding located answer
 located-given r q lent after e = (found-is r _ _ _ (ap (λ (o : Outcome). o .answer) e), ap (λ (o : Outcome). o .after) e)
 
 module _ (xs : List ℕ) (v : verdict xs ≡ Accepted) where
+  abbrev last : ℕ
+  last = lastBlock (blocksOf xs)
+
   abbrev numberOf : List ℕ → ℕ → ℕ
-  numberOf path c = numberIn (blocksOf xs) (lastBlock (blocksOf xs)) 0 path c
+  numberOf path c = numberIn (blocksOf xs) last 0 path c
 
   shown : Show xs
   shown = accepted-show xs v
 
-  number-says : (path : List ℕ) (c : ℕ) (r : NumberAnswer) → AsksNumber xs path c r → Says (numberOf path c) r
+  pub number-says : (path : List ℕ) (c : ℕ) (r : NumberAnswer) → AsksNumber xs path c r → Says (numberOf path c) r
   unfolding numberAsked onAccepted numbered
   number-says path c r e = go (ℕ-discrete (numberOf path c) 0)
     where
@@ -68,7 +73,7 @@ module _ (xs : List ℕ) (v : verdict xs ≡ Accepted) where
 
   -- Where locate finds a number of the show.
   abbrev placeOf : ℕ → Place
-  placeOf n = placeIn (blocksOf xs) (lastBlock (blocksOf xs)) n
+  placeOf n = placeIn (blocksOf xs) last n
 
   locate-says : (n : ℕ) (lent after : List ℕ) (r : LocateAnswer) → 1 ≤ n → n ≤ count (blocksOf xs) → maxDepth ≤ length lent
       → AsksLocate xs n lent r after
@@ -79,19 +84,20 @@ module _ (xs : List ℕ) (v : verdict xs ≡ Accepted) where
       (e ∙ on-yes (verdict xs) _ _ v ∙ has-room maxDepth lent _ room ∙ has-cue (blocksOf xs) n lent _ low high)
 
   -- Whatever the steps, the unfolded show has the cues that have a number.
-  unfolded : Unfolds (blocksOf xs)
-  unfolded = unfolds (blocksOf xs) (shown .good) (shown .blocks .0) (shown .no-joins)
+  unfolded : Unfolds (blocksOf xs) last (showLinks (blocksOf xs))
+  unfolded = unfolds-show (blocksOf xs) (shown .good) (shown .blocks .0) (shown .no-joins)
 
-  has-number : {m : ℕ} {g : Graph} → Ended (blocksOf xs) m g → (path : List ℕ) (c : ℕ) → numberOf path c ≢ 0 → List·Memᴰ (node path c) (g .cues)
+  has-number : {m : ℕ} {g : Graph} → Ended (blocksOf xs) last m g → (path : List ℕ) (c : ℕ) → numberOf path c ≢ 0 → List·Memᴰ (node path c) (g .cues)
   unfolding nodeNumber
-  has-number e path c some = numbered-cue (blocksOf xs) (shown .good) (unfolded .cues e) (node path c) (omega arith)
+  has-number e path c some = numbered-cue (blocksOf xs) last (unfolded .cues e) (node path c) (omega arith)
 
-  is-cue : {m : ℕ} {g : Graph} → Ended (blocksOf xs) m g → (path : List ℕ) (c : ℕ) → List·Memᴰ (node path c) (g .cues) → numberOf path c ≢ 0
+  is-cue : {m : ℕ} {g : Graph} → Ended (blocksOf xs) last m g → (path : List ℕ) (c : ℕ) → List·Memᴰ (node path c) (g .cues) → numberOf path c ≢ 0
   unfolding nodeNumber
-  is-cue e path c i z = omega (arith, cue-numbered (blocksOf xs) (shown .good) (unfolded .cues e) (node path c) i)
+  is-cue e path c i z =
+      omega (arith, cue-numbered (blocksOf xs) last (unfolded .cues e) (shown .good) (last-low xs v) (node path c) i)
 
   pub is-count : (r : CountAnswer) → AsksCount xs r → IsCount xs r
-  unfolding countAsked
+  unfolding countAsked count
   is-count r e =
       record {
         answer = cues-is r (count (blocksOf xs)) (e ∙ on-yes (verdict xs) _ _ v);
@@ -100,7 +106,7 @@ module _ (xs : List ℕ) (v : verdict xs ≡ Accepted) where
         cues = λ g. perm-length (unfolded .cues g) ∙ length-map (range 1 (count (blocksOf xs))) _ ∙ range-length 1 (count (blocksOf xs));
       }
 
-  node-number : (path : List ℕ) (c n : ℕ) → numberOf path c ≡ n → n ≡ nodeNumber (blocksOf xs) (node path c)
+  node-number : (path : List ℕ) (c n : ℕ) → numberOf path c ≡ n → n ≡ nodeNumber (blocksOf xs) last (node path c)
   unfolding nodeNumber
   node-number path c n e = sym e
 
@@ -176,7 +182,11 @@ module _ (xs : List ℕ) (v : verdict xs ≡ Accepted) where
       rises m q way d n f o =
           let (h, k) = given-is way d n f in
           rw (← (named m q), ← h)
-          (number-order (blocksOf xs) (shown .good) (lastBlock (blocksOf xs)) 0 (some m q) (rw h k) o)
+          (number-order (blocksOf xs) (shown .good) last 0 (some m q) (rw h k) o)
+
+  own-is : (k : ℕ) → k < length (blocksOf xs) → ownOf (blocksOf xs) k ≡ ownIn xs k
+  unfolding ownOf
+  own-is k h = are-blocks xs v .own k h
 
   pub is-located : (n : ℕ) (lent after : List ℕ) (r : LocateAnswer) → maxDepth ≤ length lent → 1 ≤ n → n ≤ count (blocksOf xs)
       → AsksLocate xs n lent r after → IsLocated xs n lent r after
@@ -189,7 +199,7 @@ module _ (xs : List ℕ) (v : verdict xs ≡ Accepted) where
         leaves = rw (said .1) (leaves (q .path) lent (omega (arith, depth n low high)));
         deep = depth n low high;
         leads = p .located .leads;
-        owned = p .located .owned;
+        owned = owned;
         cue = λ g. has-number g (q .path) (q .own) (rw (p .number) (λ z. omega arith));
         back = λ a f. back a (number-says (q .path) (q .own) a f);
         only = λ way d f. p .only way d (given-is way d n f .0);
@@ -200,6 +210,9 @@ module _ (xs : List ℕ) (v : verdict xs ≡ Accepted) where
 
       p : IsPlace (blocksOf xs) n (placeOf n)
       p = number-of-place n low high
+
+      owned : (1 ≤ placeOf n .own) × (placeOf n .own ≤ ownIn xs (placeOf n .block))
+      owned = let (low, high) = p .located .owned in (low, rw (← own-is (placeOf n .block) (p .located .known)) high)
 
       said : (r ≡ Found (length (placeOf n .path)) (placeOf n .block) (placeOf n .own)) × (after ≡ overwrite (placeOf n .path) lent)
       said = locate-says n lent after r low high room e

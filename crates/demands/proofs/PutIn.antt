@@ -10,6 +10,7 @@ use lib.Seq.{getD-append-add}
 use Rattle.model.specs.Blocks.{Use, Block}
 use Rattle.model.specs.Lists.{range}
 use Rattle.basics.proofs.Members.{range-length}
+use Rattle.shows.specs.Copies.{nthUse}
 use Rattle.demands.specs.Replacement.{Node, Standing, ownNodes, nodesOf, nth, standing}
 use Rattle.demands.proofs.Rearranging.{range-place}
 
@@ -51,7 +52,21 @@ use-mem (u ∷ us) (suc i) l = List·Memᴰ·tail (use-mem us i (omega arith))
 abbrev pub stand : List Node → List ℕ → ℕ → Use → Standing
 stand cues path p u = record { path = path ++ (p ∷ []); block = u .block; met = map (nth cues) (u .at) }
 
--- Each use that the step leaves stands for a use of the block.
+-- For each use of the block there is one that stands,
+standing-has : (cues : List Node) (path : List ℕ) (p : ℕ) (us : List Use) (i : ℕ) → i < length us
+    → List·Memᴰ (stand cues path (p + i) (getD us i noUse)) (standing cues path p us)
+unfolding standing
+standing-has cues path p [] i l = absurd (omega arith)
+standing-has cues path p (u ∷ us) zero l = List·Memᴰ·head (ap (λ (n : ℕ). stand cues path n u) (add-zero p))
+standing-has cues path p (u ∷ us) (suc i) l =
+    let q : p + suc i ≡ suc p + i = omega arith in rw q (List·Memᴰ·tail (standing-has cues path (suc p) us i (omega arith)))
+
+pub standing-nth : (cues : List Node) (path : List ℕ) (us : List Use) (p : ℕ) → 1 ≤ p → p ≤ length us
+    → List·Memᴰ (stand cues path p (nthUse us p)) (standing cues path 1 us)
+unfolding nthUse
+standing-nth cues path us p x y = let q : 1 + (p - 1) ≡ p = omega arith in rw q at (standing-has cues path 1 us (p - 1) (omega arith))
+
+-- and each use that the step leaves stands for a use of the block.
 pub standing-at : (cues : List Node) (path : List ℕ) (p : ℕ) (us : List Use) (w : Standing) → List·Memᴰ w (standing cues path p us)
     → (i : ℕ) × (i < length us) × (w ≡ stand cues path (p + i) (getD us i noUse))
 unfolding standing

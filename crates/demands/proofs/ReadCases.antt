@@ -11,14 +11,14 @@ use Rattle.model.specs.Blocks.{blocksOf, count}
 use Rattle.model.specs.Lists.{overwrite}
 use Rattle.model.specs.Verdicts.{refusal, refused, verdict, Reading, Numbers, Unread, readFile}
 use Rattle.model.specs.Answers.{ofRead}
-use Rattle.model.specs.Questions.{Outcome, outcome, refuse, answer, withRoom, readInto}
+use Rattle.model.specs.Questions.{Outcome, outcome, refuse, answer, readInto}
 use Rattle.model.specs.declared.Refusal.{Refusal}
 use Rattle.model.specs.declared.Verdict.{Verdict}
 use Rattle.model.specs.declared.Verdict.the-variants.{Accepted, Refused}
 use Rattle.model.specs.declared.ReadAnswer.{ReadAnswer}
 use Rattle.model.specs.declared.ReadAnswer.the-variants.{Read, Refused as ReadRefused}
-use Rattle.basics.proofs.Choices.{lt-then}
 use Rattle.shows.proofs.RoundTrips.{into-answer}
+use Rattle.shows.proofs.Outcomes.{no-room}
 use Rattle.demands.specs.Acceptance.{Check, refusalNumber}
 use Rattle.demands.specs.Buffers.{Leaves}
 use Rattle.demands.proofs.Answers.{read-is, unread-is}
@@ -45,8 +45,8 @@ pub record Way (all : List ℕ → List ℕ) (Right : List ℕ → Type 0) (Brok
 
 -- Too little room.
 into-short : (xs out : List ℕ) → length out < length xs → readInto xs out ≡ refuse (refusal 11 0) out
-unfolding readInto withRoom
-into-short xs out h = lt-then _ _ _ _ h
+unfolding readInto
+into-short xs out h = no-room _ _ _ h
 
 -- An answer is no refusal.
 pub no-refusal : (r : ReadAnswer) (rows blocks cues : ℕ) (q : Refusal) → r ≡ Read rows blocks cues → r ≡ ReadRefused q → ⊥

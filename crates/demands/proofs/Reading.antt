@@ -17,7 +17,7 @@ use Rattle.model.specs.declared.ReadAnswer.{ReadAnswer}
 use Rattle.model.specs.declared.ReadAnswer.the-variants.{Read, Refused as ReadRefused}
 use Rattle.demands.specs.Buffers.{Leaves}
 use Rattle.demands.specs.Acceptance.{Lawful, Check, Length, Sequence, Ranges, Repeats, Order, Ends, Totals, refusalNumber, FirstBroken}
-use Rattle.demands.specs.Asking.{AsksRead}
+use Rattle.model.specs.Asking.{AsksRead}
 use Rattle.shows.specs.Files.{SpellsFile}
 use Rattle.shows.proofs.Files.{file-reads}
 use Rattle.demands.specs.Files.{linePlace, ReadRefusal, of-rows, of-room, ReadsAs, IsRead}

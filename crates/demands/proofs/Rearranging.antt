@@ -2,9 +2,9 @@
 use Prim.Native.Nat.{ℕ, zero, suc, _+_, _<_}
 use native.Mathlib.Omega.{arith}
 use native.Mathlib.Nat.{add-zero}
-use mathlib.Core.Path.{_≡_, refl, _∙_, ap, ap₂}
+use mathlib.Core.Path.{_≡_, refl, sym, _∙_, ap, ap₂}
 use mathlib.Core.Logic.{_⊎_, inl, inr}
-use mathlib.Core.List.{List, _∷_, _++_, map, flatMap, map-append, append-assoc, List·Permᴰ, List·Permᴰ·nil, List·Permᴰ·cons, List·Permᴰ·swap, List·Permᴰ·trans, List·Memᴰ, List·Memᴰ·head, List·Memᴰ·tail, List·Memᴰ·cases-cons, List·Permᴰ·append-comm, Permᴰ·append-left, Permᴰ·append-right}
+use mathlib.Core.List.{List, [], _∷_, _++_, map, flatMap, map-append, append-assoc, List·Permᴰ, List·Permᴰ·nil, List·Permᴰ·cons, List·Permᴰ·swap, List·Permᴰ·trans, List·Memᴰ, List·Memᴰ·head, List·Memᴰ·tail, List·Memᴰ·cases-cons, List·Permᴰ·append-comm, Permᴰ·append-left, Permᴰ·append-right}
 use lib.ListN.{length, getD}
 use Rattle.model.specs.Lists.{range}
 use Rattle.basics.proofs.Members.{flat-append}
@@ -18,6 +18,11 @@ module _ {A : Type 0} {x a : A} {l : List A} {M : Type 0} where
       go : (x ≡ a) ⊎ List·Memᴰ x l → M
       go (inl e) = f e
       go (inr j) = g j
+
+-- A member of a list stands behind some of its entries and before the others.
+pub mem-split : {A : Type 0} {x : A} {xs : List A} → List·Memᴰ x xs → (before after : List A) × (xs ≡ before ++ (x ∷ after))
+mem-split (List·Memᴰ·head {x = y} {xs = ys} e) = ([], ys, ap (λ z. z ∷ ys) (sym e))
+mem-split (List·Memᴰ·tail {x = y} {xs = ys} i) = let (before, after, e) = mem-split i in (y ∷ before, after, ap (λ zs. y ∷ zs) e)
 
 -- A rearrangement has the same members.
 pub perm-mem : {A : Type 0} {x : A} {xs ys : List A} → List·Permᴰ xs ys → List·Memᴰ x xs → List·Memᴰ x ys

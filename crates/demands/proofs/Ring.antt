@@ -1,5 +1,5 @@
--- The ring show by computation: its rows are accepted and stand for these blocks; a run of single steps, the second of two uses before the first; and what
--- the demands on unfolding, numbers, the rows behind follow-ons and notes say of it, of a show with several links between two cues, and of a block with a
+-- The ring show by computation: its rows are accepted and stand for its blocks; and what the demands on unfolding, numbers, the rows behind follow-ons and
+-- notes say of it, after its single steps (RingSteps) and those of its block 1 alone, of a show with several links between two cues, and of a block with a
 -- note. Nothing here rests on a law, so a definition that does not meet these demands is refused here by itself.
 use Prim.Native.Nat.{ℕ, suc, _≤_, _<_}
 use native.Mathlib.Omega.{arith}
@@ -10,7 +10,7 @@ use lib.Dec.{eqb}
 use Rattle.model.specs.Choice.{ifLt, ifEq, ifTrue}
 use Rattle.model.specs.Limits.{noChain}
 use Rattle.model.specs.Rows.{cell, rowAt, rowsFrom, rowCount, rowsOf}
-use Rattle.model.specs.Blocks.{Link, Use, Block, noBlock, blockAt, joinsOf, ownOf, addLink, addUse, addRow, addRows, blocksOf, sumOver, total, lastBlock, count}
+use Rattle.model.specs.Blocks.{Link, Block, noBlock, blockAt, joinsOf, ownOf, addLink, addUse, addRow, addRows, blocksOf, sumOver, total, lastBlock, count}
 use Rattle.model.specs.Rules.{start, cuesIn, mayOpen, goesOn, mayFollow, columnsUsed, named, every, isCue, isZero, labelFits, ownFits, inRange, differs, distinct, isBelow, linkKey, useKey, inOrder, fault, after}
 use Rattle.model.specs.Verdicts.{refusal, refused, andThen, checkLength, checkRows, openingRows, checkBlocks, mayStand, totalFits, verdict}
 use Rattle.model.specs.declared.Verdict.the-variants.{Accepted}
@@ -23,11 +23,11 @@ use Rattle.model.specs.Behind.{Origin, Stands, Missing, stepInto, tracedInto, r
 use Rattle.model.specs.Ring.{ringWith, ring, notedRing, opening}
 use Rattle.shows.specs.Copies.{nthUse, after as copy-after, ends, goes}
 use Rattle.shows.specs.Numbering.{usedBy, blockAfter}
-use Rattle.demands.specs.Replacement.{Node, Edge, Standing, Graph, ownNodes, nodesOf, nth, edge, standing, Step, stay, then, begin, Ended, nodeNumber, nodeAt, byNumbers}
-use Rattle.demands.specs.Numbers.{node, Before, own-order, own-first, use-order, same-use}
+use Rattle.demands.specs.Replacement.{nodeNumber, nodeAt, endNumber, byNumbers}
+use Rattle.demands.specs.Numbers.{Before, own-order, own-first, use-order, same-use}
 use Rattle.demands.specs.Acceptance.{here}
 use Rattle.demands.specs.RowBehind.{StandsAs, Wins, by-depth, by-step, by-row}
-use Rattle.demands.specs.Notes.{fewestOfAll, summaryOfAll}
+use Rattle.demands.proofs.RingSteps.{link-of, use-of, bs, a, b, c, d, e, after-4, alone-3, met-1, met-2}
 
 -- How often a thing stands in a list, and that two lists have each thing as often.
 module _ {A : Type 0} (same : A → A → Bool) where
@@ -50,19 +50,6 @@ rises [] = true
 rises (x ∷ []) = true
 rises (x ∷ y ∷ ys) = ifLt x y (rises (y ∷ ys)) false
 
--- Its blocks, the last first.
-abbrev link-of : ℕ → ℕ → ℕ → Link
-link-of from to label = record { from = from; to = to; label = label }
-
-abbrev use-of : ℕ → List ℕ → Use
-use-of block at = record { block = block; at = at }
-
-abbrev bs : List Block
-bs =
-    record { joins = 0; own = 2; links = link-of 2 1 2 ∷ []; uses = use-of 1 (1 ∷ 2 ∷ []) ∷ [] }
-    ∷ record { joins = 2; own = 1; links = []; uses = use-of 0 (1 ∷ 3 ∷ []) ∷ use-of 0 (2 ∷ 1 ∷ []) ∷ [] }
-    ∷ record { joins = 2; own = 1; links = link-of 1 3 1 ∷ link-of 2 1 1 ∷ []; uses = [] } ∷ []
-
 -- Its rows are accepted, and so are those with a note, and a single opening row with one own cue.
 pub ring-accepted : verdict ring ≡ Accepted
 unfolding ifLt ifEq ifTrue cell rowAt rowsFrom rowCount rowsOf start cuesIn mayOpen goesOn mayFollow columnsUsed named every isCue isZero labelFits ownFits inRange differs distinct isBelow linkKey useKey inOrder fault after noBlock blockAt joinsOf ownOf addLink addUse addRow addRows blocksOf sumOver total refusal refused andThen checkLength checkRows openingRows checkBlocks mayStand totalFits verdict
@@ -80,104 +67,37 @@ ring-blocks : blocksOf ring ≡ bs
 unfolding ifLt ifEq cell rowAt rowsFrom rowCount rowsOf noBlock blockAt joinsOf addLink addUse addRow addRows blocksOf
 ring-blocks = refl
 
--- The five cues: of the show, of its copy of block 1, and of the two copies of block 0 in that.
-abbrev a : Node
-a = node [] 1
-
-abbrev b : Node
-b = node [] 2
-
-abbrev c : Node
-c = node (1 ∷ []) 1
-
-abbrev d : Node
-d = node (1 ∷ 1 ∷ []) 1
-
-abbrev e : Node
-e = node (1 ∷ 2 ∷ []) 1
-
-abbrev from-to : Node → Node → ℕ → Edge
-from-to u v label = record { from = u; to = v; label = label }
-
-abbrev use-at : List ℕ → ℕ → List Node → Standing
-use-at path block met = record { path = path; block = block; met = met }
-
--- The graph after one, two, three and four steps.
-abbrev after-1 : Graph
-after-1 = record { cues = a ∷ b ∷ []; links = from-to b a 2 ∷ []; uses = use-at (1 ∷ []) 1 (a ∷ b ∷ []) ∷ [] }
-
-abbrev after-2 : Graph
-after-2 =
-    record {
-      cues = a ∷ b ∷ c ∷ [];
-      links = from-to b a 2 ∷ [];
-      uses = use-at (1 ∷ 1 ∷ []) 0 (c ∷ b ∷ []) ∷ use-at (1 ∷ 2 ∷ []) 0 (a ∷ c ∷ []) ∷ [];
-    }
-
-abbrev after-3 : Graph
-after-3 =
-    record {
-      cues = a ∷ b ∷ c ∷ e ∷ [];
-      links = from-to b a 2 ∷ from-to e c 1 ∷ from-to a e 1 ∷ [];
-      uses = use-at (1 ∷ 1 ∷ []) 0 (c ∷ b ∷ []) ∷ [];
-    }
-
-abbrev after-4 : Graph
-after-4 =
-    record {
-      cues = a ∷ b ∷ c ∷ e ∷ d ∷ [];
-      links = from-to b a 2 ∷ from-to e c 1 ∷ from-to a e 1 ∷ from-to d b 1 ∷ from-to c d 1 ∷ [];
-      uses = [];
-    }
-
--- The steps: the third one replaces the second of two uses.
-step-1 : Step bs (begin bs) after-1
-unfolding begin ownNodes nodesOf nth edge standing range blockAt lastBlock
-step-1 = record { before = []; chosen = use-at [] 2 []; after = []; stood = refl; cues = refl; links = refl; uses = refl }
-
-step-2 : Step bs after-1 after-2
-unfolding ownNodes nodesOf nth edge standing range blockAt
-step-2 = record { before = []; chosen = use-at (1 ∷ []) 1 (a ∷ b ∷ []); after = []; stood = refl; cues = refl; links = refl; uses = refl }
-
-step-3 : Step bs after-2 after-3
-unfolding ownNodes nodesOf nth edge standing range blockAt
-step-3 =
-    record {
-      before = use-at (1 ∷ 1 ∷ []) 0 (c ∷ b ∷ []) ∷ [];
-      chosen = use-at (1 ∷ 2 ∷ []) 0 (a ∷ c ∷ []);
-      after = [];
-      stood = refl;
-      cues = refl;
-      links = refl;
-      uses = refl;
-    }
-
-step-4 : Step bs after-3 after-4
-unfolding ownNodes nodesOf nth edge standing range blockAt
-step-4 = record { before = []; chosen = use-at (1 ∷ 1 ∷ []) 0 (c ∷ b ∷ []); after = []; stood = refl; cues = refl; links = refl; uses = refl }
-
-ring-ended : Ended bs 4 after-4
-ring-ended = record { run = then (then (then (then stay step-1) step-2) step-3) step-4; over = refl }
-
--- "its links, each cue replaced by its number", are those of the unfolded show; its cues have the numbers 1 to the count.
-ring-links : alike same-link (map (byNumbers bs) (after-4 .links)) (showLinks bs) ≡ true
-unfolding alike as-often times same-link byNumbers nodeNumber ifLt ifEq ifTrue sumOver total lastBlock cueAt renamed usesLinks links showLinks ownNumber usesNumber copyNumber numberIn
+-- Its links, each cue replaced by its number, are those of the unfolded show; its cues have the numbers 1 to the count.
+ring-links : alike same-link (map (byNumbers bs (lastBlock bs)) (after-4 .links)) (showLinks bs) ≡ true
+unfolding alike as-often times same-link byNumbers endNumber nodeNumber ifLt ifEq ifTrue blockAt sumOver total lastBlock cueAt renamed usesLinks links showLinks ownNumber usesNumber copyNumber numberIn
 ring-links = refl
 
-ring-cues : alike eqb (map (nodeNumber bs) (after-4 .cues)) (range 1 (count bs)) ≡ true
+ring-cues : alike eqb (map (nodeNumber bs (lastBlock bs)) (after-4 .cues)) (range 1 (count bs)) ≡ true
 unfolding alike as-often times nodeNumber range ifLt ifEq ifTrue sumOver total lastBlock count ownNumber usesNumber copyNumber numberIn
 ring-cues = refl
 
 -- Each number names a cue that has this number.
-ring-places : alike eqb (map (nodeNumber bs) (map (nodeAt bs) (range 1 (count bs)))) (range 1 (count bs)) ≡ true
+ring-places : alike eqb (map (nodeNumber bs (lastBlock bs)) (map (nodeAt bs (lastBlock bs)) (range 1 (count bs)))) (range 1 (count bs)) ≡ true
 unfolding alike as-often times nodeNumber nodeAt range ifLt ifEq ifTrue sumOver total lastBlock count ownNumber usesNumber copyNumber numberIn nowhere stepThen usesPlace placeIn
 ring-places = refl
+
+-- Block 1 alone. Its links by number are those of "that block's own unfolding"; its cues have the numbers 1 to 3, which is its total, and what its joins
+-- meet the two after.
+alone-links : alike same-link (map (byNumbers bs 1) (alone-3 .links)) (blockLinks bs 1) ≡ true
+unfolding alike as-often times same-link byNumbers endNumber nodeNumber range ifLt ifEq ifTrue blockAt joinsOf sumOver total cueAt renamed usesLinks links blockLinks ownNumber usesNumber copyNumber numberIn
+alone-links = refl
+
+alone-cues : (total bs 1 ≡ 3)
+    × (alike eqb (map (nodeNumber bs 1) (alone-3 .cues)) (range 1 (total bs 1)) ≡ true)
+    × (map (endNumber bs 1) (met-1 ∷ met-2 ∷ []) ≡ 4 ∷ 5 ∷ [])
+unfolding alike as-often times endNumber nodeNumber range ifLt ifEq ifTrue blockAt sumOver total ownNumber usesNumber copyNumber numberIn
+alone-cues = (refl, refl, refl)
 
 -- "own cues first, then the cues of its uses in order": the five cues in this order, and their numbers rise.
 in-order : Before [] 1 [] 2 × Before [] 2 (1 ∷ []) 1 × Before (1 ∷ []) 1 (1 ∷ 1 ∷ []) 1 × Before (1 ∷ 1 ∷ []) 1 (1 ∷ 2 ∷ []) 1
 in-order = let h : 1 < 2 = omega arith in (own-order h, own-first, same-use refl own-first, same-use refl (use-order h))
 
-ring-order : rises (map (nodeNumber bs) (a ∷ b ∷ c ∷ d ∷ e ∷ [])) ≡ true
+ring-order : rises (map (nodeNumber bs (lastBlock bs)) (a ∷ b ∷ c ∷ d ∷ e ∷ [])) ≡ true
 unfolding rises nodeNumber ifLt ifEq sumOver total lastBlock ownNumber usesNumber copyNumber numberIn
 ring-order = refl
 
@@ -238,12 +158,12 @@ several-wins = let h : 1 < 2 = omega arith in (by-step refl (here h), by-row ref
 -- The ring with a note from cue 2 to cue 1: no chain has it, so none leads there, though by all links one does; with label 254 it is followed. The
 -- lists and the row behind it still show it.
 ring-note : (fewest (showLinks (blocksOf notedRing)) 5 2 1 ≡ Unreachable)
-    × (fewestOfAll (showLinks (blocksOf notedRing)) 5 2 1 ≡ Far 1)
+    × (searchFrom (showLinks (blocksOf notedRing)) 1 5 0 (2 ∷ []) ≡ Far 1)
     × (fewest (showLinks (blocksOf (ringWith 254))) 5 2 1 ≡ Far 1)
     × (cuesAfter (isOut (showLinks (blocksOf notedRing)) 2) 5 0 ≡ 1 ∷ [])
     × (cuesAfter (isInto (showLinks (blocksOf notedRing)) 1) 5 0 ≡ 2 ∷ [])
     × (behind notedRing 2 1 ≡ Stands (at-path [] 8))
-unfolding ifLt ifEq ifTrue cell rowAt rowsFrom rowCount rowsOf noBlock blockAt joinsOf addLink addUse addRow addRows blocksOf sumOver total lastBlock cueAt renamed usesLinks links showLinks followed isIn successors searchFrom fewest fewestOfAll range keep cuesAfter isLinked isOut isInto openingRows stepInto tracedInto rowsTraced usesTraced traced openingRow showTraced origins depthWins stepsWin better winner best behind
+unfolding ifLt ifEq ifTrue cell rowAt rowsFrom rowCount rowsOf noBlock blockAt joinsOf addLink addUse addRow addRows blocksOf sumOver total lastBlock cueAt renamed usesLinks links showLinks followed isIn successors searchFrom fewest range keep cuesAfter isLinked isOut isInto openingRows stepInto tracedInto rowsTraced usesTraced traced openingRow showTraced origins depthWins stepsWin better winner best behind
 ring-note = (refl, refl, refl, refl, refl, refl)
 
 -- Block 0 with two joins and a link of this label from the first to the second; block 1 uses it between its own two joins, and the show uses block 1 from
@@ -258,10 +178,10 @@ through label =
 -- one that uses that.
 noted-summaries : (summary (through 255) 0 1 2 ≡ noChain)
     × (summary (through 255) 1 1 2 ≡ noChain)
-    × (summaryOfAll (through 255) 1 1 2 ≡ 1)
+    × (searchFrom (blockLinks (through 255) 1) 2 2 0 (1 ∷ []) ≡ Far 1)
     × (fewest (showLinks (through 255)) 2 1 2 ≡ Unreachable)
     × (summary (through 254) 0 1 2 ≡ 1)
     × (summary (through 254) 1 1 2 ≡ 1)
     × (summary (through 254) 1 2 1 ≡ noChain)
-unfolding ifLt blockAt joinsOf sumOver total lastBlock cueAt renamed usesLinks links showLinks range followed isIn successors searchFrom fewest fewestOfAll blockLinks orNone summary summaryOfAll
+unfolding ifLt blockAt joinsOf sumOver total lastBlock cueAt renamed usesLinks links showLinks range followed isIn successors searchFrom fewest blockLinks orNone summary
 noted-summaries = (refl, refl, refl, refl, refl, refl, refl)

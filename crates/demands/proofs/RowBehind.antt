@@ -10,7 +10,7 @@ use Rattle.model.specs.Limits.{maxDepth}
 use Rattle.model.specs.Blocks.{Link, Block, blocksOf, lastBlock, count}
 use Rattle.model.specs.Verdicts.{refusal, verdict}
 use Rattle.model.specs.Unfolding.{renamed, showLinks}
-use Rattle.model.specs.Behind.{Origin, Traced, Behind, Stands, Missing, showTraced, origins, behind}
+use Rattle.model.specs.Behind.{Origin, Traced, Stands, Missing, showTraced, origins, behind}
 use Rattle.model.specs.Lists.{overwrite}
 use Rattle.model.specs.Answers.{ofRow}
 use Rattle.model.specs.Questions.{Outcome, outcome, refuse, answer, rowFound, rowIn, rowAsked}
@@ -22,15 +22,17 @@ use Rattle.shows.specs.Copies.{Steps, number, show-copy}
 use Rattle.shows.specs.Lists.{Leads}
 use Rattle.shows.proofs.Accepted.{accepted-show}
 use Rattle.shows.proofs.TracedByPath.{trace, after-lower}
-use Rattle.demands.specs.Asking.{AsksRow}
+use Rattle.shows.proofs.Outcomes.{on-yes, has-room, has-cue}
+use Rattle.model.specs.Asking.{AsksRow}
 use Rattle.demands.specs.Acceptance.{nthRow}
-use Rattle.demands.specs.RowBehind.{copyAt, StandsAs, Wins, link, IsGiven, IsRowBehind}
+use Rattle.demands.specs.Copies.{copyAt}
+use Rattle.demands.specs.RowBehind.{StandsAs, Wins, link, IsGiven, IsRowBehind}
 use Rattle.demands.proofs.Answers.{row-is, untraced-is}
 use Rattle.demands.proofs.Buffers.{leaves}
-use Rattle.demands.proofs.Outcomes.{on-yes, has-room, has-cue}
+use Rattle.demands.proofs.Blocks.{last-low}
 use Rattle.demands.proofs.PartsOfRows.{both-known, both-then, both-else}
 use Rattle.demands.proofs.LinkRows.{rowLink}
-use Rattle.demands.proofs.LinksOfRows.{last-low, trace-row, row-trace, link-trace, trace-link}
+use Rattle.demands.proofs.LinksOfRows.{trace-row, row-trace, link-trace, trace-link}
 use Rattle.demands.proofs.Winning.{Beats, wins-both, BestOf, no-best, the-best, best-of}
 
 -- The origins of the links from s to t, among links with their origins.

@@ -21,7 +21,7 @@ abbrev Decided : Bool → Type 0 → Type 0
 Decided t P = ((t ≡ true) × P) ⊎ ((t ≡ false) × (P → ⊥))
 
 -- One list comes before another: not each before the other, and from one to the next.
-below-both : {ks ls : List ℕ} → Below ks ls → Below ls ks → ⊥
+pub below-both : {ks ls : List ℕ} → Below ks ls → Below ls ks → ⊥
 below-both (here h) (here i) = omega arith
 below-both (here h) (later e q) = omega arith
 below-both (later e p) (here i) = omega arith

@@ -2,19 +2,26 @@
 use Prim.Native.Nat.{ℕ, zero, suc, _+_, _*_, _-_, _<_}
 use native.Mathlib.Omega.{arith}
 use mathlib.Core.Path.{_≡_, refl, sym, _∙_, ap, ap₂}
-use mathlib.Core.List.{List, [], _∷_, map}
+use mathlib.Core.List.{List, [], _∷_, map, List·Memᴰ}
 use lib.ListN.{length, getD}
-use Rattle.model.specs.Values.{digitZero, decimal}
-use Rattle.model.specs.Text.{names, ends}
+use Rattle.model.specs.Choice.{ifLt, ifEq, ifTrue}
+use Rattle.model.specs.Values.{digitZero, isDigit, run, afterRun, decimal, isValue}
+use Rattle.model.specs.Text.{names, ends, valueThen, endedBy, valuesOf, intoFirst, linesOf}
 use Rattle.model.specs.Rows.{Row, cell, rowAt, rowsFrom, rowCount, rowsOf}
 use Rattle.model.specs.Blocks.{lastBlock}
-use Rattle.model.specs.Verdicts.{refusal}
+use Rattle.model.specs.Verdicts.{refusal, rowThen, readLines, same, readAll, readFile}
 use Rattle.model.specs.Answers.{returned, given, flag, ofRead, ofWrite, ofCount, ofLocate, ofNumber, ofList, ofRow, ofFewest}
-use Rattle.basics.proofs.Members.{range-length, range-at}
+use Rattle.basics.proofs.Choices.{lt-then, lt-else, eq-then, eq-else}
+use Rattle.basics.proofs.Members.{getD-mem, mem-at, range-length, range-at}
 use Rattle.basics.specs.Members.{Each}
 use Rattle.basics.specs.Values.{Digit, shown, SpellsValue}
 use Rattle.basics.proofs.Digits.{decimal-last, shown-length}
-use Rattle.demands.specs.Words.{Figures, Bytes, IsDigit, ValueText, ValueWords, RowWords, ListWords, AnswerWords, Words}
+use Rattle.shows.specs.Lists.{Rising, none, more}
+use Rattle.shows.proofs.Files.{file-reads}
+use Rattle.demands.specs.Words.{ChoiceWords, Figures, Bytes, IsDigit, ValueText, ValueWords, countedFile, FileWords, RowWords, ListWords, AnswerWords, Words}
+
+choices : ChoiceWords
+choices = record { less = lt-then; not-less = lt-else; equal = eq-then; not-equal = eq-else }
 
 figures : Figures
 figures =
@@ -25,11 +32,19 @@ figures =
       joins = refl;
       own = refl;
       label = refl;
+      followed-label = refl;
       blocks = refl;
       bytes = refl;
       rows = refl;
       total = refl;
       depth = refl;
+      work = refl;
+      block-summary = refl;
+      join-summary = refl;
+      none = refl;
+      printed = refl;
+      desk-rows = refl;
+      desk-blocks = refl;
     }
 
 bytes : Bytes
@@ -46,7 +61,7 @@ bytes =
     }
 
 -- The digits of a text, as numbers, are those that it shows.
-abbrev figuresOf : List ℕ → List ℕ
+abbrev pub figuresOf : List ℕ → List ℕ
 figuresOf t = map (λ (b : ℕ). b - 48) t
 
 shown-figures : (ds : List ℕ) → figuresOf (shown ds) ≡ ds
@@ -61,11 +76,11 @@ shown-digits : (ds : List ℕ) → Each Digit ds → Each IsDigit (shown ds)
 shown-digits [] h = tt
 shown-digits (d ∷ ds) h = let k = h .0 in ((omega arith), shown-digits ds (h .1))
 
-figures-digits : (t : List ℕ) → Each IsDigit t → Each Digit (figuresOf t)
+pub figures-digits : (t : List ℕ) → Each IsDigit t → Each Digit (figuresOf t)
 figures-digits [] h = tt
 figures-digits (b ∷ t) h = let (k, _) = h in ((omega arith), figures-digits t (h .1))
 
-figures-length : (t : List ℕ) → length (figuresOf t) ≡ length t
+pub figures-length : (t : List ℕ) → length (figuresOf t) ≡ length t
 figures-length [] = refl
 figures-length (b ∷ t) = ap suc (figures-length t)
 
@@ -121,9 +136,44 @@ rows xs =
       rows-are = λ r i. let e : 0 + (r - 1) ≡ r - 1 = omega arith in row-from xs 0 _ (r - 1) _ (omega arith) ∙ ap (rowAt xs) e;
     }
 
+-- Numbers that rise, and a property of each, by their places.
+rises-at : (ns : List ℕ) → Rising ns → (i j : ℕ) → i < j → j < length ns → getD ns i 0 < getD ns j 0
+rises-at [] none i j h l = absurd (omega arith)
+rises-at (n ∷ ns) (more low r) i zero h l = absurd (omega arith)
+rises-at (n ∷ ns) (more low r) zero (suc j) h l = low (getD ns j 0) (getD-mem ns j (omega arith))
+rises-at (n ∷ ns) (more low r) (suc i) (suc j) h l = rises-at ns r i j (omega arith) (omega arith)
+
+at-rises : (ns : List ℕ) → ((i j : ℕ) → i < j → j < length ns → getD ns i 0 < getD ns j 0) → Rising ns
+at-rises [] h = none
+at-rises (n ∷ ns) h = more low (at-rises ns (λ i j a b. h (suc i) (suc j) (omega arith) (omega arith)))
+  where
+    low : (m : ℕ) → List·Memᴰ m ns → n < m
+    low m i = let (j, l, e) = mem-at m i in rw e at (h 0 (suc j) (omega arith) (omega arith))
+
+each-at : (P : ℕ → Type 0) (ns : List ℕ) → Each P ns → (i : ℕ) → i < length ns → P (getD ns i 0)
+each-at P [] h i l = absurd (omega arith)
+each-at P (n ∷ ns) h zero l = h .0
+each-at P (n ∷ ns) h (suc i) l = each-at P ns (h .1) i (omega arith)
+
+at-each : (P : ℕ → Type 0) (ns : List ℕ) → ((i : ℕ) → i < length ns → P (getD ns i 0)) → Each P ns
+at-each P [] h = tt
+at-each P (n ∷ ns) h = (h 0 (omega arith), at-each P ns (λ i l. h (suc i) (omega arith)))
+
 lists : ListWords
 unfolding lastBlock
-lists = record { range-many = range-length; range-are = range-at; last = λ b earlier. omega arith }
+lists =
+    record {
+      range-many = range-length;
+      range-are = range-at;
+      rising = λ ns. (rises-at ns, at-rises ns);
+      each = λ P ns. (each-at P ns, at-each P ns);
+      last = λ b earlier. omega arith;
+    }
+
+-- A file of two rows, read by computation.
+file : FileWords
+unfolding ifLt ifEq ifTrue names ends isDigit run afterRun decimal isValue valueThen endedBy valuesOf intoFirst linesOf rowThen readLines same readAll readFile refusal
+file = file-reads countedFile _ .0 refl
 
 answers : AnswerWords
 unfolding refusal returned given flag ofRead ofWrite ofCount ofLocate ofNumber ofList ofRow ofFewest
@@ -152,4 +202,4 @@ answers =
     }
 
 pub words : Words
-words = record { figures = figures; bytes = bytes; values = values; rows = rows; lists = lists; answers = answers }
+words = record { choices = choices; figures = figures; bytes = bytes; values = values; file = file; rows = rows; lists = lists; answers = answers }

@@ -3,7 +3,7 @@ use Prim.Native.Nat.{ℕ, _+_, _*_, _-_, _≤_, _<_}
 use mathlib.Core.Path.{_≡_}
 use mathlib.Core.Logic.{_↔_}
 use mathlib.Core.List.{List, [], _++_, List·Memᴰ}
-use lib.ListN.{length, take}
+use lib.ListN.{length, getD, take}
 use Rattle.model.specs.Rows.{rowCount, fileText}
 use Rattle.model.specs.Blocks.{Link, Block, blockAt, blocksOf}
 use Rattle.model.specs.Summaries.{summary}
@@ -14,8 +14,9 @@ use Rattle.model.specs.declared.ReadAnswer.the-variants.{Refused}
 use Rattle.model.specs.declared.WriteAnswer.{WriteAnswer}
 use Rattle.model.specs.declared.WriteAnswer.the-variants.{Written}
 use Rattle.shows.specs.Files.{SpellsFile}
-use Rattle.demands.specs.Asking.{AsksRead}
+use Rattle.model.specs.Asking.{AsksRead}
 use Rattle.demands.specs.Acceptance.{nthRow, IsRow, Opens, Lawful, Check, Length, Sequence, Ranges, Repeats, Order, Ends, Totals, Keeps, turn, FirstBroken}
+use Rattle.demands.specs.Blocks.{AreBlocks}
 use Rattle.demands.specs.Files.{UnpaddedFile, ReadsAs}
 use Rattle.demands.specs.RoundTrips.{ReadsAgain}
 
@@ -42,6 +43,7 @@ pub record TableFact : Type 0 where
   pub size : length builtInNumbers ≡ 168 * 11
   pub rows : rowCount builtInNumbers ≡ 168
   pub blocks : length (blocksOf builtInNumbers) ≡ 16
+  pub are : AreBlocks builtInNumbers (blocksOf builtInNumbers)
   pub plain : (k : ℕ) → k < 16 → IsPlainRun (blocksOf builtInNumbers) k
   pub printed : UnpaddedFile (fileText builtIn) builtInNumbers
   pub passes : (c : Check) (r : ℕ) → turn c ≡ 1 → IsRow builtInNumbers r → Keeps builtInNumbers c r
@@ -102,3 +104,7 @@ pub record WritesWhole (f : List ℕ) (first : ReadAnswer) (xs : List ℕ) (w : 
   pub other-bytes : take bytes after ≡ f → ⊥
   pub first-way : (r : ReadAnswer) (out′ after′ : List ℕ) → AsksRead (take bytes after) out′ r after′ → length xs ≤ length out′
       → ReadsAgain first xs r out′ after′
+
+-- "block k's summary is k + 2 from first join to second and none back": in the work area that an answer of fewest leaves.
+abbrev pub HasDeskSummaries : List ℕ → Type 0
+HasDeskSummaries after = (k : ℕ) → k < 16 → (getD after (64 * k + 1) 0 ≡ k + 2) × (getD after (64 * k + 8) 0 ≡ 4294967295)

@@ -13,7 +13,7 @@ use Rattle.model.specs.Blocks.{blocksOf, count}
 use Rattle.model.specs.Verdicts.{refusal}
 use Rattle.model.specs.declared.Refusal.{Refusal}
 use Rattle.model.specs.declared.WriteAnswer.{WriteAnswer}
-use Rattle.model.specs.declared.WriteAnswer.the-variants.{Written, Refused as Unwritten}
+use Rattle.model.specs.declared.WriteAnswer.the-variants.{Written}
 use Rattle.model.specs.declared.ReadAnswer.{ReadAnswer}
 use Rattle.model.specs.declared.ReadAnswer.the-variants.{Read, Refused}
 use Rattle.shows.specs.Files.{SpellsLine, SpellsLines, SpellsFile}
@@ -93,11 +93,13 @@ abbrev pub IsRead : List ℕ → List ℕ → ReadAnswer → List ℕ → Type 0
 IsRead = ReadsAs (λ xs. xs) Lawful FirstBroken linePlace
 
 -- What write answers and leaves, for rows and a lent output. "We still write without padding" (02, Paper 1): rows that keep the rules have one
--- unpadded file; write answers exactly if that fits, and leaves it, "giving its length". (Refusals 4 to 10: `Acceptance.ChecksRows`.)
+-- unpadded file; write answers exactly if that fits, and leaves it, "giving its length". (Its refusals: `Refusals.Refuses`, with `NoRoomFor`.)
 pub record IsWritten (xs out : List ℕ) (w : WriteAnswer) (after : List ℕ) : Type 0 where
   pub file : Lawful xs → (f : List ℕ) × UnpaddedFile f xs
   pub one-file : (f g : List ℕ) → UnpaddedFile f xs → UnpaddedFile g xs → f ≡ g
   pub answers : ((bytes : ℕ) × (w ≡ Written bytes)) ↔ (Lawful xs × ((f : List ℕ) × UnpaddedFile f xs × (length f ≤ length out)))
   pub given : (bytes : ℕ) → w ≡ Written bytes → (f : List ℕ) × UnpaddedFile f xs × (bytes ≡ length f) × Leaves f out after
-  pub no-room : (w ≡ Unwritten (refusal 11 0)) ↔ (Lawful xs × ((f : List ℕ) → UnpaddedFile f xs → length out < length f))
-  pub unchanged : (q : Refusal) → w ≡ Unwritten q → after ≡ out
+
+-- 11 of write: "lent output .. too short" for the file of rows xs.
+abbrev pub NoRoomFor : List ℕ → List ℕ → Type 0
+NoRoomFor xs out = (f : List ℕ) → UnpaddedFile f xs → length out < length f

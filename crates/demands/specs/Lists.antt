@@ -7,20 +7,23 @@ use mathlib.Core.Bool.{Bool, true, false}
 use mathlib.Core.Logic.{_⊎_, _↔_}
 use mathlib.Core.List.{List, _++_, List·Memᴰ}
 use lib.ListN.{length, getD, take}
-use Rattle.model.specs.Blocks.{blocksOf}
+use Rattle.model.specs.Blocks.{Link, blocksOf}
 use Rattle.model.specs.Unfolding.{showLinks}
 use Rattle.model.specs.declared.ListAnswer.{ListAnswer}
 use Rattle.model.specs.declared.ListAnswer.the-variants.{Page}
-use Rattle.shows.specs.Lists.{Leads, Rising}
+use Rattle.shows.specs.Lists.{Rising}
 use Rattle.demands.specs.Buffers.{Leaves}
 
--- "List out, or in, of cue v": cue u is linked to v, by a link of the unfolded show that leads from v to u, or from u to v. "All labels
--- count as follow-ons." "Lists and the unfolding program still show notes" (02, Paper 3).
+-- A link of the unfolded show leads from cue u to cue v. "All labels count as follow-ons." "Lists and the unfolding program still show notes" (02, Paper 3).
+-- "List out, or in, of cue v": cue u is linked to v, by one that leads from v to u, or from u to v.
+abbrev pub LinkLeads : List ℕ → ℕ → ℕ → Type 0
+LinkLeads xs u v = (l : Link) × List·Memᴰ l (showLinks (blocksOf xs)) × (l .from ≡ u) × (l .to ≡ v)
+
 abbrev pub LinkedOut : List ℕ → ℕ → ℕ → Type 0
-LinkedOut xs v u = Leads (showLinks (blocksOf xs)) v u
+LinkedOut xs v u = LinkLeads xs v u
 
 abbrev pub LinkedIn : List ℕ → ℕ → ℕ → Type 0
-LinkedIn xs v u = Leads (showLinks (blocksOf xs)) u v
+LinkedIn xs v u = LinkLeads xs u v
 
 -- Some cues are "the smallest linked cues greater than n, each once, rising", and more says whether "a further one exists".
 pub record Smallest (Linked : ℕ → Type 0) (n : ℕ) (cues : List ℕ) (more : Bool) : Type 0 where

@@ -8,7 +8,7 @@ use mathlib.Core.List.{List, [], _∷_, List·Memᴰ}
 use lib.ListN.{length, take}
 use Rattle.model.specs.Limits.{maxDepth}
 use Rattle.model.specs.Rows.{rowCount}
-use Rattle.model.specs.Blocks.{ownOf, blocksOf, lastBlock, count}
+use Rattle.model.specs.Blocks.{blocksOf, lastBlock, count}
 use Rattle.model.specs.Verdicts.{refusal}
 use Rattle.model.specs.declared.CountAnswer.{CountAnswer}
 use Rattle.model.specs.declared.CountAnswer.the-variants.{Cues}
@@ -17,9 +17,9 @@ use Rattle.model.specs.declared.LocateAnswer.the-variants.{Found}
 use Rattle.model.specs.declared.NumberAnswer.{NumberAnswer}
 use Rattle.model.specs.declared.NumberAnswer.the-variants.{Number, Refused}
 use Rattle.shows.specs.Numbering.{blockAfter}
-use Rattle.demands.specs.Asking.{AsksLocate, AsksNumber}
+use Rattle.model.specs.Asking.{AsksLocate, AsksNumber}
 use Rattle.demands.specs.Buffers.{Leaves}
-use Rattle.demands.specs.Acceptance.{nthRow, AreTotals}
+use Rattle.demands.specs.Acceptance.{nthRow, ownIn, AreTotals}
 use Rattle.demands.specs.Replacement.{Node, Graph, Ended, nodeNumber}
 
 abbrev pub node : List ℕ → ℕ → Node
@@ -39,15 +39,15 @@ pub record IsCount (xs : List ℕ) (r : CountAnswer) : Type 0 where
   pub answer : r ≡ Cues (count (blocksOf xs))
   pub totals : (T : ℕ → ℕ) × AreTotals xs T
   pub total : (T : ℕ → ℕ) → AreTotals xs T → T (nthRow xs (rowCount xs) .block) ≡ count (blocksOf xs)
-  pub cues : {m : ℕ} {g : Graph} → Ended (blocksOf xs) m g → length (g .cues) ≡ count (blocksOf xs)
+  pub cues : {m : ℕ} {g : Graph} → Ended (blocksOf xs) (lastBlock (blocksOf xs)) m g → length (g .cues) ≡ count (blocksOf xs)
 
 -- What number answers about a path and an own cue.
 pub record IsNumber (xs path : List ℕ) (c : ℕ) (r : NumberAnswer) : Type 0 where
   -- It answers exactly if the unfolded show, by whatever steps, has this cue; else the refusal is 13.
-  pub exactly : {m : ℕ} {g : Graph} → Ended (blocksOf xs) m g → ((n : ℕ) × (r ≡ Number n)) ↔ List·Memᴰ (node path c) (g .cues)
+  pub exactly : {m : ℕ} {g : Graph} → Ended (blocksOf xs) (lastBlock (blocksOf xs)) m g → ((n : ℕ) × (r ≡ Number n)) ↔ List·Memᴰ (node path c) (g .cues)
   pub refused : ((n : ℕ) × (r ≡ Number n)) ⊎ (r ≡ Refused (refusal 13 0))
   -- The number is that of the cue in the unfolded show, one of 1 to the count, and locate leads from it back to the path and the own cue.
-  pub number : (n : ℕ) → r ≡ Number n → n ≡ nodeNumber (blocksOf xs) (node path c)
+  pub number : (n : ℕ) → r ≡ Number n → n ≡ nodeNumber (blocksOf xs) (lastBlock (blocksOf xs)) (node path c)
   pub range : (n : ℕ) → r ≡ Number n → (1 ≤ n) × (n ≤ count (blocksOf xs))
   pub back : (n : ℕ) → r ≡ Number n → (lent after : List ℕ) (a : LocateAnswer) → maxDepth ≤ length lent → AsksLocate xs n lent a after
       → ((block : ℕ) × (a ≡ Found (length path) block c)) × (take (length path) after ≡ path)
@@ -65,8 +65,8 @@ pub record IsLocated (xs : List ℕ) (n : ℕ) (lent : List ℕ) (r : LocateAnsw
   pub deep : length path ≤ maxDepth
   -- The path leads to a copy of this block, whose own cue it is: a cue of the unfolded show, by whatever steps.
   pub leads : blockAfter (blocksOf xs) (lastBlock (blocksOf xs)) path ≡ block
-  pub owned : (1 ≤ own) × (own ≤ ownOf (blocksOf xs) block)
-  pub cue : {m : ℕ} {g : Graph} → Ended (blocksOf xs) m g → List·Memᴰ (node path own) (g .cues)
+  pub owned : (1 ≤ own) × (own ≤ ownIn xs block)
+  pub cue : {m : ℕ} {g : Graph} → Ended (blocksOf xs) (lastBlock (blocksOf xs)) m g → List·Memᴰ (node path own) (g .cues)
   -- number leads from it back to n, and from no other path and own cue.
   pub back : (a : NumberAnswer) → AsksNumber xs path own a → a ≡ Number n
   pub only : (way : List ℕ) (d : ℕ) → AsksNumber xs way d (Number n) → (way ≡ path) × (d ≡ own)

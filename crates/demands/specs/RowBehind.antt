@@ -1,26 +1,22 @@
 -- The row behind a follow-on: what row answers about cues s and t, and leaves in the lent list. Document 02, Paper 2: "For s and t, give the number of one
--- link row, and the depth and path of the copy it stands in, the path into a path list as for locating." Copies, and the cues in them, are those of
--- crates/shows/specs/Copies; rows are counted from 1.
+-- link row, and the depth and path of the copy it stands in, the path into a path list as for locating." What a copy at a path is: Copies. Rows are
+-- counted from 1.
 use Prim.Native.Nat.{ℕ, _≤_, _<_}
 use mathlib.Core.Path.{_≡_}
 use mathlib.Core.Logic.{_⊎_, _↔_}
 use mathlib.Core.List.{List, List·Memᴰ}
 use lib.ListN.{length}
 use Rattle.model.specs.Limits.{maxDepth}
-use Rattle.model.specs.Blocks.{Link, blocksOf, lastBlock}
+use Rattle.model.specs.Blocks.{Link, blocksOf}
 use Rattle.model.specs.Verdicts.{refusal}
 use Rattle.model.specs.Unfolding.{showLinks}
 use Rattle.model.specs.declared.RowAnswer.{RowAnswer}
 use Rattle.model.specs.declared.RowAnswer.the-variants.{Row, Refused}
-use Rattle.shows.specs.Copies.{Copy, number, show-copy, after, Steps}
-use Rattle.shows.specs.Numbering.{blockAfter}
-use Rattle.shows.specs.Lists.{Leads}
+use Rattle.shows.specs.Copies.{number, show-copy, Steps}
 use Rattle.demands.specs.Buffers.{Leaves}
 use Rattle.demands.specs.Acceptance.{nthRow, IsRow, column, Links, Below}
-
--- The copy that a path leads to, down from the show.
-abbrev pub copyAt : List ℕ → List ℕ → Copy
-copyAt xs path = after (show-copy (blocksOf xs)) path
+use Rattle.demands.specs.Lists.{LinkLeads}
+use Rattle.demands.specs.Copies.{blockAtPath, copyAt}
 
 -- "The row given must stand in the unfolded show as a link from s to t": a row, and the path of the copy that it stands in.
 pub record StandsAs (xs : List ℕ) (s t : ℕ) (path : List ℕ) (row : ℕ) : Type 0 where
@@ -28,7 +24,7 @@ pub record StandsAs (xs : List ℕ) (s t : ℕ) (path : List ℕ) (row : ℕ) : 
   pub steps : Steps (show-copy (blocksOf xs)) path
   pub is : IsRow xs row
   pub links : Links (nthRow xs row)
-  pub block : nthRow xs row .block ≡ blockAfter (blocksOf xs) (lastBlock (blocksOf xs)) path
+  pub block : nthRow xs row .block ≡ blockAtPath xs path
   -- the cues a and b that the row names have the numbers s and t in the copy there.
   pub from : number (copyAt xs path) (column (nthRow xs row) 1) ≡ s
   pub to : number (copyAt xs path) (column (nthRow xs row) 2) ≡ t
@@ -70,7 +66,7 @@ pub record IsRowBehind (xs : List ℕ) (s t : ℕ) (lent : List ℕ) (r : RowAns
       → List·Memᴰ (link s t label) (showLinks (blocksOf xs))
       ↔ ((path : List ℕ) × (row : ℕ) × StandsAs xs s t path row × (nthRow xs row .label ≡ label))
   -- A row is given exactly if there is such a link, and then it is the one that wins.
-  pub exactly : ((row depth : ℕ) × (r ≡ Row row depth)) ↔ Leads (showLinks (blocksOf xs)) s t
+  pub exactly : ((row depth : ℕ) × (r ≡ Row row depth)) ↔ LinkLeads xs s t
   pub given : (row depth : ℕ) → r ≡ Row row depth → IsGiven xs s t lent row depth after
-  -- "14, place 0, where no link from s to t exists". (That a refusal leaves the list as it was: `Refusals.RowRefuses`.)
-  pub none : (r ≡ Refused (refusal 14 0)) ↔ (Leads (showLinks (blocksOf xs)) s t → ⊥)
+  -- "14, place 0, where no link from s to t exists". (That a refusal leaves the list as it was: `Refusals.Refuses`.)
+  pub none : (r ≡ Refused (refusal 14 0)) ↔ (LinkLeads xs s t → ⊥)

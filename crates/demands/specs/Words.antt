@@ -1,11 +1,14 @@
--- The words that these pages share with the model and its laws, by what they mean: figures, bytes, values, rows, ranges, and the numbers that an answer has.
+-- The words that these pages share with the model and its laws, by what they mean: figures, bytes, values, the text of a file, rows, choices, ranges, what
+-- rises, what each number of a list has, and the numbers that an answer has.
 use Prim.Native.Nat.{ℕ, _+_, _*_, _-_, _/_, _≤_, _<_}
 use mathlib.Core.Path.{_≡_}
 use mathlib.Core.Bool.{true, false}
 use mathlib.Core.List.{List, [], _∷_, _++_, map}
-use mathlib.Core.Logic.{_↔_}
+use mathlib.Core.Logic.{_↔_, _≢_}
 use lib.ListN.{length, getD}
-use Rattle.model.specs.Limits.{rowSize, maxValue, maxDigits, maxJoins, maxOwn, maxLabel, maxBlocks, maxBytes, maxRows, maxTotal, maxDepth}
+use Rattle.model.specs.Choice.{ifLt, ifEq}
+use Rattle.model.specs.Limits.{rowSize, maxValue, maxDigits, maxJoins, maxOwn, maxLabel, maxFollowed, maxBlocks, maxBytes, maxRows, deskRows, deskBlocks}
+use Rattle.model.specs.Limits.{maxTotal, maxDepth, workSize, summarySize, summaryWidth, noChain, printedCues}
 use Rattle.model.specs.Values.{digitZero, decimal}
 use Rattle.model.specs.Text.{comma, lineFeed, names, ends}
 use Rattle.model.specs.Rows.{rowCount, rowsOf}
@@ -24,9 +27,11 @@ use Rattle.model.specs.declared.RowAnswer.the-variants.{Row, Refused as Untrace
 use Rattle.model.specs.declared.FewestAnswer.the-variants.{Steps, None, Refused as Unsearched}
 use Rattle.basics.specs.Members.{Each}
 use Rattle.basics.specs.Values.{SpellsValue}
+use Rattle.shows.specs.Lists.{Rising}
+use Rattle.shows.specs.Files.{SpellsFile}
 use Rattle.demands.specs.Acceptance.{nthRow, IsRow}
 
--- The figures of document 01, and the digits of a value, of document 02.
+-- The figures of document 01, and those of document 02, Papers 1, 3 and 4: every one that has a name.
 pub record Figures : Type 0 where
   pub row : rowSize ≡ 11
   pub value : maxValue ≡ 65535
@@ -34,11 +39,19 @@ pub record Figures : Type 0 where
   pub joins : maxJoins ≡ 8
   pub own : maxOwn ≡ 255
   pub label : maxLabel ≡ 255
+  pub followed-label : maxFollowed ≡ 254
   pub blocks : maxBlocks ≡ 128
   pub bytes : maxBytes ≡ 65536
   pub rows : maxRows ≡ 1024
   pub total : maxTotal ≡ 2147483647
   pub depth : maxDepth ≡ 127
+  pub work : workSize ≡ 16384
+  pub block-summary : summarySize ≡ 64
+  pub join-summary : summaryWidth ≡ 8
+  pub none : noChain ≡ 4294967295
+  pub printed : printedCues ≡ 1000
+  pub desk-rows : deskRows ≡ 168
+  pub desk-blocks : deskBlocks ≡ 16
 
 -- Its bytes, in ASCII: the digit 0, the comma, the line feed; the line of names; what stands behind the eleven values of a line. "Figures are in
 -- base ten".
@@ -79,11 +92,34 @@ pub record RowWords (xs : List ℕ) : Type 0 where
   pub rows-many : length (rowsOf xs) ≡ rowCount xs
   pub rows-are : (r : ℕ) → IsRow xs r → getD (rowsOf xs) (r - 1) (nthRow xs r) ≡ nthRow xs r
 
--- The numbers from n on, so many of them. "The last block is the show": of blocks that are counted from 0.
-pub record ListWords : Type 0 where
+-- A choice by a test of two numbers: the first of two things if one is less than the other, or equal to it, and else the second.
+pub record ChoiceWords : Type 1 where
+  pub less : {A : Type 0} (a b : ℕ) (x y : A) → a < b → ifLt a b x y ≡ x
+  pub not-less : {A : Type 0} (a b : ℕ) (x y : A) → b ≤ a → ifLt a b x y ≡ y
+  pub equal : {A : Type 0} (a b : ℕ) (x y : A) → a ≡ b → ifEq a b x y ≡ x
+  pub not-equal : {A : Type 0} (a b : ℕ) (x y : A) → a ≢ b → ifEq a b x y ≡ y
+
+-- The numbers from n on, so many of them; numbers that rise; a property that each number of a list has. "The last block is the show": of blocks that are
+-- counted from 0.
+pub record ListWords : Type 1 where
   pub range-many : (n many : ℕ) → length (range n many) ≡ many
   pub range-are : (n many i : ℕ) → i < many → getD (range n many) i 0 ≡ n + i
+  pub rising : (ns : List ℕ) → Rising ns ↔ ((i j : ℕ) → i < j → j < length ns → getD ns i 0 < getD ns j 0)
+  pub each : (P : ℕ → Type 0) (ns : List ℕ) → Each P ns ↔ ((i : ℕ) → i < length ns → P (getD ns i 0))
   pub last : (b : Block) (earlier : List Block) → lastBlock (b ∷ earlier) ≡ length earlier
+
+-- "lines of values in that order", "with single commas between", line by line and from left to right: the file of two rows whose values are 0 to 21 in order.
+abbrev pub countedFile : List ℕ
+countedFile =
+    names
+    ++ 48 ∷ 44 ∷ 49 ∷ 44 ∷ 50 ∷ 44 ∷ 51 ∷ 44 ∷ 52 ∷ 44 ∷ 53 ∷ 44 ∷ 54 ∷ 44 ∷ 55 ∷ 44 ∷ 56 ∷ 44 ∷ 57 ∷ 44 ∷ 49 ∷ 48 ∷ 10
+    ∷ 49 ∷ 49 ∷ 44 ∷ 49 ∷ 50 ∷ 44 ∷ 49 ∷ 51 ∷ 44 ∷ 49 ∷ 52 ∷ 44 ∷ 49 ∷ 53 ∷ 44 ∷ 49 ∷ 54 ∷ 44 ∷ 49 ∷ 55 ∷ 44 ∷ 49 ∷ 56 ∷ 44 ∷ 49 ∷ 57 ∷ 44 ∷ 50 ∷ 48 ∷ 44
+    ∷ 50 ∷ 49 ∷ 10 ∷ []
+
+abbrev pub FileWords : Type 0
+FileWords =
+    SpellsFile countedFile
+    (0 ∷ 1 ∷ 2 ∷ 3 ∷ 4 ∷ 5 ∷ 6 ∷ 7 ∷ 8 ∷ 9 ∷ 10 ∷ 11 ∷ 12 ∷ 13 ∷ 14 ∷ 15 ∷ 16 ∷ 17 ∷ 18 ∷ 19 ∷ 20 ∷ 21 ∷ [])
 
 -- "returned (number, place)", and the values of an answer in order: 1 for "more", and 1 before the fewest follow-ons, 0 and 0 for none.
 abbrev pub IsReturned : Returned → ℕ → ℕ → List ℕ → Type 0
@@ -111,10 +147,12 @@ pub record AnswerWords : Type 0 where
   pub no-chain : IsReturned (ofFewest None) 0 0 (0 ∷ 0 ∷ [])
   pub unsearched : (q : Refusal) → ofFewest (Unsearched q) ≡ returned q
 
-pub record Words : Type 0 where
+pub record Words : Type 1 where
+  pub choices : ChoiceWords
   pub figures : Figures
   pub bytes : Bytes
   pub values : ValueWords
+  pub file : FileWords
   pub rows : (xs : List ℕ) → RowWords xs
   pub lists : ListWords
   pub answers : AnswerWords

@@ -5,10 +5,11 @@ use native.Mathlib.Nat.{zero-add, suc-add}
 use mathlib.Core.Path.{_≡_, refl}
 use mathlib.Core.List.{List, List·Memᴰ}
 use Rattle.model.specs.Blocks.{Link}
-use Rattle.model.specs.Chains.{Chain, here, link, followed}
+use Rattle.model.specs.Chains.{followed}
 use Rattle.distances.specs.Walks.{Walk, stop, step, Price, each-one, Linked}
 use Rattle.distances.proofs.Walks.{next, walk-map, edges}
 use Rattle.shows.proofs.Followed.{followed-is, followed-has}
+use Rattle.distances.specs.Demand.{Chain, here, link}
 
 -- Two chains, one after the other.
 pub chain-append : {E : List Link} {s u t n m : ℕ} → Chain E u s n → Chain E t u m → Chain E t s (n + m)

@@ -23,11 +23,11 @@ use Rattle.model.specs.Choice.{ifLt}
 use Rattle.model.specs.Limits.{noChain, maxTotal}
 use Rattle.model.specs.Blocks.{Link, Block, joinsOf, total, lastBlock, count}
 use Rattle.model.specs.Unfolding.{showLinks}
-use Rattle.model.specs.Chains.{Chain, here, link, followed, Distance, Far, Unreachable, isIn, successors, searchFrom, fewest}
+use Rattle.model.specs.Chains.{followed, Distance, Far, Unreachable, isIn, successors, searchFrom, fewest}
 use Rattle.model.specs.Lists.{range}
 use Rattle.model.specs.Summaries.{blockLinks, orNone, summary}
 use Rattle.shows.specs.WellFormed.{Good}
-use Rattle.distances.specs.Demand.{NoChain, Shortest, Summarised}
+use Rattle.distances.specs.Demand.{Chain, here, link, NoChain, Shortest, Summarised}
 use Rattle.shows.proofs.AtBlock.{joins-small}
 use Rattle.distances.proofs.Chains.{chain-append, chain-nought, chain-last}
 use Rattle.distances.proofs.Pigeonhole.{chain-shorten}
@@ -330,7 +330,7 @@ module _ (bs : List Block) (good : Good bs) (k i j : ℕ) (small : total bs k �
         let (n, e) = has-shortest .found m c in
         omega (arith, summary-far bs k i j n x y e, has-shortest .least n m e c, block-below bs good k i j low y n e, joins-small k good)
 
-  pub summary-right : Summarised bs k i j (summary bs k i j)
+  pub summary-right : Summarised (followed (blockLinks bs k)) (total bs k) (joinsOf bs k) i j (summary bs k i j)
   summary-right =
       record {
         lacking = λ h. summary-lacks bs k i j h;

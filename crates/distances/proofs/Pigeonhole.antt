@@ -9,10 +9,11 @@ use mathlib.Core.Logic.{_⊎_, inl, inr, _≢_}
 use mathlib.Core.List.{List, _∷_, List·Memᴰ, List·Memᴰ·head, List·Memᴰ·tail, List·Memᴰ·cases-cons}
 use lib.ListN.{length}
 use Rattle.model.specs.Blocks.{Link}
-use Rattle.model.specs.Chains.{Chain, followed}
+use Rattle.model.specs.Chains.{followed}
 use Rattle.distances.specs.Walks.{Walk, stop, step}
 use Rattle.distances.proofs.Walks.{next, walk-map, edges}
 use Rattle.distances.proofs.Chains.{chain-walk, walk-chain, walk-count}
+use Rattle.distances.specs.Demand.{Chain}
 
 -- x taken off a list that has it: what is left is one shorter and has all else.
 pub record Without (x : ℕ) (cs : List ℕ) : Type 0 where

@@ -86,7 +86,8 @@ module _ (bs : List Block) (good : Good bs) where
             (summary bs k i j, (same k i j h hi hj, b), a);
       }
     where
-      right : (k i j : ℕ) → k < limit → Join bs k j → Summarised bs k i j (summary bs k i j)
+      right : (k i j : ℕ) → k < limit → Join bs k j
+          → Summarised (followed (blockLinks bs k)) (total bs k) (joinsOf bs k) i j (summary bs k i j)
       right k i j h hj = summary-right bs good k i j (small k h) (hj .0)
 
       sound : (k i j w : ℕ) → k < limit → Join bs k i → Join bs k j → InTable tab k i j w

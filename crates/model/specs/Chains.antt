@@ -1,7 +1,8 @@
--- Chains and the fewest follow-ons. Document 01, "Unfolding", and 02, Paper 3. In the field's terms: walks and the distance from s to t.
+-- The fewest follow-ons. Document 01, "Unfolding", and 02, Paper 3. In the field's terms: the distance from s to t. What a chain is, of which nothing is
+-- computed, stands in crates/distances/specs/Demand, with what the fewest is proved to be.
 use Prim.Native.Nat.{ℕ, zero, suc}
 use mathlib.Core.Bool.{Bool, true, false}
-use mathlib.Core.List.{List, [], _∷_, List·Memᴰ}
+use mathlib.Core.List.{List, [], _∷_}
 use lib.Dec.{eqb}
 use Rattle.model.specs.Choice.{ifLt}
 use Rattle.model.specs.Limits.{maxFollowed}
@@ -12,13 +13,6 @@ use Rattle.model.specs.Blocks.{Link}
 unfoldable pub followed : List Link → List Link
 followed [] = []
 followed (l ∷ E) = ifLt maxFollowed (l .label) (followed E) (l ∷ followed E)
-
--- Chain E t s n is a chain from s to t that has n of the links E. "A chain from s to t in an unfolding is a list of its links: the
--- first starts at s, each next one where the one before ended, and the last ends at t. Its length is how many links the list has. The
--- empty list is a chain from each cue to itself, and never from one cue to a different one."
-pub data Chain (E : List Link) (t : ℕ) : ℕ → ℕ → Type 0 where
-  here : Chain E t t 0
-  link : {n : ℕ} (l : Link) → List·Memᴰ l E → Chain E t (l .to) n → Chain E t (l .from) (suc n)
 
 -- "Fewest from s to t: a number, or none."
 pub data Distance : Type 0 where

@@ -1,6 +1,6 @@
 -- What a reader must believe, in the order in which document 01 is best followed: values, the file, the rows and their checks, blocks, the
--- unfolding, numbers, lists, rows behind follow-ons, chains, the blocks of the desk, and the questions. Quotations in comments are from document
--- 01, unless 02 is named.
+-- unfolding, numbers, lists, rows behind follow-ons, the fewest follow-ons, the blocks of the desk, the questions, and what is promised of them.
+-- Quotations in comments are from document 01, unless 02 is named.
 pub mod Choice
 pub mod Limits
 pub mod Values
@@ -18,6 +18,7 @@ pub mod Summaries
 pub mod Desk
 pub mod Answers
 pub mod Questions
+pub mod Asking
 pub mod Printed
 pub mod Ring
 pub mod Starred

@@ -1,11 +1,10 @@
 -- The starred cases of document 01, "The ring show", and some of its other examples and of document 02's, as one table. proofs/Starred.antt proves it by
--- computation.
-use Prim.Native.Nat.{ℕ, _-_}
+-- computation. Figures stand as the documents have them, not by the names of Limits.
+use Prim.Native.Nat.{ℕ}
 use mathlib.Core.Path.{_≡_}
 use mathlib.Core.Bool.{true, false}
 use mathlib.Core.List.{List, [], _∷_, _++_}
 use lib.ListN.{replicate, drop}
-use Rattle.model.specs.Limits.{maxDepth, workSize, noChain}
 use Rattle.model.specs.Values.{run, decimal, isValue}
 use Rattle.model.specs.Blocks.{Link, blocksOf, total}
 use Rattle.model.specs.Verdicts.{refusal}
@@ -17,21 +16,21 @@ use Rattle.model.specs.Ring.{ring, notedRing, ringFile, notedFile, ringP
 
 -- Lent lists hold 7s before the call, so that a place which must not change is seen.
 abbrev pub lentPath : List ℕ
-lentPath = replicate maxDepth 7
+lentPath = replicate 127 7
 
 abbrev pub lentWork : List ℕ
-lentWork = replicate workSize 7 ++ (7 ∷ 7 ∷ [])
+lentWork = replicate 16384 7 ++ (7 ∷ 7 ∷ [])
 
 abbrev pub arrow : ℕ → ℕ → ℕ → Link
 arrow from to label = record { from = from; to = to; label = label }
 
 -- The summary of a block with two joins, where a chain of n links leads from the first to the second and none back.
 abbrev pub oneWay : ℕ → List ℕ
-oneWay n = (0 ∷ n ∷ replicate 6 noChain) ++ (noChain ∷ 0 ∷ replicate 6 noChain) ++ replicate 48 noChain
+oneWay n = (0 ∷ n ∷ replicate 6 4294967295) ++ (4294967295 ∷ 0 ∷ replicate 6 4294967295) ++ replicate 48 4294967295
 
 -- The work area after fewest was asked of the ring show: blocks 0, 1 and 2, zeros, and two numbers beyond.
 abbrev pub ringWork : List ℕ
-ringWork = oneWay 2 ++ oneWay 4 ++ replicate 64 noChain ++ replicate (workSize - 192) 0 ++ (7 ∷ 7 ∷ [])
+ringWork = oneWay 2 ++ oneWay 4 ++ replicate 64 4294967295 ++ replicate 16192 0 ++ (7 ∷ 7 ∷ [])
 
 pub record Starred : Type 0 where
   -- *totals 1, 3, 5 for blocks 0, 1, 2

@@ -1,4 +1,5 @@
--- The laws that the proofs cite.
+-- The laws that the proofs cite, and what the promises come to.
 pub mod Parts
 pub mod Reading
 pub mod Complete
+pub mod Demand

@@ -1,27 +1,23 @@
 -- What a file's reading says of its text.
-use Prim.Native.Nat.{ℕ, _+_, _*_, _-_, _≤_, _<_}
+use Prim.Native.Nat.{ℕ, _*_, _-_, _≤_, _<_}
 use native.Mathlib.Omega.{arith}
 use mathlib.Core.Path.{_≡_, refl, sym, _∙_, ap}
 use mathlib.Core.Bool.{true, false}
 use mathlib.Core.List.{List, [], _∷_, _++_}
-use lib.ListN.{length, take, drop, length-append}
-use lib.Seq.{take-at}
+use lib.ListN.{length, take}
 use Rattle.model.specs.Limits.{rowSize, maxRows, printedCues}
-use Rattle.model.specs.Answers.{returned, given, ofRead}
 use Rattle.model.specs.Blocks.{blocksOf, count}
-use Rattle.model.specs.Lists.{overwrite}
 use Rattle.model.specs.Printed.{valuesText, linksTitle, cuesTitle, refusalText, showText, printed}
-use Rattle.model.specs.Questions.{outcome, refuse, answer, onAccepted, readAsked}
-use Rattle.model.specs.Rows.{rowCount}
-use Rattle.model.specs.Verdicts.{verdict, numbersOf, fileVerdict}
+use Rattle.model.specs.Verdicts.{verdict}
+use Rattle.model.specs.Asking.{AsksRead}
 use Rattle.model.specs.declared.Refusal.{Refusal}
 use Rattle.model.specs.declared.ReadAnswer.{ReadAnswer}
 use Rattle.model.specs.declared.ReadAnswer.the-variants.{Read, Refused as ReadRefused}
 use Rattle.model.specs.declared.Verdict.{Verdict}
-use Rattle.model.specs.declared.Verdict.the-variants.{Accepted, Refused}
-use Rattle.shows.specs.Accepted.{Show}
-use Rattle.shows.proofs.Accepted.{accepted-show}
-use Rattle.shows.proofs.RoundTrips.{read-answer, accepted-file}
+use Rattle.model.specs.declared.Verdict.the-variants.{Accepted}
+use Rattle.demands.proofs.ReadCases.{answered}
+use Rattle.demands.proofs.Reading.{first-way}
+use Rattle.demands.proofs.Printed.{text-read, whole-rows, refused-so}
 use Rattle.verdicts.specs.Passing.{IsChecked}
 use Rattle.printing.specs.Stream.{linesFrom, StartsWith}
 use Rattle.printing.proofs.Triples.{show-lines, show-count}
@@ -34,65 +30,22 @@ pub record WasRead (file after : List ℕ) (many blocks cues : ℕ) : Type 0 whe
   pub xs : List ℕ
   pub accepted : verdict xs ≡ Accepted
   pub shown : printed file ≡ showText (blocksOf xs)
-  pub few : many ≤ maxRows
   pub size : many * rowSize ≤ length after
   pub rows : take (many * rowSize) after ≡ xs
   pub all : cues ≡ count (blocksOf xs)
 
-module _ (file rows after : List ℕ) (long : maxRows * rowSize ≤ length rows) where
-  whole-rows : (xs : List ℕ) → verdict xs ≡ Accepted → (rowCount xs * rowSize ≡ length xs) × (rowCount xs ≤ maxRows)
-  unfolding rowCount
-  whole-rows xs v = let s : Show xs = accepted-show xs v in (omega (arith, s .whole), omega (arith, s .rows .1))
-
-  pub was-refused : (f : Refusal) → outcome (ofRead (ReadRefused f)) after ≡ readAsked file rows → printed file ≡ refusalText f
-  unfolding ofRead readAsked refuse returned printed onAccepted answer given refusalText
-  was-refused f h = go (fileVerdict file) refl
-    where
-      go : (v : Verdict) → fileVerdict file ≡ v → printed file ≡ refusalText f
-      go Accepted e =
-          let (xs, r, v) = accepted-file file e in
-          let w = whole-rows xs v in
-          let k = h ∙ read-answer file xs rows r v (omega (arith, w .0, w .1)) in
-          absurd (no-values _ _ _ _ k)
-        where
-          no-values : (a b c : ℕ) (l : List ℕ) → outcome (returned f) after ≡ answer (a ∷ b ∷ c ∷ []) l → ⊥
-          no-values a b c l k = let e : _≡_ {A = List ℕ} [] (a ∷ b ∷ c ∷ []) = ap (λ o. o .answer .values) k in let z : _≡_ {A = ℕ} 0 1 = cc in omega arith
-      go (Refused r) e =
-          let k : outcome (returned f) after ≡ refuse r rows = rw e at h in
-          let p : f .number ≡ r .number = ap (λ o. o .answer .number) k in
-          let q : f .place ≡ r .place = ap (λ o. o .answer .place) k in
-          rw (e, printed) (sym (same f r p q))
-        where
-          same : (f r : Refusal) → f .number ≡ r .number → f .place ≡ r .place → refusalText f ≡ refusalText r
-          same f r p q = rw (p, q)
-
-  pub was-read : (many blocks cues : ℕ) → outcome (ofRead (Read many blocks cues)) after ≡ readAsked file rows → WasRead file after many blocks cues
-  unfolding ofRead readAsked refuse returned given printed onAccepted answer numbersOf overwrite
-  was-read many blocks cues h = go (fileVerdict file) refl
-    where
-      go : (v : Verdict) → fileVerdict file ≡ v → WasRead file after many blocks cues
-      go Accepted e =
-          let (xs, r, v) = accepted-file file e in
-          let w = whole-rows xs v in
-          let k = h ∙ read-answer file xs rows r v (omega (arith, w .0, w .1)) in
-          let values : _≡_ {A = List ℕ} (many ∷ blocks ∷ cues ∷ []) (rowCount xs ∷ length (blocksOf xs) ∷ count (blocksOf xs) ∷ []) = ap (λ o. o .answer .values) k in
-          let is : after ≡ xs ++ drop (length xs) rows = ap (λ o. o .after) k in
-          let m : many ≡ rowCount xs = cc in
-          let size : many * rowSize ≡ length xs = rw m (w .0) in
-          record {
-            xs = xs;
-            accepted = v;
-            shown = rw (e, r);
-            few = rw m (w .1);
-            size = omega (arith, size, ap length is ∙ length-append xs (drop (length xs) rows));
-            rows = rw (size, is) (take-at xs (drop (length xs) rows) (length xs) refl);
-            all = (cc);
-          }
-      go (Refused r) e =
-          let k : outcome (given (many ∷ blocks ∷ cues ∷ [])) after ≡ refuse r rows = rw e at h in
-          let p : _≡_ {A = List ℕ} (many ∷ blocks ∷ cues ∷ []) [] = ap (λ o. o .answer .values) k in
-          let z : _≡_ {A = ℕ} 0 1 = cc in
-          absurd (omega arith)
+was-read : (file rows after : List ℕ) (many blocks cues : ℕ) → AsksRead file rows (Read many blocks cues) after → WasRead file after many blocks cues
+was-read file rows after many blocks cues h =
+    let a = answered first-way file rows after (Read many blocks cues) h many blocks cues refl in
+    let size : many * rowSize ≡ length (a .own) = omega (arith, a .rows-are, whole-rows (a .own) (a .lawful) .0) in
+    record {
+      xs = a .own;
+      accepted = a .lawful;
+      shown = text-read file (a .own) (a .says) (a .lawful);
+      size = omega (arith, a .fits, a .left .size);
+      rows = rw size (a .left .first);
+      all = a .cues-are;
+    }
 
 -- The text begins.
 module _ (file rows t out : List ℕ) (used : ℕ) where
@@ -136,9 +89,9 @@ module _ (file rows t out : List ℕ) (used : ℕ) where
       rest m = sym (ap (λ zs. zs ++ linesAfter (blocksOf (w .xs)) 0) (no-lines m 0 (endOf (count (blocksOf (w .xs)))) (endOf cues) (omega (arith, w .all))))
 
 -- The three answers of the function that begins it.
-module _ (file rows after : List ℕ) (long : maxRows * rowSize ≤ length rows) (a : ReadAnswer) (said : outcome (ofRead a) after ≡ readAsked file rows) where
+module _ (file rows after : List ℕ) (long : maxRows * rowSize ≤ length rows) (a : ReadAnswer) (said : AsksRead file rows a after) where
   read-is : (many blocks cues : ℕ) → a ≡ Read many blocks cues → WasRead file after many blocks cues
-  read-is many blocks cues e = was-read file rows after long many blocks cues (rw e at said)
+  read-is many blocks cues e = was-read file rows after many blocks cues (rw e at said)
 
   pub rows-small : (many blocks cues n : ℕ) → a ≡ Read many blocks cues → n ≡ many → n * rowSize ≤ length after
   rows-small many blocks cues n e same = omega (arith, read-is many blocks cues e .size)
@@ -146,7 +99,7 @@ module _ (file rows after : List ℕ) (long : maxRows * rowSize ≤ length rows)
   module _ (t out : List ℕ) (used : ℕ) where
     pub refused-begun : (f : Refusal) (r : Begun) → a ≡ ReadRefused f → StartsWith (refusalText f) used out → (r .used ≡ used) × (r .more ≡ false)
         → TextBegun file after t out r
-    refused-begun f r e s w = begun-whole file after t out used (refusalText f) r (was-refused file rows after long f (rw e at said)) s (w .0) (w .1)
+    refused-begun f r e s w = begun-whole file after t out used (refusalText f) r (refused-so file rows after f long (rw e at said)) s (w .0) (w .1)
 
     pub count-begun : (many blocks cues : ℕ) (r : Begun) → a ≡ Read many blocks cues → printedCues < cues → StartsWith (cuesTitle ++ valuesText (cues ∷ [])) used out
         → (r .used ≡ used) × (r .more ≡ false) → TextBegun file after t out r

@@ -6,19 +6,11 @@ use mathlib.Core.Bool.{Bool, true, false}
 use mathlib.Core.List.{List, [], _∷_, _++_}
 use lib.ListN.{length, set, length-append}
 use lib.Dec.{ltb}
-use borrow.Author.Tests.{lt-ltb, le-ltb, ltb-true, ltb-false}
+use borrow.Author.Tests.{ltb-true, ltb-false}
 use Rattle.model.specs.Printed.{numberText}
+use Rattle.basics.proofs.Printed.{tenTo, number-one, number-more}
 use Rattle.codec.specs.Writing.{Puts}
 use Rattle.codec.proofs.Stores.{puts-byte, puts-both, puts-as, room-first, room-next}
-
--- A number is one digit, or the digits of its tenth and the last one.
-number-one : (d n : ℕ) → n < 10 → numberText (suc d) n ≡ (48 + n) ∷ []
-unfolding numberText
-number-one d n h = rw (lt-ltb n 10 h, numberText)
-
-number-more : (d n : ℕ) → 10 ≤ n → numberText (suc d) n ≡ numberText d (n / 10) ++ ((48 + n % 10) ∷ [])
-unfolding numberText
-number-more d n h = rw (le-ltb n 10 h, numberText)
 
 -- It has at most as many digits as it may have.
 pub number-long : (d n : ℕ) → length (numberText d n) ≤ d
@@ -29,11 +21,6 @@ number-long (suc d) n = go (number-long d (n / 10)) (ltb n 10) refl
     go : length (numberText d (n / 10)) ≤ d → (t : Bool) → ltb n 10 ≡ t → length (numberText (suc d) n) ≤ suc d
     go h true e = rw (e, numberText) (omega arith)
     go h false e = rw (e, numberText, length-append (numberText d (n / 10)) ((48 + n % 10) ∷ [])) (omega arith)
-
--- Ten to the power k.
-tenTo : ℕ → ℕ
-tenTo zero = 1
-tenTo (suc k) = 10 * tenTo k
 
 -- Where a number may have as many digits as it has, a larger bound changes nothing.
 same-digits : (d e n : ℕ) → n < 10 * tenTo d → n < 10 * tenTo e → numberText (suc d) n ≡ numberText (suc e) n

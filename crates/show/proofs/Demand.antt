@@ -13,30 +13,31 @@ use Rattle.demands.proofs.Acceptance.{accepted-exactly}
 use Rattle.demands.proofs.Words.{words}
 use Rattle.demands.proofs.Ring.{ring-accepted, noted-accepted, ring-stands}
 use Rattle.demands.proofs.Blocks.{are-blocks}
-use Rattle.demands.proofs.Refusals.{locate-refuses, out-refuses, in-refuses, row-refuses, fewest-refuses}
-use Rattle.demands.proofs.Checking.{write-checks, count-checks, locate-checks, number-checks, out-checks, in-checks, row-checks, fewest-checks}
+use Rattle.demands.proofs.Refusals.{write-refuses, count-refuses, locate-refuses, number-refuses, out-refuses, in-refuses, row-refuses, fewest-refuses}
 use Rattle.demands.proofs.Reading.{first-way, is-read}
 use Rattle.demands.proofs.Writing.{is-written}
 use Rattle.demands.proofs.Padding.{padded-file}
 use Rattle.demands.proofs.RoundTrips.{writes-back, reads-back, reads-again}
-use Rattle.demands.proofs.Replacement.{unfolds}
+use Rattle.demands.proofs.Replacement.{unfolds, unfolds-show}
 use Rattle.demands.proofs.Numbers.{is-count, is-number, is-located}
+use Rattle.demands.proofs.Copies.{copies-by-path}
 use Rattle.demands.proofs.Lists.{list-out, list-in, pages-out, pages-in}
 use Rattle.demands.proofs.RowBehind.{is-row-behind}
+use Rattle.demands.proofs.Shortest.{is-fewest, leaves-summaries}
 use Rattle.demands.proofs.Notes.{chain-links, old-figure, ring-unnoted, ring-noted}
 use Rattle.demands.proofs.DeskTable.{table-fact}
 use Rattle.demands.proofs.DeskReading.{is-desk-read, own-lines, desk-lawful, writes-whole}
 use Rattle.demands.proofs.DeskExample.{desk-file}
+use Rattle.demands.proofs.DeskWork.{has-desk-summaries}
 use Rattle.show.specs.Demand.{RightAgainstUnfolding, Demand2, Demand3, Demand4}
-use Rattle.show.proofs.Shortest.{is-fewest, leaves-summaries}
-use Rattle.show.proofs.DeskWork.{has-desk-summaries}
 
 -- Demand 2: of rows that keep the rules, of the rules, and of the round trips.
 right : (xs : List ℕ) → verdict xs ≡ Accepted → RightAgainstUnfolding xs
 right xs v =
     record {
       blocks = are-blocks xs v;
-      unfolding-steps = let s = accepted-show xs v in unfolds (blocksOf xs) (s .good) (s .blocks .0) (s .no-joins);
+      unfolding-steps = let s = accepted-show xs v in unfolds-show (blocksOf xs) (s .good) (s .blocks .0) (s .no-joins);
+      copies = copies-by-path xs v;
       counts = is-count xs v;
       locates = λ n lent after r low high room. is-located xs v n lent after r room low high;
       numbers = is-number xs v;
@@ -55,16 +56,18 @@ demand-2 =
           record {
             read = is-read;
             write = is-written;
-            checks-write = write-checks;
-            checks-count = count-checks;
-            checks-locate = locate-checks;
-            checks-number = number-checks;
-            checks-out = out-checks;
-            checks-in = in-checks;
-            checks-row = row-checks;
-            checks-fewest = fewest-checks;
           };
-      refusals = record { locate = locate-refuses; list-out = out-refuses; list-in = in-refuses; row = row-refuses; fewest = fewest-refuses };
+      refusals =
+          record {
+            write = write-refuses;
+            count = count-refuses;
+            locate = locate-refuses;
+            number = number-refuses;
+            list-out = out-refuses;
+            list-in = in-refuses;
+            row = row-refuses;
+            fewest = fewest-refuses;
+          };
       a-show = accepted-exactly ring .0 ring-accepted;
       a-padded-file = padded-file;
       a-row-behind = ring-stands;
@@ -82,8 +85,13 @@ pub demand-3 : Demand3
 demand-3 =
     record {
       exact = λ xs l. let v = accepted-exactly xs .1 l in
-          record { chain-links = chain-links xs v; fewest = is-fewest xs v; work-area = leaves-summaries xs v };
-      old-figure = old-figure;
+          record {
+            block-steps = unfolds (blocksOf xs) (accepted-show xs v .good);
+            chain-links = chain-links xs v;
+            fewest = is-fewest xs v;
+            work-area = leaves-summaries xs v;
+            old-figure = old-figure xs v;
+          };
       a-note = (accepted-exactly notedRing .0 noted-accepted, ring-noted);
       no-note = (accepted-exactly ring .0 ring-accepted, ring-unnoted);
     }

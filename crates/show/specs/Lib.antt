@@ -1,2 +1,1 @@
-pub mod WorkArea
 pub mod Demand

@@ -2,8 +2,9 @@
 // model's definition of the question: what is returned, in document 01's numbers, and what the lent list that is written holds
 // afterwards, refused calls included. What is lent to be read stays as it was.
 ghost use mathlib.Core.Path.{_≡_};
-ghost use Rattle.model.specs.Answers.{ofRead, ofWrite, ofCount, ofLocate, ofNumber, ofList, ofRow, ofFewest};
-ghost use Rattle.model.specs.Questions.{outcome, readAsked, deskReadAsked, writeAsked, countAsked, locateAsked, numberAsked, outAsked, inAsked, rowAsked, fewestAsked};
+ghost use Rattle.model.specs.Answers.{ofList};
+ghost use Rattle.model.specs.Questions.{outcome};
+ghost use Rattle.model.specs.Asking.{AsksRead, AsksDeskRead, AsksWrite, AsksCount, AsksLocate, AsksNumber, AsksOut, AsksIn, AsksRow, AsksFewest};
 ghost use Rattle.answers.specs.Asked.{listAsked};
 use blocks::INDEX;
 use codec::Parsed;
@@ -24,7 +25,7 @@ use model::limits::ROW_SIZE;
 
 // The count of cues.
 pub fn count(rows: &[u32]) -> CountAnswer
-    ensures { λ r. ⌜ ofCount r ≡ countAsked (now (rows .entry)) ⌝ }
+    ensures { λ r. ⌜ AsksCount (now (rows .entry)) r ⌝ }
 {
     let mut table = [0u32; INDEX];
     match verdicts::check(rows, &mut table) {
@@ -35,7 +36,7 @@ pub fn count(rows: &[u32]) -> CountAnswer
 
 // Where cue n is: depth, block and own cue, and its path in the first numbers of a lent list.
 pub fn locate(rows: &[u32], n: u32, path: &mut [u32]) -> LocateAnswer
-    ensures { λ r. ⌜ outcome (ofLocate r) (now (path .exit)) ≡ locateAsked (now (rows .entry)) n (now (path .entry)) ⌝ }
+    ensures { λ r. ⌜ AsksLocate (now (rows .entry)) n (now (path .entry)) r (now (path .exit)) ⌝ }
 {
     let mut table = [0u32; INDEX];
     match verdicts::check(rows, &mut table) {
@@ -46,7 +47,7 @@ pub fn locate(rows: &[u32], n: u32, path: &mut [u32]) -> LocateAnswer
 
 // The number of a path and an own cue.
 pub fn number(rows: &[u32], path: &[u32], own: u32) -> NumberAnswer
-    ensures { λ r. ⌜ ofNumber r ≡ numberAsked (now (rows .entry)) (now (path .entry)) own ⌝ }
+    ensures { λ r. ⌜ AsksNumber (now (rows .entry)) (now (path .entry)) own r ⌝ }
 {
     let mut table = [0u32; INDEX];
     match verdicts::check(rows, &mut table) {
@@ -57,7 +58,7 @@ pub fn number(rows: &[u32], path: &[u32], own: u32) -> NumberAnswer
 
 // A file read to rows: how many rows, blocks and cues it has.
 pub fn read(file: &[u8], rows: &mut [u32]) -> ReadAnswer
-    ensures { λ r. ⌜ outcome (ofRead r) (now (rows .exit)) ≡ readAsked (now (file .entry)) (now (rows .entry)) ⌝ }
+    ensures { λ r. ⌜ AsksRead (now (file .entry)) (now (rows .entry)) r (now (rows .exit)) ⌝ }
 {
     let mut numbers = [0u32; ROOM];
     match codec::parse(file, &mut numbers) {
@@ -77,7 +78,7 @@ pub fn read(file: &[u8], rows: &mut [u32]) -> ReadAnswer
 
 // A file read the second way, the rows that come with the desk before its own: how many rows, blocks and cues there are in all.
 pub fn read_desk(file: &[u8], rows: &mut [u32]) -> ReadAnswer
-    ensures { λ r. ⌜ outcome (ofRead r) (now (rows .exit)) ≡ deskReadAsked (now (file .entry)) (now (rows .entry)) ⌝ }
+    ensures { λ r. ⌜ AsksDeskRead (now (file .entry)) (now (rows .entry)) r (now (rows .exit)) ⌝ }
 {
     let mut numbers = [0u32; ROOM];
     match codec::parse(file, &mut numbers) {
@@ -99,7 +100,7 @@ pub fn read_desk(file: &[u8], rows: &mut [u32]) -> ReadAnswer
 
 // Rows written as a file: its length.
 pub fn write(rows: &[u32], out: &mut [u8]) -> WriteAnswer
-    ensures { λ r. ⌜ outcome (ofWrite r) (now (out .exit)) ≡ writeAsked (now (rows .entry)) (now (out .entry)) ⌝ }
+    ensures { λ r. ⌜ AsksWrite (now (rows .entry)) (now (out .entry)) r (now (out .exit)) ⌝ }
 {
     let mut table = [0u32; INDEX];
     match verdicts::check(rows, &mut table) {
@@ -121,14 +122,14 @@ fn list(rows: &[u32], inward: bool, v: u32, n: u32, page: &mut [u32]) -> ListAns
 
 // The cues that follow on from cue v, by links or by notes, those above n: as many as the page has room for, rising, and whether there are more.
 pub fn list_out(rows: &[u32], v: u32, n: u32, page: &mut [u32]) -> ListAnswer
-    ensures { λ r. ⌜ outcome (ofList r) (now (page .exit)) ≡ outAsked (now (rows .entry)) v n (now (page .entry)) ⌝ }
+    ensures { λ r. ⌜ AsksOut (now (rows .entry)) v n (now (page .entry)) r (now (page .exit)) ⌝ }
 {
     list(rows, false, v, n, page)
 }
 
 // The cues from which cue v follows on, in the same way.
 pub fn list_in(rows: &[u32], v: u32, n: u32, page: &mut [u32]) -> ListAnswer
-    ensures { λ r. ⌜ outcome (ofList r) (now (page .exit)) ≡ inAsked (now (rows .entry)) v n (now (page .entry)) ⌝ }
+    ensures { λ r. ⌜ AsksIn (now (rows .entry)) v n (now (page .entry)) r (now (page .exit)) ⌝ }
 {
     list(rows, true, v, n, page)
 }
@@ -136,7 +137,7 @@ pub fn list_in(rows: &[u32], v: u32, n: u32, page: &mut [u32]) -> ListAnswer
 // The row behind the follow-on from cue s to cue t: the number of a link row and the depth of the copy that it stands in, whose path goes to the first
 // numbers of a lent list.
 pub fn row(rows: &[u32], s: u32, t: u32, path: &mut [u32]) -> RowAnswer
-    ensures { λ r. ⌜ outcome (ofRow r) (now (path .exit)) ≡ rowAsked (now (rows .entry)) s t (now (path .entry)) ⌝ }
+    ensures { λ r. ⌜ AsksRow (now (rows .entry)) s t (now (path .entry)) r (now (path .exit)) ⌝ }
 {
     let mut table = [0u32; INDEX];
     match verdicts::check(rows, &mut table) {
@@ -147,7 +148,7 @@ pub fn row(rows: &[u32], s: u32, t: u32, path: &mut [u32]) -> RowAnswer
 
 // The fewest follow-ons from cue s to cue t, or none; notes are not followed. The work area holds the summaries of all blocks afterwards.
 pub fn fewest(rows: &[u32], s: u32, t: u32, work: &mut [u32]) -> FewestAnswer
-    ensures { λ r. ⌜ outcome (ofFewest r) (now (work .exit)) ≡ fewestAsked (now (rows .entry)) s t (now (work .entry)) ⌝ }
+    ensures { λ r. ⌜ AsksFewest (now (rows .entry)) s t (now (work .entry)) r (now (work .exit)) ⌝ }
 {
     let mut table = [0u32; INDEX];
     match verdicts::check(rows, &mut table) {

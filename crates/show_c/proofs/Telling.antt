@@ -24,20 +24,23 @@ use Rattle.model.specs.declared.ListAnswer.the-variants.{Page}
 use Rattle.basics.proofs.Choices.{lt-then, lt-else}
 use Rattle.shows.proofs.Accepted.{accepted-show}
 use Rattle.shows.proofs.RoundTrips.{accepted-file}
-use Rattle.show_c.specs.Interface.{code, IsRefused, givenAfter, withGiven, alsoGiven, shortOf, Told, Wrote}
+use Rattle.show_c.specs.Interface.{code, IsRefused, givenAfter, withGiven, shortOf, Told, Wrote}
 
--- A refusal as one number.
+-- A refusal as one number, which is its code: its place is a number of 32 bits.
 abbrev pub number : Refusal → ℕ
 number f = f .number * 4294967296 + f .place
+
+abbrev Narrow : Refusal → Type 0
+Narrow f = f .place < 4294967296
+
+number-code : (f : Refusal) → Narrow f → number f ≡ code (returned f)
+unfolding code returned
+number-code f h = omega arith
 
 -- Values are no refusal.
 no-values : (n : ℕ) (ns : List ℕ) (f : Refusal) → given (n ∷ ns) ≡ returned f → ⊥
 unfolding given returned
 no-values n ns f e = let q : length (n ∷ ns) ≡ 0 = ap (λ (r : Returned). length (r .values)) e in omega arith
-
-same-code : (f g : Refusal) → returned f ≡ returned g → number f ≡ code (returned g)
-unfolding returned code
-same-code f g e = omega (arith, ap (λ (r : Returned). r .number) e, ap (λ (r : Returned). r .place) e)
 
 -- What is said of rows where `given` is too short, from what their count would be.
 short-value : (v : Verdict) (n : ℕ) (ns ws : List ℕ) → given (n ∷ ns) ≡ onAccepted v (λ f. returned f) (given ws) → 47244640256 ≡ shortOf v
@@ -45,18 +48,20 @@ unfolding shortOf onAccepted code returned refusal
 short-value Accepted n ns ws e = refl
 short-value (Refused f) n ns ws e = absurd (no-values n ns f e)
 
-short-refused : (v : Verdict) (f : Refusal) (w : ℕ) (ws : List ℕ) → returned f ≡ onAccepted v (λ f. returned f) (given (w ∷ ws)) → number f ≡ shortOf v
+short-refused : (v : Verdict) (f : Refusal) (w : ℕ) (ws : List ℕ) → Narrow f → returned f ≡ onAccepted v (λ f. returned f) (given (w ∷ ws))
+    → number f ≡ shortOf v
 unfolding shortOf onAccepted
-short-refused Accepted f w ws e = absurd (no-values w ws f (sym e))
-short-refused (Refused g) f w ws e = same-code f g e
+short-refused Accepted f w ws h e = absurd (no-values w ws f (sym e))
+short-refused (Refused g) f w ws h e = number-code f h ∙ ap code e
 
 pub count-short : (xs : List ℕ) (a : CountAnswer) (n : ℕ) → ofCount a ≡ countAsked xs → a ≡ Cues n → 47244640256 ≡ shortOf (verdict xs)
 unfolding ofCount countAsked
 count-short xs a n e q = short-value (verdict xs) n [] _ (rw q at e)
 
-pub no-count-short : (xs : List ℕ) (a : CountAnswer) (f : Refusal) (c : ℕ) → ofCount a ≡ countAsked xs → a ≡ CountRefused f → c ≡ number f → c ≡ shortOf (verdict xs)
+pub no-count-short : (xs : List ℕ) (a : CountAnswer) (f : Refusal) (c : ℕ) → ofCount a ≡ countAsked xs → a ≡ CountRefused f → c ≡ number f → Narrow f
+    → c ≡ shortOf (verdict xs)
 unfolding ofCount countAsked
-no-count-short xs a f c e q h = h ∙ short-refused (verdict xs) f _ [] (rw q at e)
+no-count-short xs a f c e q h k = h ∙ short-refused (verdict xs) f _ [] k (rw q at e)
 
 -- Values put first in `given`.
 pub put-one : (a : ℕ) (g : List ℕ) → 3 ≤ length g → set g 0 a ≡ overwrite (a ∷ []) g
@@ -91,9 +96,9 @@ module _ {A : Type 0} (of : A → Returned) (a b : A) (c : ℕ) (g g′ : List �
   unfolding code givenAfter given
   told-value vs q e i = rw (i, e, q .0) (refl, q .1)
 
-  pub told-refused : (f : Refusal) → g′ ≡ g → c ≡ number f → of b ≡ returned f → a ≡ b → Told c g g′ (of a)
-  unfolding code givenAfter returned overwrite
-  told-refused f u q e i = rw (i, e, u) (q, refl)
+  pub told-refused : (f : Refusal) → g′ ≡ g → c ≡ number f → Narrow f → of b ≡ returned f → a ≡ b → Told c g g′ (of a)
+  unfolding givenAfter returned overwrite
+  told-refused f u q h e i = rw (i, e, u) (q ∙ number-code f h, refl)
 
 -- The flag of a page is a number of its own.
 pub told-page : (a : ListAnswer) (n m : ℕ) (b : Bool) (c : ℕ) (g g′ : List ℕ) → m ≡ flag b → (c ≡ 0) × (g′ ≡ overwrite (n ∷ m ∷ []) g) → a ≡ Page n b
@@ -103,18 +108,28 @@ told-page a n m b c g g′ k p q = told-value ofList a (Page n b) c g g′ (n �
 
 -- Whether `given` is long enough, for a question that writes no list, and for one that does.
 module _ (g : List ℕ) (v : Verdict) where
+  is-short : {A : Type 0} (refuse : Refusal → A) (a : A) → length g < 3 → withGiven g v refuse a ≡ onAccepted v refuse (refuse (refusal 11 0))
+  unfolding withGiven
+  is-short refuse a h = lt-then _ _ _ _ h
+
+  is-long : {A : Type 0} (refuse : Refusal → A) (a : A) → 3 ≤ length g → withGiven g v refuse a ≡ a
+  unfolding withGiven
+  is-long refuse a h = lt-else _ _ _ _ h
+
   no-answer : (w : Verdict) → givenAfter (onAccepted w (λ f. returned f) (returned (refusal 11 0))) g ≡ g
   unfolding givenAfter onAccepted returned overwrite
   no-answer Accepted = refl
   no-answer (Refused f) = refl
 
-  pub tell-short : (r : Returned) (c : ℕ) → length g < 3 → c ≡ shortOf v → Told c g g (withGiven g v r)
-  unfolding withGiven shortOf
-  tell-short r c h e = rw (lt-then (length g) 3 (onAccepted v (λ f. returned f) (returned (refusal 11 0))) r h) (e, sym (no-answer v))
+  told-short : (c : ℕ) → c ≡ shortOf v → Told c g g (onAccepted v (λ f. returned f) (returned (refusal 11 0)))
+  unfolding shortOf
+  told-short c e = (e, sym (no-answer v))
 
-  pub tell : (r r′ : Returned) (c : ℕ) (g′ : List ℕ) → 3 ≤ length g → r′ ≡ r → Told c g g′ r′ → Told c g g′ (withGiven g v r)
-  unfolding withGiven
-  tell r r′ c g′ h e t = rw (lt-else (length g) 3 (onAccepted v (λ f. returned f) (returned (refusal 11 0))) r h, ← e) t
+  pub tell-short : (r : Returned) (c : ℕ) → length g < 3 → c ≡ shortOf v → Told c g g (withGiven g v (λ f. returned f) r)
+  tell-short r c h e = rw (is-short (λ f. returned f) r h) (told-short c e)
+
+  pub tell : (r r′ : Returned) (c : ℕ) (g′ : List ℕ) → 3 ≤ length g → r′ ≡ r → Told c g g′ r′ → Told c g g′ (withGiven g v (λ f. returned f) r)
+  tell r r′ c g′ h e t = rw (is-long (λ f. returned f) r h, ← e) t
 
   refused-also : (lent : List ℕ) (w : Verdict)
       → onAccepted w (λ f. refuse f lent) (refuse (refusal 11 0) lent) ≡ outcome (onAccepted w (λ f. returned f) (returned (refusal 11 0))) lent
@@ -122,16 +137,12 @@ module _ (g : List ℕ) (v : Verdict) where
   refused-also lent Accepted = refl
   refused-also lent (Refused f) = refl
 
-  pub wrote-short : (lent : List ℕ) (o : Outcome) (c : ℕ) → length g < 3 → c ≡ shortOf v → Wrote c g g lent (alsoGiven g v lent o)
-  unfolding alsoGiven shortOf
-  wrote-short lent o c h e =
-      rw (lt-then (length g) 3 (onAccepted v (λ f. refuse f lent) (refuse (refusal 11 0) lent)) o h, refused-also lent v) (e, (sym (no-answer v), refl))
+  pub wrote-short : (lent : List ℕ) (o : Outcome) (c : ℕ) → length g < 3 → c ≡ shortOf v → Wrote c g g lent (withGiven g v (λ f. refuse f lent) o)
+  wrote-short lent o c h e = rw (is-short (λ f. refuse f lent) o h, refused-also lent v) (told-short c e, refl)
 
   pub wrote : (lent : List ℕ) (o : Outcome) (r : Returned) (c : ℕ) (g′ after : List ℕ) → 3 ≤ length g → outcome r after ≡ o → Told c g g′ r
-      → Wrote c g g′ after (alsoGiven g v lent o)
-  unfolding alsoGiven
-  wrote lent o r c g′ after h e t =
-      rw (lt-else (length g) 3 (onAccepted v (λ f. refuse f lent) (refuse (refusal 11 0) lent)) o h, ← e) (t .0, (t .1, refl))
+      → Wrote c g g′ after (withGiven g v (λ f. refuse f lent) o)
+  wrote lent o r c g′ after h e t = rw (is-long (λ f. refuse f lent) o h, ← e) (t, refl)
 
 -- Reading: a list of one number has no room for a row.
 one-short : (f : List ℕ) (xs : List ℕ) → fileVerdict f ≡ Accepted → readFile f ≡ Numbers xs → 1 < length xs
@@ -182,6 +193,6 @@ pub never-answered : (a : ReadAnswer) (k l m c : ℕ) → IsRefused (ofRead a) �
 unfolding ofRead
 never-answered a k l m c s q = absurd (no-values k (l ∷ m ∷ []) (s .told) (rw q at (s .said)))
 
-pub not-read-is : (a : ReadAnswer) (r : Refusal) (c : ℕ) → a ≡ ReadRefused r → c ≡ number r → c ≡ code (ofRead a)
-unfolding ofRead code returned
-not-read-is a r c q h = rw q h
+pub not-read-is : (a : ReadAnswer) (r : Refusal) (c : ℕ) → a ≡ ReadRefused r → c ≡ number r → Narrow r → c ≡ code (ofRead a)
+unfolding ofRead
+not-read-is a r c q h k = rw q (h ∙ number-code r k)

@@ -9,7 +9,7 @@ ghost use Rattle.model.specs.Answers.{flag, ofRead, ofList};
 ghost use Rattle.model.specs.Verdicts.{verdict, fileVerdict};
 ghost use Rattle.model.specs.Desk.{deskFileVerdict};
 ghost use Rattle.model.specs.Questions.{readAsked, deskReadAsked, writeAsked, countAsked, locateAsked, numberAsked, outAsked, inAsked, rowAsked, fewestAsked};
-ghost use Rattle.show_c.specs.Interface.{givenSize, code, IsRefused, withGiven, alsoGiven, shortOf, Told, Wrote};
+ghost use Rattle.show_c.specs.Interface.{givenSize, code, IsRefused, shortOf, Told, Answers, AnswersInto};
 use model::CountAnswer;
 use model::FewestAnswer;
 use model::ListAnswer;
@@ -133,7 +133,7 @@ fn tell_page(answer: ListAnswer, given: &mut [u32]) -> u64
 // given: cues
 #[no_mangle]
 pub extern "C" fn show_count(rows: &[u32], given: &mut [u32]) -> u64
-    ensures { λ c. ⌜ Told c (now (given .entry)) (now (given .exit)) (withGiven (now (given .entry)) (verdict (now (rows .entry))) (countAsked (now (rows .entry)))) ⌝ }
+    ensures { λ c. ⌜ Answers c given (verdict (now (rows .entry))) (countAsked (now (rows .entry))) ⌝ }
 {
     if given.len() < GIVEN_SIZE {
         return short_rows(rows);
@@ -147,7 +147,7 @@ pub extern "C" fn show_count(rows: &[u32], given: &mut [u32]) -> u64
 // given: number
 #[no_mangle]
 pub extern "C" fn show_number(rows: &[u32], path: &[u32], own: u32, given: &mut [u32]) -> u64
-    ensures { λ c. ⌜ Told c (now (given .entry)) (now (given .exit)) (withGiven (now (given .entry)) (verdict (now (rows .entry))) (numberAsked (now (rows .entry)) (now (path .entry)) own)) ⌝ }
+    ensures { λ c. ⌜ Answers c given (verdict (now (rows .entry))) (numberAsked (now (rows .entry)) (now (path .entry)) own) ⌝ }
 {
     if given.len() < GIVEN_SIZE {
         return short_rows(rows);
@@ -161,7 +161,7 @@ pub extern "C" fn show_number(rows: &[u32], path: &[u32], own: u32, given: &mut 
 // given: depth, block, own cue
 #[no_mangle]
 pub extern "C" fn show_locate(rows: &[u32], n: u32, path: &mut [u32], given: &mut [u32]) -> u64
-    ensures { λ c. ⌜ Wrote c (now (given .entry)) (now (given .exit)) (now (path .exit)) (alsoGiven (now (given .entry)) (verdict (now (rows .entry))) (now (path .entry)) (locateAsked (now (rows .entry)) n (now (path .entry)))) ⌝ }
+    ensures { λ c. ⌜ AnswersInto c given path (verdict (now (rows .entry))) (locateAsked (now (rows .entry)) n) ⌝ }
 {
     if given.len() < GIVEN_SIZE {
         return short_rows(rows);
@@ -175,7 +175,7 @@ pub extern "C" fn show_locate(rows: &[u32], n: u32, path: &mut [u32], given: &mu
 // given: length
 #[no_mangle]
 pub extern "C" fn show_write(rows: &[u32], out: &mut [u8], given: &mut [u32]) -> u64
-    ensures { λ c. ⌜ Wrote c (now (given .entry)) (now (given .exit)) (now (out .exit)) (alsoGiven (now (given .entry)) (verdict (now (rows .entry))) (now (out .entry)) (writeAsked (now (rows .entry)) (now (out .entry)))) ⌝ }
+    ensures { λ c. ⌜ AnswersInto c given out (verdict (now (rows .entry))) (writeAsked (now (rows .entry))) ⌝ }
 {
     if given.len() < GIVEN_SIZE {
         return short_rows(rows);
@@ -189,7 +189,7 @@ pub extern "C" fn show_write(rows: &[u32], out: &mut [u8], given: &mut [u32]) ->
 // given: rows, blocks, cues
 #[no_mangle]
 pub extern "C" fn show_read(file: &[u8], rows: &mut [u32], given: &mut [u32]) -> u64
-    ensures { λ c. ⌜ Wrote c (now (given .entry)) (now (given .exit)) (now (rows .exit)) (alsoGiven (now (given .entry)) (fileVerdict (now (file .entry))) (now (rows .entry)) (readAsked (now (file .entry)) (now (rows .entry)))) ⌝ }
+    ensures { λ c. ⌜ AnswersInto c given rows (fileVerdict (now (file .entry))) (readAsked (now (file .entry))) ⌝ }
 {
     if given.len() < GIVEN_SIZE {
         return short_file(file);
@@ -200,7 +200,7 @@ pub extern "C" fn show_read(file: &[u8], rows: &mut [u32], given: &mut [u32]) ->
 // given: rows, blocks, cues
 #[no_mangle]
 pub extern "C" fn show_read_desk(file: &[u8], rows: &mut [u32], given: &mut [u32]) -> u64
-    ensures { λ c. ⌜ Wrote c (now (given .entry)) (now (given .exit)) (now (rows .exit)) (alsoGiven (now (given .entry)) (deskFileVerdict (now (file .entry))) (now (rows .entry)) (deskReadAsked (now (file .entry)) (now (rows .entry)))) ⌝ }
+    ensures { λ c. ⌜ AnswersInto c given rows (deskFileVerdict (now (file .entry))) (deskReadAsked (now (file .entry))) ⌝ }
 {
     if given.len() < GIVEN_SIZE {
         return short_desk_file(file);
@@ -217,7 +217,7 @@ pub extern "C" fn show_list_out(
     page: &mut [u32],
     given: &mut [u32],
 ) -> u64
-    ensures { λ c. ⌜ Wrote c (now (given .entry)) (now (given .exit)) (now (page .exit)) (alsoGiven (now (given .entry)) (verdict (now (rows .entry))) (now (page .entry)) (outAsked (now (rows .entry)) v n (now (page .entry)))) ⌝ }
+    ensures { λ c. ⌜ AnswersInto c given page (verdict (now (rows .entry))) (outAsked (now (rows .entry)) v n) ⌝ }
 {
     if given.len() < GIVEN_SIZE {
         return short_rows(rows);
@@ -234,7 +234,7 @@ pub extern "C" fn show_list_in(
     page: &mut [u32],
     given: &mut [u32],
 ) -> u64
-    ensures { λ c. ⌜ Wrote c (now (given .entry)) (now (given .exit)) (now (page .exit)) (alsoGiven (now (given .entry)) (verdict (now (rows .entry))) (now (page .entry)) (inAsked (now (rows .entry)) v n (now (page .entry)))) ⌝ }
+    ensures { λ c. ⌜ AnswersInto c given page (verdict (now (rows .entry))) (inAsked (now (rows .entry)) v n) ⌝ }
 {
     if given.len() < GIVEN_SIZE {
         return short_rows(rows);
@@ -245,7 +245,7 @@ pub extern "C" fn show_list_in(
 // given: row, depth
 #[no_mangle]
 pub extern "C" fn show_row(rows: &[u32], s: u32, t: u32, path: &mut [u32], given: &mut [u32]) -> u64
-    ensures { λ c. ⌜ Wrote c (now (given .entry)) (now (given .exit)) (now (path .exit)) (alsoGiven (now (given .entry)) (verdict (now (rows .entry))) (now (path .entry)) (rowAsked (now (rows .entry)) s t (now (path .entry)))) ⌝ }
+    ensures { λ c. ⌜ AnswersInto c given path (verdict (now (rows .entry))) (rowAsked (now (rows .entry)) s t) ⌝ }
 {
     if given.len() < GIVEN_SIZE {
         return short_rows(rows);
@@ -265,7 +265,7 @@ pub extern "C" fn show_fewest(
     work: &mut [u32],
     given: &mut [u32],
 ) -> u64
-    ensures { λ c. ⌜ Wrote c (now (given .entry)) (now (given .exit)) (now (work .exit)) (alsoGiven (now (given .entry)) (verdict (now (rows .entry))) (now (work .entry)) (fewestAsked (now (rows .entry)) s t (now (work .entry)))) ⌝ }
+    ensures { λ c. ⌜ AnswersInto c given work (verdict (now (rows .entry))) (fewestAsked (now (rows .entry)) s t) ⌝ }
 {
     if given.len() < GIVEN_SIZE {
         return short_rows(rows);

@@ -6,6 +6,7 @@ pub mod Tracks
 pub mod Accepted
 pub mod LastRow
 pub mod RefusalPlaces
+pub mod Outcomes
 -- numbers, lists, the links that a chain may have
 pub mod Numbering
 pub mod Lists

@@ -42,7 +42,7 @@ linked (l ∷ E) u v = go (linked E u v) (ℕ-discrete (l .from) u) (ℕ-discret
 -- Those of some numbers that pass a test.
 module _ (test : ℕ → Bool) where
   -- Leaving numbers out keeps a list rising.
-  keep-rising : {xs : List ℕ} → Rising xs → Rising (keep test xs)
+  pub keep-rising : {xs : List ℕ} → Rising xs → Rising (keep test xs)
   unfolding keep
   keep-rising none = none
   keep-rising (more {x} {xs} low r) = go (keep-rising r) (test x) refl
@@ -56,7 +56,7 @@ in-range : (a many t : ℕ) → List·Memᴰ t (range a many) ↔ ((a ≤ t) × 
 in-range a many t = (λ i. range-bounds a many t i, λ p. range-mem a many t (p .0) (p .1))
 
 -- A range rises.
-range-rising : (a many : ℕ) → Rising (range a many)
+pub range-rising : (a many : ℕ) → Rising (range a many)
 unfolding range
 range-rising a zero = none
 range-rising a (suc many) = more (λ y i. in-range (suc a) many y .0 i .0) (range-rising (suc a) many)

@@ -10,26 +10,21 @@ use Rattle.model.specs.Rows.{rowCount, rowsOf, fileText}
 use Rattle.model.specs.Blocks.{blocksOf, count}
 use Rattle.model.specs.Verdicts.{verdict, Reading, Numbers, Unread, readFile, numbersOf, inLines, readVerdict, fileVerdict}
 use Rattle.model.specs.Lists.{overwrite}
-use Rattle.model.specs.Questions.{Outcome, answer, onAccepted, withRoom, readInto, readAsked, writeInto, writeAsked}
+use Rattle.model.specs.Questions.{answer, onAccepted, readInto, readAsked, writeInto, writeAsked}
 use Rattle.model.specs.declared.Refusal.{Refusal}
 use Rattle.model.specs.declared.Verdict.{Verdict}
 use Rattle.model.specs.declared.Verdict.the-variants.{Accepted, Refused}
-use Rattle.basics.proofs.Choices.{lt-else}
 use Rattle.shows.specs.Accepted.{Show}
 use Rattle.shows.proofs.Accepted.{accepted-show}
+use Rattle.shows.proofs.Outcomes.{has-room}
 use Rattle.shows.specs.Files.{SpellsFile}
 use Rattle.shows.proofs.Files.{file-reads, rows-file, file-shortest, fits}
-
--- Enough room is no refusal.
-with-room : (need : ℕ) (lent : List ℕ) (o : Outcome) → need ≤ length lent → withRoom need lent o ≡ o
-unfolding withRoom
-with-room need lent o h = lt-else _ _ _ _ h
 
 -- What is answered for rows that are read, where there is room.
 pub into-answer : (xs out : List ℕ) → length xs ≤ length out
     → readInto xs out ≡ answer (rowCount xs ∷ length (blocksOf xs) ∷ count (blocksOf xs) ∷ []) (overwrite xs out)
 unfolding readInto
-into-answer xs out h = with-room _ _ _ h
+into-answer xs out h = has-room _ _ _ h
 
 -- What reading answers for a file of accepted rows.
 pub read-answer : (f xs out : List ℕ) → readFile f ≡ Numbers xs → verdict xs ≡ Accepted → length xs ≤ length out
@@ -54,7 +49,7 @@ read-back xs out v r = read-answer (fileText (rowsOf xs)) xs out (rows-read xs v
 pub write-answer : (xs out : List ℕ) → verdict xs ≡ Accepted → length (fileText (rowsOf xs)) ≤ length out
     → writeAsked xs out ≡ answer (length (fileText (rowsOf xs)) ∷ []) (overwrite (fileText (rowsOf xs)) out)
 unfolding writeAsked writeInto onAccepted
-write-answer xs out v h = rw v (with-room _ _ _ h)
+write-answer xs out v h = rw v (has-room _ _ _ h)
 
 -- Writing what was read from an accepted file gives the file of its rows. An output that has room for the file that was read is long enough.
 pub write-back : (f xs out : List ℕ) → readFile f ≡ Numbers xs → verdict xs ≡ Accepted → length f ≤ length out

@@ -101,7 +101,7 @@ module _ (size : ℕ → ℕ) (below : ℕ → ℕ → List ℕ → List Traced)
           record { place = suc (v .place); few = omega (arith, v .few); rest = v .rest; member = rw b (v .member); step = rw d (v .step) }
 
 -- The block of a use, by its position.
-used-is : (us : List Use) (p : ℕ) → 1 ≤ p → usedBy us p ≡ nthUse us p .block
+pub used-is : (us : List Use) (p : ℕ) → 1 ≤ p → usedBy us p ≡ nthUse us p .block
 unfolding usedBy nthUse
 used-is [] p h = refl
 used-is (u ∷ us) zero h = absurd (omega arith)

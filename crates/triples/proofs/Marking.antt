@@ -20,6 +20,7 @@ use Rattle.model.specs.Unfolding.{showLinks}
 use Rattle.basics.proofs.Choices.{lt-then, lt-else, eq-then, eq-else, true-then, true-else}
 use Rattle.basics.proofs.Keeping.{kept, keep-short}
 use Rattle.basics.proofs.Members.{getD-mem, range-bounds, range-mem, range-length}
+use Rattle.basics.proofs.Printed.{triple-hit, triple-miss}
 use Rattle.neighbours.specs.declared.Ask.{Ask}
 use Rattle.lists.specs.declared.Listed.{Listed}
 use Rattle.neighbours.specs.Picks.{nearEnd, fits, picks, Picked, wants, wanted}
@@ -102,20 +103,6 @@ fits-is one label e = go (ℕ-discrete label one)
     go (no x) = let z : _≡_ {A = Bool} true false = sym e ∙ fits-not one label x in let o : _≡_ {A = ℕ} 0 1 = cc in absurd (omega arith)
 
 module _ (u v one : ℕ) where
-  triple-hit : (l : Link) (E : List Link) → l .from ≡ u → l .to ≡ v → l .label ≡ one → isTriple (l ∷ E) u v one ≡ true
-  unfolding isTriple
-  triple-hit l E a b c = eq-then _ _ _ _ a ∙ eq-then _ _ _ _ b ∙ eq-then _ _ _ _ c
-
-  triple-miss : (l : Link) (E : List Link) → (l .from ≡ u → l .to ≡ v → l .label ≡ one → ⊥) → isTriple (l ∷ E) u v one ≡ isTriple E u v one
-  unfolding isTriple
-  triple-miss l E n = go (ℕ-discrete (l .from) u) (ℕ-discrete (l .to) v) (ℕ-discrete (l .label) one)
-    where
-      go : Dec (l .from ≡ u) → Dec (l .to ≡ v) → Dec (l .label ≡ one) → isTriple (l ∷ E) u v one ≡ isTriple E u v one
-      go (yes a) (yes b) (yes c) = absurd (n a b c)
-      go (yes a) (yes b) (no c) = eq-then _ _ _ _ a ∙ eq-then _ _ _ _ b ∙ eq-else _ _ _ _ c
-      go (yes a) (no b) d = eq-then _ _ _ _ a ∙ eq-else _ _ _ _ b
-      go (no a) d e = eq-else _ _ _ _ a
-
   pub picks-triple : (E : List Link) → picks (out one one) E u v ≡ isTriple E u v one
   unfolding picks isTriple nearEnd ifTrue
   picks-triple [] = refl
@@ -127,19 +114,19 @@ module _ (u v one : ℕ) where
           true-then (fits (out one one) (l .label)) _ _ (fits-in one one (l .label) (omega arith) (omega arith))
           ∙ eq-then _ _ _ _ a
           ∙ eq-then _ _ _ _ b
-          ∙ sym (triple-hit l E a b c)
+          ∙ sym (triple-hit u v one l E a b c)
       go below (yes c) (yes a) (no b) =
           true-then (fits (out one one) (l .label)) _ _ (fits-in one one (l .label) (omega arith) (omega arith))
           ∙ eq-then _ _ _ _ a
           ∙ eq-else _ _ _ _ b
           ∙ below
-          ∙ sym (triple-miss l E (λ x y z. b y))
+          ∙ sym (triple-miss u v one l E (λ x y z. b y))
       go below (yes c) (no a) d =
           true-then (fits (out one one) (l .label)) _ _ (fits-in one one (l .label) (omega arith) (omega arith))
           ∙ eq-else _ _ _ _ a
           ∙ below
-          ∙ sym (triple-miss l E (λ x y z. a x))
-      go below (no c) d f = true-else (fits (out one one) (l .label)) _ _ (fits-not one (l .label) c) ∙ below ∙ sym (triple-miss l E (λ x y z. c z))
+          ∙ sym (triple-miss u v one l E (λ x y z. a x))
+      go below (no c) d f = true-else (fits (out one one) (l .label)) _ _ (fits-not one (l .label) c) ∙ below ∙ sym (triple-miss u v one l E (λ x y z. c z))
 
 -- The cues that links with some labels lead to.
 module _ (lo hi : ℕ) (bs : List Block) (u v : ℕ) where

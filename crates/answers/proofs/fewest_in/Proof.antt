@@ -2,17 +2,19 @@
 use borrow.Author.Needs.{needs}
 use borrow.Author.Tests.{not-true, not-false}
 use native.Mathlib.Omega.{arith}
+use mathlib.Core.Path.{sym}
 use Rattle.model.specs.Verdicts.{refusal}
 use Rattle.model.specs.Answers.{ofFewest}
 use Rattle.model.specs.Questions.{refuse, fewestIn}
 use Rattle.answers.specs.Asked.{between}
-use Rattle.answers.proofs.Outcomes.{no-room, no-cues, has-cues, cues-yes}
+use Rattle.shows.proofs.Outcomes.{no-room}
+use Rattle.answers.proofs.Outcomes.{no-cues, has-cues, cues-yes}
 use Rattle.answers.proofs.fewest_in.Statement.{statement}
 use Rattle.answers.proofs.fewest_in.Tie as tie
 
 returns : tie.Need-returns
 unfolding ofFewest fewestIn refuse refusal
-returns c = no-room _ _ _ (omega arith)
+returns c = sym (no-room _ _ _ (omega arith))
 
 returns-2 : tie.Need-returns-2
 unfolding ofFewest fewestIn refuse refusal

@@ -22,7 +22,7 @@ unfolding ofCount
 returns-3 c =
     let asked = c .before .before .before .before .count in
     tell _ _ _ _ _ _ (search needs) (asked .ensures)
-    (told-refused ofCount (asked .result) (Refused _) _ _ _ _ (search needs) (c .refused .ensures) refl (search needs))
+    (told-refused ofCount (asked .result) (Refused _) _ _ _ _ (search needs) (c .refused .ensures) (search needs) refl (search needs))
 
 pub show-count-spec : {M : Type 1} → statement M
 show-count-spec =

@@ -29,7 +29,7 @@ unfolding ofFewest
 returns-4 c =
     let asked = c .before .before .before .before .before .before .fewest in
     wrote _ _ _ _ _ _ _ _ (search needs) (asked .ensures)
-    (told-refused ofFewest (asked .result) (Refused _) _ _ _ _ (search needs) (c .refused .ensures) refl (search needs))
+    (told-refused ofFewest (asked .result) (Refused _) _ _ _ _ (search needs) (c .refused .ensures) (search needs) refl (search needs))
 
 pub show-fewest-spec : {M : Type 1} → statement M
 show-fewest-spec =

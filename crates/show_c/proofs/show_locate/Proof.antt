@@ -22,7 +22,7 @@ unfolding ofLocate
 returns-3 c =
     let asked = c .before .before .before .before .before .before .locate in
     wrote _ _ _ _ _ _ _ _ (search needs) (asked .ensures)
-    (told-refused ofLocate (asked .result) (Refused _) _ _ _ _ (search needs) (c .refused .ensures) refl (search needs))
+    (told-refused ofLocate (asked .result) (Refused _) _ _ _ _ (search needs) (c .refused .ensures) (search needs) refl (search needs))
 
 pub show-locate-spec : {M : Type 1} → statement M
 show-locate-spec =

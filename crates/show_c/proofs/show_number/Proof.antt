@@ -22,7 +22,7 @@ unfolding ofNumber
 returns-3 c =
     let asked = c .before .before .before .before .number in
     tell _ _ _ _ _ _ (search needs) (asked .ensures)
-    (told-refused ofNumber (asked .result) (Refused _) _ _ _ _ (search needs) (c .refused .ensures) refl (search needs))
+    (told-refused ofNumber (asked .result) (Refused _) _ _ _ _ (search needs) (c .refused .ensures) (search needs) refl (search needs))
 
 pub show-number-spec : {M : Type 1} → statement M
 show-number-spec =

@@ -22,7 +22,7 @@ unfolding ofRow
 returns-3 c =
     let asked = c .before .before .before .before .before .before .row in
     wrote _ _ _ _ _ _ _ _ (search needs) (asked .ensures)
-    (told-refused ofRow (asked .result) (Refused _) _ _ _ _ (search needs) (c .refused .ensures) refl (search needs))
+    (told-refused ofRow (asked .result) (Refused _) _ _ _ _ (search needs) (c .refused .ensures) (search needs) refl (search needs))
 
 pub show-row-spec : {M : Type 1} → statement M
 show-row-spec =

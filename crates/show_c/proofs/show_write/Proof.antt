@@ -22,7 +22,7 @@ unfolding ofWrite
 returns-3 c =
     let asked = c .before .before .before .before .before .before .write in
     wrote _ _ _ _ _ _ _ _ (search needs) (asked .ensures)
-    (told-refused ofWrite (asked .result) (Refused _) _ _ _ _ (search needs) (c .refused .ensures) refl (search needs))
+    (told-refused ofWrite (asked .result) (Refused _) _ _ _ _ (search needs) (c .refused .ensures) (search needs) refl (search needs))
 
 pub show-write-spec : {M : Type 1} → statement M
 show-write-spec =

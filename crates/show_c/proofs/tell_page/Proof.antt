@@ -12,7 +12,9 @@ returns c = told-page _ _ _ _ _ _ _ (c .before .before .before .flag-of .ensures
 
 returns-2 : tie.Need-returns-2
 unfolding ofList
-returns-2 c = told-refused ofList (c .before .before .before .before .before .args .answer) (Refused _) _ _ _ _ (search needs) (c .refused .ensures) refl (search needs)
+returns-2 c =
+    let answer = c .before .before .before .before .before .args .answer in
+    told-refused ofList answer (Refused _) _ _ _ _ (search needs) (c .refused .ensures) (search needs) refl (search needs)
 
 pub tell-page-spec : {M : Type 1} → statement M
 tell-page-spec =

@@ -9,11 +9,15 @@ use Rattle.show_c.proofs.tell_read.Tie as tie
 
 returns : tie.Need-returns
 unfolding ofRead
-returns c = told-value ofRead (c .before .before .before .before .before .before .before .before .args .answer) (Read _ _ _) _ _ _ _ (c .before .before .tell-3 .ensures) refl (search needs)
+returns c =
+    let answer = c .before .before .before .before .before .before .before .before .args .answer in
+    told-value ofRead answer (Read _ _ _) _ _ _ _ (c .before .before .tell-3 .ensures) refl (search needs)
 
 returns-2 : tie.Need-returns-2
 unfolding ofRead
-returns-2 c = told-refused ofRead (c .before .before .before .before .before .args .answer) (Refused _) _ _ _ _ (search needs) (c .refused .ensures) refl (search needs)
+returns-2 c =
+    let answer = c .before .before .before .before .before .args .answer in
+    told-refused ofRead answer (Refused _) _ _ _ _ (search needs) (c .refused .ensures) (search needs) refl (search needs)
 
 pub tell-read-spec : {M : Type 1} → statement M
 tell-read-spec =
