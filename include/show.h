@@ -1,8 +1,8 @@
 /* show.h: show files of theatre lighting consoles, read, checked, written and asked, with every answer proved.
  *
- * For C99 or later and C++. Link with libshow_c.a, which is for Linux on x86-64 (ELF, System V calls) and needs nothing but memcpy,
- * memmove and memset of the C library. FORMAT.md, in docs/ and in share/doc/show of an installed copy, explains show files, the
- * words below and each refusal; examples/first.c of the repository is a whole program.
+ * For C99 or later and C++. Link with libshow_c.a, which is for Linux on x86-64 (ELF, System V calls) and needs nothing but memcpy
+ * and memset of the C library. FORMAT.md, in docs/ and in share/doc/show of an installed copy, explains show files, the words
+ * below and each refusal; examples/first.c of the repository is a whole program.
  *
  * What every function does:
  *
@@ -144,7 +144,7 @@ SHOW_NODISCARD uint64_t show_read(const uint8_t *file, size_t file_len, uint32_t
  *              SHOW_DESK_BLOCKS, also where it would go on with block 15; 5 to 10 over all rows, then 11 for rows or given. A
  *              129th block, the desk's counted, is 5. Places of 3 and 5 to 10 are lines of the file: row r of all is line r - 167.
  *   Writing    show_write makes a whole file of these rows, the desk's among them, that show_read reads to the same rows.
- *   Cost       as show_read, and 1 us for the rows of the desk: 18 us for 856 rows in 20,249 bytes. Stack: 51 kB. */
+ *   Cost       as show_read, and 1 us for the rows of the desk: 18 us for 856 rows in 20,249 bytes. Stack: 48 kB. */
 SHOW_NODISCARD uint64_t show_read_desk(const uint8_t *file, size_t file_len, uint32_t *rows, size_t rows_len, uint32_t *given,
                                        size_t given_len);
 

@@ -9,14 +9,12 @@ use Rattle.model.specs.Limits.{rowSize, maxRows, maxBytes, maxDepth, maxBlocks}
 use Rattle.model.specs.Rows.{rowsFrom, rowCount, rowsOf, fileText}
 use Rattle.model.specs.Rules.{isCue}
 use Rattle.model.specs.Blocks.{Block, blocksOf, lastBlock, count}
-use Rattle.model.specs.Verdicts.{refusal, verdict, byLine, inLines}
+use Rattle.model.specs.Verdicts.{refusal, verdict}
 use Rattle.model.specs.Paths.{placeIn}
 use Rattle.model.specs.Lists.{overwrite}
 use Rattle.model.specs.Answers.{ofRead, ofWrite, ofLocate, ofNumber}
-use Rattle.model.specs.Questions.{Outcome, outcome, refuse, answer, onAccepted, readInto, writeInto, located, locateIn, numbered}
-use Rattle.model.specs.declared.Refusal.{Refusal}
-use Rattle.model.specs.declared.Verdict.{Verdict}
-use Rattle.model.specs.declared.Verdict.the-variants.{Accepted, Refused}
+use Rattle.model.specs.Questions.{outcome, refuse, answer, readInto, writeInto, located, locateIn, numbered}
+use Rattle.model.specs.declared.Verdict.the-variants.{Accepted}
 use Rattle.model.specs.declared.ReadAnswer.the-variants.{Read, Refused as ReadRefused}
 use Rattle.model.specs.declared.WriteAnswer.the-variants.{Written, Refused as WriteRefused}
 use Rattle.model.specs.declared.LocateAnswer.the-variants.{Found, Refused as LocateRefused}
@@ -27,14 +25,11 @@ use Rattle.shows.proofs.Accepted.{accepted-show}
 use Rattle.shows.proofs.Numbering.{numbering}
 use Rattle.shows.proofs.RoundTrips.{rows-fit}
 use Rattle.shows.proofs.Outcomes.{has-room, no-room, has-cue, no-cue}
-use Rattle.verdicts.specs.Passing.{IsChecked}
 use Rattle.blocks.specs.Loaded.{Loaded}
 use Rattle.blocks.specs.declared.Place.{Place}
 use Rattle.blocks.proofs.Loaded.{loaded-show}
 use Rattle.paths.specs.Locating.{placeOf}
-use Rattle.answers.specs.Asked.{readNumbers}
-use Rattle.answers.proofs.Outcomes.{said-yes, said-no, cue-no, cue-yes}
-use Rattle.shows.proofs.RefusalPlaces.{place-few}
+use Rattle.answers.proofs.Outcomes.{cue-no, cue-yes}
 
 -- Locating.
 pub locate-room : (bs : List Block) (n : ℕ) (path : List ℕ) → length path < maxDepth
@@ -118,15 +113,3 @@ module _ (xs t : List ℕ) (g : Loaded xs t) (out : List ℕ) where
   read-done many last blocks cues after h a em el eb ec =
       let n : blocks ≡ length (blocksOf xs) = omega (arith, el, eb, loaded-show g .blocks) in
       rw (em, n, ec, a) (sym (has-room (length xs) out _ h))
-
-module _ (xs t : List ℕ) (v : Verdict) (c : IsChecked xs t v) where
-  pub read-yes : (out : List ℕ) (o : Outcome) → v ≡ Accepted → o ≡ readInto xs out → o ≡ readNumbers xs out
-  unfolding readNumbers inLines onAccepted
-  read-yes out o e h = rw (said-yes xs t v c e) h
-
-  pub read-refused : (out : List ℕ) (f f′ : Refusal) → v ≡ Refused f → f′ ≡ byLine f → outcome (ofRead (ReadRefused f′)) out ≡ readNumbers xs out
-  unfolding ofRead readNumbers inLines onAccepted refuse
-  read-refused out f f′ e h = rw (said-no xs t v c f e, h)
-
-  pub refused-few : (f : Refusal) → v ≡ Refused f → f .place ≤ maxRows
-  refused-few f e = place-few xs f (said-no xs t v c f e)

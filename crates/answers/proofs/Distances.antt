@@ -12,7 +12,7 @@ use Rattle.model.specs.Answers.{ofFewest}
 use Rattle.model.specs.Questions.{outcome, answer, distanceValues}
 use Rattle.model.specs.declared.FewestAnswer.the-variants.{Steps, None}
 use Rattle.distances.specs.Tells.{distance}
-use Rattle.distances.proofs.Summing.{distance-far, distance-none}
+use Rattle.distances.proofs.Lightest.{told-far, told-lost}
 use Rattle.blocks.specs.Loaded.{Loaded}
 use Rattle.blocks.specs.Places.{Found}
 use Rattle.blocks.specs.declared.Place.{Place}
@@ -33,8 +33,8 @@ module _ (bs : List Block) (s t u v n : ℕ) (lent work : List ℕ) (eu : u ≡ 
 
   pub steps-found : n < noChain → outcome (ofFewest (Steps n)) work ≡ between bs s t lent
   unfolding ofFewest between answer distanceValues
-  steps-found h = rw (w, values, distance-far n h)
+  steps-found h = rw (w, values, told-far noChain n h)
 
   pub steps-none : noChain ≤ n → outcome (ofFewest None) work ≡ between bs s t lent
   unfolding ofFewest between answer distanceValues
-  steps-none h = rw (w, values, distance-none n h)
+  steps-none h = rw (w, values, told-lost noChain n h)

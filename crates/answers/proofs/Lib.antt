@@ -1,7 +1,6 @@
 -- The laws of the answers.
 pub mod Outcomes
 pub mod Answering
-pub mod DeskRows
 pub mod Linked
 pub mod Distances
 pub mod RowsBehind

@@ -7,35 +7,12 @@ use lib.ListN.{length}
 use Rattle.model.specs.Choice.{ifTrue}
 use Rattle.model.specs.Rules.{isCue}
 use Rattle.model.specs.Blocks.{Block, blocksOf, count}
-use Rattle.model.specs.Verdicts.{refusal, verdict}
-use Rattle.model.specs.Questions.{Outcome, refuse, onAccepted, withRoom, withCue}
-use Rattle.model.specs.declared.Refusal.{Refusal}
-use Rattle.model.specs.declared.Verdict.{Verdict}
-use Rattle.model.specs.declared.Verdict.the-variants.{Accepted, Refused}
+use Rattle.model.specs.Verdicts.{refusal}
+use Rattle.model.specs.Questions.{Outcome, refuse, withRoom, withCue}
 use Rattle.basics.proofs.Choices.{true-then, true-else}
 use Rattle.shows.proofs.Passed.{isCue-bounds}
-use Rattle.shows.proofs.Outcomes.{on-yes, on-no, has-room}
-use Rattle.verdicts.specs.Passing.{IsChecked}
-use Rattle.blocks.specs.Loaded.{Loaded}
+use Rattle.shows.proofs.Outcomes.{has-room}
 use Rattle.answers.specs.Asked.{areCues, ShowCue}
-
-module _ (xs t : List ℕ) (v : Verdict) (c : IsChecked xs t v) where
-  pub said-yes : v ≡ Accepted → verdict xs ≡ Accepted
-  said-yes e = sym (c .said) ∙ e
-
-  pub said-no : (f : Refusal) → v ≡ Refused f → verdict xs ≡ Refused f
-  said-no f e = sym (c .said) ∙ e
-
-  -- What is answered to a question about rows, from the answer for accepted rows, and from the refusal.
-  pub asked-yes : {A : Type 0} (refuse : Refusal → A) (o answer : A) → v ≡ Accepted → o ≡ answer → o ≡ onAccepted (verdict xs) refuse answer
-  asked-yes refuse o answer e h = h ∙ sym (on-yes (verdict xs) refuse answer (said-yes e))
-
-  pub asked-no : {A : Type 0} (refuse : Refusal → A) (o answer : A) (f : Refusal) → v ≡ Refused f → o ≡ refuse f → o ≡ onAccepted (verdict xs) refuse answer
-  asked-no refuse o answer f e h = h ∙ sym (on-no (verdict xs) refuse answer f (said-no f e))
-
-  -- What was checked and accepted is loaded.
-  pub loaded : v ≡ Accepted → Loaded xs t
-  loaded e = let a = said-yes e in record { accepted = a; index = c .table a }
 
 -- b is the test of cue n, and cues the count, as the code has them: a number that is no cue, and a cue.
 module _ (bs : List Block) (n cues : ℕ) (b : Bool) (q : b ≡ isCue cues n) (e : cues ≡ count bs) where

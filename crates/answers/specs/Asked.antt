@@ -1,37 +1,16 @@
 -- Parts of the questions, as the answers have them.
-use Prim.Native.Nat.{ℕ, _*_, _≤_}
-use mathlib.Core.Path.{_≡_}
+use Prim.Native.Nat.{ℕ, _≤_}
 use mathlib.Core.Bool.{Bool, false}
 use mathlib.Core.List.{List}
-use lib.ListN.{drop}
 use Rattle.model.specs.Choice.{ifTrue}
-use Rattle.model.specs.Limits.{rowSize, deskRows}
 use Rattle.model.specs.Rules.{isCue}
 use Rattle.model.specs.Blocks.{Block, blocksOf, count}
 use Rattle.model.specs.Unfolding.{showLinks}
-use Rattle.model.specs.Verdicts.{verdict, inLines}
-use Rattle.model.specs.Desk.{withDesk, checkOwn, deskVerdict, inOwnLines}
+use Rattle.model.specs.Verdicts.{verdict}
 use Rattle.model.specs.Chains.{fewest}
 use Rattle.model.specs.Summaries.{workAfter}
-use Rattle.model.specs.Questions.{Outcome, refuse, answer, onAccepted, withCue, readInto, listed, distanceValues}
-use Rattle.model.specs.declared.Verdict.the-variants.{Accepted}
+use Rattle.model.specs.Questions.{Outcome, refuse, answer, onAccepted, withCue, listed, distanceValues}
 use Rattle.lists.specs.Answer.{linkedCues}
-
--- What reading answers for the numbers that a file has.
-unfoldable pub readNumbers : List ℕ → List ℕ → Outcome
-readNumbers xs out = onAccepted (inLines (verdict xs)) (λ r. refuse r out) (readInto xs out)
-
--- Numbers that begin with the built-in table: those behind it, of which there are not too few and not too many.
-unfoldable pub ownNumbers : List ℕ → List ℕ
-ownNumbers ys = drop (deskRows * rowSize) ys
-
-pub record BehindTable (ys : List ℕ) : Type 0 where
-  pub all : ys ≡ withDesk (ownNumbers ys)
-  pub own : checkOwn (ownNumbers ys) ≡ Accepted
-
--- What reading the second way answers for the numbers that a file has.
-unfoldable pub deskNumbers : List ℕ → List ℕ → Outcome
-deskNumbers xs out = onAccepted (inOwnLines (deskVerdict xs)) (λ r. refuse r out) (readInto (withDesk xs) out)
 
 -- "List out, or in, of cue v after n", of a loaded show and of rows.
 unfoldable pub listOf : Bool → List Block → ℕ → ℕ → List ℕ → Outcome

@@ -1,7 +1,7 @@
 // The answers to the questions about rows that were checked: each promise is an equation with the model's definition of the question, for
 // a loaded show.
 //
-// `read_rows`, `read_desk_rows`, `write_rows`, `locate_in`, `number_in`, `list_of`, `row_in`, `fewest_in`.
+// `read_in`, `write_rows`, `locate_in`, `number_in`, `list_of`, `row_in`, `fewest_in`.
 use behind::RowAt;
 use blocks::INDEX;
 use model::FewestAnswer;
@@ -11,9 +11,7 @@ use model::NumberAnswer;
 use model::ReadAnswer;
 use model::Refusal;
 use model::RowAnswer;
-use model::Verdict;
 use model::WriteAnswer;
-use model::limits::DESK_ROWS;
 use model::limits::MAX_DEPTH;
 use model::limits::NO_CHAIN;
 use model::limits::ROW_SIZE;
@@ -21,11 +19,10 @@ use model::limits::WORK_SIZE;
 ghost use mathlib.Core.Path.{_≡_};
 ghost use Prim.Native.Nat.{_≤_, _<_};
 ghost use lib.ListN.{length};
-ghost use Rattle.model.specs.Limits.{maxRows, maxDepth, deskRows, workSize};
+ghost use Rattle.model.specs.Limits.{maxDepth, workSize};
 ghost use Rattle.model.specs.Answers.{ofRead, ofWrite, ofLocate, ofNumber, ofList, ofRow, ofFewest};
 ghost use Rattle.model.specs.Rows.{rowsOf, fileText};
-ghost use Rattle.model.specs.Verdicts.{verdict, byLine};
-ghost use Rattle.model.specs.Desk.{byOwnLine};
+ghost use Rattle.model.specs.Verdicts.{verdict};
 ghost use Rattle.model.specs.declared.Verdict.the-variants.{Accepted};
 ghost use Rattle.model.specs.Blocks.{blocksOf};
 ghost use Rattle.model.specs.Rules.{isCue};
@@ -33,10 +30,7 @@ ghost use Rattle.model.specs.Behind.{behind};
 ghost use Rattle.model.specs.Questions.{outcome, readInto, writeInto, locateIn, numbered, showNumber, rowFound, rowIn, fewestIn};
 ghost use Rattle.blocks.specs.Loaded.{Loaded};
 ghost use Rattle.behind.specs.Ways.{RowBehind};
-ghost use Rattle.answers.specs.Asked.{readNumbers, ownNumbers, deskNumbers, BehindTable, listOf, areCues, ShowCue, between};
-
-// The rows of the built-in table, in 32 bits.
-const DESK_ROWS_32: u32 = DESK_ROWS as u32;
+ghost use Rattle.answers.specs.Asked.{listOf, areCues, ShowCue, between};
 
 // A place of the show in 32 bits.
 fn narrow(x: usize) -> u32
@@ -107,36 +101,8 @@ pub fn number_in(rows: &[u32], table: &[u32; INDEX], path: &[u32], own: u32) -> 
     NumberAnswer::Number(n)
 }
 
-// The refusal of a row, by its line in the file.
-fn by_line(refusal: Refusal) -> Refusal
-    requires { ⌜ refusal .place ≤ maxRows ⌝ }
-    ensures { λ r. ⌜ r ≡ byLine refusal ⌝ }
-{
-    if refusal.number < 5 {
-        return refusal;
-    }
-    Refusal {
-        number: refusal.number,
-        place: refusal.place + 1,
-    }
-}
-
-// The refusal of a row of all, by its line in a file whose rows stand behind the built-in table.
-fn by_own_line(refusal: Refusal) -> Refusal
-    requires { ⌜ (refusal .place ≤ maxRows) × (5 ≤ refusal .number → deskRows < refusal .place) ⌝ }
-    ensures { λ r. ⌜ r ≡ byOwnLine refusal ⌝ }
-{
-    if refusal.number < 5 {
-        return refusal;
-    }
-    Refusal {
-        number: refusal.number,
-        place: refusal.place + 1 - DESK_ROWS_32,
-    }
-}
-
-// The rows of a loaded show that a file has, handed out.
-fn hand_out(numbers: &[u32], table: &[u32; INDEX], rows: &mut [u32]) -> ReadAnswer
+// The rows of a loaded show, handed out.
+pub fn read_in(numbers: &[u32], table: &[u32; INDEX], rows: &mut [u32]) -> ReadAnswer
     requires { ⌜ Loaded (now numbers) (now table) ⌝ }
     ensures { λ r. ⌜ outcome (ofRead r) (now (rows .exit)) ≡ readInto (now (numbers .entry)) (now (rows .entry)) ⌝ }
 {
@@ -150,36 +116,6 @@ fn hand_out(numbers: &[u32], table: &[u32; INDEX], rows: &mut [u32]) -> ReadAnsw
     let many = narrow(numbers.len() / ROW_SIZE);
     let blocks = narrow(blocks::last(numbers, table) + 1);
     ReadAnswer::Read(many, blocks, blocks::count(numbers, table))
-}
-
-// The rows that a file has, checked and handed out.
-pub fn read_rows(numbers: &[u32], rows: &mut [u32]) -> ReadAnswer
-    ensures { λ r. ⌜ outcome (ofRead r) (now (rows .exit)) ≡ readNumbers (now (numbers .entry)) (now (rows .entry)) ⌝ }
-{
-    let mut table = [0u32; INDEX];
-    match verdicts::check(numbers, &mut table) {
-        Verdict::Accepted => hand_out(numbers, &table, rows),
-        Verdict::Refused(refusal) => ReadAnswer::Refused(by_line(refusal)),
-    }
-}
-
-// The rows that a file has behind those of the built-in table, checked and handed out, the table's before them.
-pub fn read_desk_rows(numbers: &[u32], rows: &mut [u32]) -> ReadAnswer
-    requires { ⌜ BehindTable (now numbers) ⌝ }
-    ensures { λ r. ⌜ outcome (ofRead r) (now (rows .exit)) ≡ deskNumbers (ownNumbers (now (numbers .entry))) (now (rows .entry)) ⌝ }
-{
-    let opens = desk::opens_first(numbers);
-    if !opens {
-        return ReadAnswer::Refused(Refusal {
-            number: 5,
-            place: 2,
-        });
-    }
-    let mut table = [0u32; INDEX];
-    match verdicts::check(numbers, &mut table) {
-        Verdict::Accepted => hand_out(numbers, &table, rows),
-        Verdict::Refused(refusal) => ReadAnswer::Refused(by_own_line(refusal)),
-    }
 }
 
 // Accepted rows written as a file.

@@ -121,5 +121,6 @@ module _ (xs : List ℕ) (z : Frame) (own : ℕ) (eo : own ≡ ownOf (blocksOf x
 -- The joins of a lead are less than the most.
 pub joins-fit : {xs t : List ℕ} {b : Lead} → Loaded xs t × MayFollow xs b → (b .from < maxJoins) × (b .to < maxJoins)
 joins-fit {xs} {b = b} (g, may) =
-    let few : joinsOf (blocksOf xs) (useAt xs (blocksOf xs) (b .row) .block) ≤ maxJoins = joins-small (useAt xs (blocksOf xs) (b .row) .block) (loaded-show g .good) in
+    let few : joinsOf (blocksOf xs) (useAt xs (blocksOf xs) (b .row) .block) ≤ maxJoins =
+    joins-small (useAt xs (blocksOf xs) (b .row) .block) (loaded-show g .small) in
     (omega (arith, may .from), omega (arith, may .to))

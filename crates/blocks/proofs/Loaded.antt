@@ -12,7 +12,7 @@ use Rattle.model.specs.Blocks.{Link, Use, Block, blockAt, joinsOf, ownOf, total
 use Rattle.shows.specs.Accepted.{Show}
 use Rattle.shows.specs.WellFormed.{GoodUse, GoodLink}
 use Rattle.shows.proofs.Accepted.{accepted-show}
-use Rattle.shows.proofs.AtBlock.{joins-small}
+use Rattle.shows.proofs.AtBlock.{joins-small, own-small}
 use Rattle.shows.proofs.BlockAt.{good-at, lower-at, joinsOf-at, ownOf-at}
 use Rattle.verdicts.specs.Index.{linkAt, linksFrom, useAt, usesFrom, blockFrom, IndexedBlock}
 use Rattle.blocks.specs.Loaded.{Loaded, IsBlock, IsRow, LinkRows, UseRows, columnAt, LinkRow, UseRow}
@@ -131,10 +131,10 @@ module _ {xs t : List ℕ} (g : Loaded xs t) (k : ℕ) (h : IsBlock xs k) where
   joins-cell = rw first (sym (joinsOf-at bs k ∙ ap (λ (b : Block). b .joins) (at .block)))
 
   pub own-few : ownOf bs k ≤ maxOwn
-  own-few = omega (arith, good-at bs (loaded-show g .good) k .own, ownOf-at bs k)
+  own-few = own-small k (loaded-show g .small)
 
   pub joins-few : joinsOf bs k ≤ maxJoins
-  joins-few = joins-small k (loaded-show g .good)
+  joins-few = joins-small k (loaded-show g .small)
 
   pub total-few : total bs k ≤ maxTotal
   total-few = loaded-show g .totals k
@@ -210,7 +210,7 @@ module _ {xs t : List ℕ} (g : Loaded xs t) (k : ℕ) (h : IsBlock xs k) where
         member = m;
         good = good-at bs (loaded-show g .good) k .uses (useAt xs bs r) m;
         lower = lower-at bs (loaded-show g .good) k (useAt xs bs r) m;
-        columns = λ j l. use-column xs bs r j l (omega (arith, joins-small (useAt xs bs r .block) (loaded-show g .good)));
+        columns = λ j l. use-column xs bs r j l (omega (arith, joins-small (useAt xs bs r .block) (loaded-show g .small)));
       }
 
 -- The use of row r names a block of the show.

@@ -8,7 +8,7 @@ use Rattle.model.specs.Blocks.{Use, blockAt, joinsOf, ownOf, blocksOf}
 use Rattle.shows.specs.WellFormed.{Cue}
 use Rattle.shows.proofs.BlockAt.{joinsOf-at, ownOf-at}
 use Rattle.basics.specs.Members.{Apart}
-use Rattle.basics.proofs.Members.{distinct-apart, getD-mem}
+use Rattle.basics.proofs.Members.{getD-mem}
 use Rattle.verdicts.specs.Index.{useAt}
 use Rattle.blocks.specs.Loaded.{Loaded, IsBlock, usesBegin, UseRows, UseRow, columnAt}
 use Rattle.blocks.proofs.Loaded.{use-rows, usesFrom-length, usesFrom-at}
@@ -39,4 +39,4 @@ module _ {xs : List ℕ} {k r : ℕ} (o : UseRow xs k r) where
       omega (arith, c, o .columns j h, ownOf-at (blocksOf xs) k, joinsOf-at (blocksOf xs) k)
 
   pub useRow-apart : Apart (useAt xs (blocksOf xs) r .at)
-  useRow-apart = distinct-apart _ (o .good .apart)
+  useRow-apart = o .good .apart

@@ -1,25 +1,15 @@
--- The byte behind a value of a line, by the value's place.
-use Prim.Native.Nat.{ℕ, zero, suc, _+_, _-_, _≤_, _<_}
-use mathlib.Core.Path.{_≡_, refl, sym, _∙_}
-use mathlib.Core.List.{[], _∷_, _++_}
+-- The byte behind a value of a row's line, by the value's place.
+use Prim.Native.Nat.{ℕ, _<_}
+use mathlib.Core.Path.{_≡_}
 use native.Mathlib.Omega.{arith}
-use lib.ListN.{getD, replicate, List·getD-append, getD-replicate}
-use lib.Seq.{getD-append-add}
+use lib.ListN.{getD}
+use Rattle.model.specs.Limits.{rowSize}
 use Rattle.model.specs.Text.{comma, lineFeed, ends}
-
-ends-are : ends ≡ replicate 10 comma ++ (lineFeed ∷ [])
-unfolding ends
-ends-are = refl
+use Rattle.shows.proofs.Lines.{ends-are}
+use Rattle.lines.proofs.Ends as Ends
 
 pub comma-at : (c : ℕ) → c < 10 → comma ≡ getD ends c lineFeed
-comma-at c h =
-    sym (rw ends-are (List·getD-append (replicate 10 comma) (lineFeed ∷ []) lineFeed c h ∙ getD-replicate 10 c comma lineFeed h))
+comma-at c h = rw ends-are (Ends.comma-at c rowSize (omega arith) (λ e. omega arith))
 
-pub feed-at : (c : ℕ) → 10 ≤ c → lineFeed ≡ getD ends c lineFeed
-feed-at c h =
-    let e : c ≡ 10 + (c - 10) = omega arith in
-    sym (rw (ends-are, e) (getD-append-add (replicate 10 comma) (lineFeed ∷ []) (c - 10) lineFeed ∙ last (c - 10)))
-  where
-    last : (k : ℕ) → getD (lineFeed ∷ []) k lineFeed ≡ lineFeed
-    last zero = refl
-    last (suc k) = refl
+pub feed-at : (c : ℕ) → c ≡ 10 → lineFeed ≡ getD ends c lineFeed
+feed-at c h = rw ends-are (Ends.feed-at c rowSize (omega arith))

@@ -1,98 +1,24 @@
 -- What is read at a place of the file is what the model reads of the lines from there on.
-use Prim.Native.Nat.{ℕ, suc, _+_, _≤_, _<_}
-use mathlib.Core.Path.{_≡_, refl, sym, _∙_, ap}
-use mathlib.Core.List.{List, [], _∷_, _++_, append-assoc, flatten}
-use native.Mathlib.Omega.{arith}
-use lib.ListN.{length, drop, length-drop}
-use Rattle.model.specs.Text.{LineValues, Values as Says, Malformed as Mute, valuesOf, linesOf, ends}
+use Prim.Native.Nat.{ℕ, suc, _<_}
+use mathlib.Core.Path.{_≡_, _∙_, ap}
+use mathlib.Core.List.{List}
+use lib.ListN.{length, drop}
+use Rattle.model.specs.Text.{linesOf, ends}
 use Rattle.model.specs.Verdicts.{refusal, Unread, rowThen, readLines}
-use Rattle.basics.specs.Members.{Each}
-use Rattle.basics.specs.Values.{Other}
-use Rattle.shows.specs.Files.{SpellsLine, no-value, value-then}
-use Rattle.shows.proofs.Lines.{line-read, line-spelled, spelled-line, lines-first, lines-flatten, ends-line, ends-other}
+use Rattle.shows.proofs.Lines.{ends-line, ends-other}
 use Rattle.shows.proofs.Files.{says-first}
-use Rattle.values.specs.Fields.{valueAt}
-use Rattle.values.specs.declared.Field.{Field}
-use Rattle.values.specs.declared.Field.the-variants.{Value, Bad}
-use Rattle.values.proofs.Texts.{value-text, text-value}
-use Rattle.codec.specs.Scanning.{ValueFound, Values, Broken, behind, lineAt}
-use Rattle.codec.proofs.LineScan.{line-first, line-none}
+use Rattle.lines.specs.Scanning.{Values, Broken, lineAt}
+use Rattle.lines.proofs.FirstLines.{first-found, first-none}
 
--- A line at a place is a text of it that stands there.
-pub record LineText (es f : List ℕ) (at : ℕ) (vs : List ℕ) (next : ℕ) : Type 0 where
-  pub line : List ℕ
-  pub spells : SpellsLine es line vs
-  pub bytes : drop at f ≡ line ++ drop next f
-  pub on : at + length es ≤ next
-  pub inside : at ≤ length f → next ≤ length f
-
-found-is : (v : ℕ) (k : ValueFound) (vs : List ℕ) (next : ℕ) → behind (v ∷ []) k ≡ Values vs next
-    → (ws : List ℕ) × (k ≡ Values ws next) × (vs ≡ v ∷ ws)
-unfolding behind
-found-is v (Values ws n) vs next e = (ws, (cc), (cc))
-found-is v Broken vs next e = let z : _≡_ {A = ℕ} 0 1 = cc in absurd (omega arith)
-
-pub line-text : (es f : List ℕ) (at : ℕ) (vs : List ℕ) (next : ℕ) → lineAt es f at ≡ Values vs next → LineText es f at vs next
-unfolding lineAt
-line-text [] f at vs next p =
-    let e : vs ≡ [] = cc in
-    let n : at ≡ next = cc in
-    rw (e, ← n) (record { line = []; spells = no-value; bytes = refl; on = omega arith; inside = λ h. h })
-line-text (e ∷ es) f at vs next p = go (λ n ws. line-text es f n ws next) (valueAt f e at) refl
-  where
-    go : ((n : ℕ) (ws : List ℕ) → lineAt es f n ≡ Values ws next → LineText es f n ws next) → (m : Field) → valueAt f e at ≡ m
-        → LineText (e ∷ es) f at vs next
-    go rec (Value v n) q =
-        let (ws, r, w) = found-is v (lineAt es f n) vs next (sym (line-first e es f at v n q) ∙ p) in
-        let t = value-text f e at v n q in
-        let l = rec n ws r in
-        rw w
-        (record {
-          line = t .text ++ (e ∷ l .line);
-          spells = value-then (t .spells) (l .spells);
-          bytes = t .bytes ∙ rw (l .bytes) (sym (append-assoc (t .text) (e ∷ l .line) (drop next f)));
-          on = omega arith;
-          inside = λ h. l .inside (t .inside);
-        })
-    go rec Bad q =
-        let b : Broken ≡ Values vs next = sym (line-none e es f at q) ∙ p in
-        let z : _≡_ {A = ℕ} 0 1 = cc in
-        absurd (omega arith)
-
--- And where a text of a line stands, the line is found.
-pub line-found : {es l vs : List ℕ} (f : List ℕ) (at : ℕ) (rest : List ℕ) → SpellsLine es l vs → Each Other es → drop at f ≡ l ++ rest
-    → (next : ℕ) × (lineAt es f at ≡ Values vs next)
-unfolding lineAt behind
-line-found f at rest no-value o p = (at, refl)
-line-found f at rest (value-then {e = e} {es = es} {t = t} {l = l} {v = v} s r) o p =
-    let (n, q, d) = text-value f e at v t (l ++ rest) s (o .0) (p ∙ append-assoc t (e ∷ l) rest) in
-    let (next, k) = line-found f n rest r (o .1) d in
-    (next, line-first e es f at v n q ∙ rw k)
-
--- So the lines from a place on are read line by line.
 pub read-on : (f : List ℕ) (at n : ℕ) (vs : List ℕ) (next : ℕ) → lineAt ends f at ≡ Values vs next
     → readLines n (linesOf (drop at f)) ≡ rowThen vs (readLines (suc n) (linesOf (drop next f)))
 read-on f at n vs next p =
-    let l = line-text ends f at vs next p in
-    ap (λ (t : List ℕ). readLines n (linesOf t)) (l .bytes)
-    ∙ ap (readLines n) (lines-first (spelled-line ends-line (l .spells)) (drop next f))
-    ∙ says-first n (l .line) vs (linesOf (drop next f)) (line-read ends-other (l .spells))
+    let (l, q, v) = first-found ends ends-line ends-other f at vs next p in
+    ap (readLines n) q ∙ says-first n l vs (linesOf (drop next f)) v
 
 pub read-off : (f : List ℕ) (at n : ℕ) → at < length f → lineAt ends f at ≡ Broken
     → readLines n (linesOf (drop at f)) ≡ Unread (refusal 3 n)
-unfolding readLines flatten
-read-off f at n h p = go (linesOf (drop at f)) refl
-  where
-    mute : (l : List ℕ) (ls : List (List ℕ)) (k : LineValues) → linesOf (drop at f) ≡ l ∷ ls → valuesOf ends l ≡ k → k ≡ Mute
-    mute l ls Mute q r = refl
-    mute l ls (Says vs) q r =
-        let d : drop at f ≡ l ++ flatten ls = sym (lines-flatten (drop at f)) ∙ ap flatten q in
-        let (next, g) = line-found f at (flatten ls) (line-spelled ends l vs r) ends-other d in
-        let z : _≡_ {A = ℕ} 0 1 = cc in
-        absurd (omega arith)
-
-    go : (ls : List (List ℕ)) → linesOf (drop at f) ≡ ls → readLines n ls ≡ Unread (refusal 3 n)
-    go [] q =
-        let d : length (drop at f) ≡ 0 = ap length (sym (lines-flatten (drop at f)) ∙ ap flatten q) in
-        absurd (omega (arith, length-drop at f))
-    go (l ∷ ls) q = rw (readLines, mute l ls (valuesOf ends l) q refl)
+unfolding readLines
+read-off f at n h p =
+    let (l, ls, q, v) = first-none ends ends-line ends-other f at h p in
+    ap (readLines n) q ∙ rw (readLines, v)

@@ -1,7 +1,7 @@
 -- Laws that tie the code's definitions to those of crates/model.
 pub mod Ends
 pub mod Names
-pub mod LineScan
+pub mod RowScan
 pub mod FileScan
 pub mod Sofar
 pub mod Stores

@@ -1,43 +1,24 @@
--- Reading lines as the code does it: at a place of the file. proofs/ ties it to the lines of crates/model.
+-- Reading rows as the code does it: at a place of the file. proofs/ ties it to the lines of crates/model.
 use Prim.Native.Nat.{ℕ, _+_, _*_, _≤_, _<_}
 use mathlib.Core.Path.{_≡_}
-use mathlib.Core.Bool.{Bool, false}
-use mathlib.Core.List.{List, [], _∷_, _++_}
+use mathlib.Core.Bool.{Bool}
+use mathlib.Core.List.{List, _++_}
 use lib.ListN.{length, take, drop}
 use Rattle.model.specs.Choice.{ifLt}
-use Rattle.model.specs.Limits.{rowSize, maxRows}
+use Rattle.model.specs.Limits.{rowSize}
 use Rattle.model.specs.Text.{names, ends}
-use Rattle.model.specs.Verdicts.{same, refusal}
-use Rattle.values.specs.Fields.{valueAt}
-use Rattle.values.specs.declared.Field.the-variants.{Value, Bad}
-use Rattle.codec.specs.declared.Line.{Line}
-use Rattle.codec.specs.declared.Line.the-variants.{Next, Malformed}
+use Rattle.model.specs.Rows.{rowCount}
+use Rattle.model.specs.Verdicts.{refusal}
+use Rattle.lines.specs.Scanning.{ValueFound, Values, Broken, lineAt, startsWith}
+use Rattle.lines.specs.declared.Line.{Line}
+use Rattle.lines.specs.declared.Line.the-variants.{Next, Malformed}
 use Rattle.codec.specs.declared.Parsed.the-variants.{Rows, Refused}
 use Rattle.codec.specs.declared.Step.{Step}
 use Rattle.codec.specs.declared.Step.the-variants.{On, Done}
 
--- What stands at a place: values and the place behind them, or no such values.
-pub data ValueFound : Type 0 where
-  Values : List ℕ → ℕ → ValueFound
-  Broken : ValueFound
-
-unfoldable pub behind : List ℕ → ValueFound → ValueFound
-behind vs (Values ws next) = Values (vs ++ ws) next
-behind vs Broken = Broken
-
--- A value for each of some ends.
-unfoldable pub lineAt : List ℕ → List ℕ → ℕ → ValueFound
-lineAt [] f at = Values [] at
-lineAt (e ∷ es) f at = elim (valueAt f e at) [ Value v next ↦ behind (v ∷ []) (lineAt es f next) | Bad ↦ Broken ]
-
--- What a line's reader answers, and leaves in the row.
-unfoldable pub LineSays : ValueFound → Line → List ℕ → Type 0
-LineSays (Values vs next) l row = (l ≡ Next next) × (row ≡ vs)
-LineSays Broken l row = l ≡ Malformed
-
 -- Rows with row r's values stored, if there is room for that row.
 unfoldable pub stored : ℕ → List ℕ → List ℕ → List ℕ
-stored r vs xs = ifLt r maxRows (take (r * rowSize) xs ++ (vs ++ drop rowSize (drop (r * rowSize) xs))) xs
+stored r vs xs = ifLt r (rowCount xs) (take (r * rowSize) xs ++ (vs ++ drop rowSize (drop (r * rowSize) xs))) xs
 
 unfoldable pub RowSays : ValueFound → ℕ → Line → List ℕ → List ℕ → Type 0
 RowSays (Values vs next) r l xs ys = (l ≡ Next next) × (ys ≡ stored r vs xs)
@@ -56,4 +37,4 @@ namesSize = 33
 
 -- The file starts with the line of names.
 unfoldable pub startsNamed : List ℕ → Bool
-startsNamed f = ifLt (length f) (length names) false (same (take (length names) f) names)
+startsNamed f = startsWith names f

@@ -1,33 +1,29 @@
 // The show file as bytes. Others call parse, which reads it to rows; measure and emit, which write it from rows; and put_bytes.
+use lines::COMMA;
+use lines::LINE_FEED;
+use lines::Line;
 use model::Refusal;
 use model::limits::MAX_BYTES;
-use model::limits::MAX_ROWS;
-use model::limits::ROOM;
 use model::limits::ROW_SIZE;
-use values::Field;
 ghost use mathlib.Core.Path.{_≡_};
 ghost use mathlib.Core.Bool.{true};
 ghost use Prim.Native.Nat.{_+_, _*_, _-_, _≤_, _<_};
-ghost use lib.ListN.{length, take, drop, getD};
+ghost use lib.ListN.{length, take, drop};
 ghost use lib.Seq.{sets};
 ghost use Rattle.model.specs.Choice.{ifLt};
 ghost use Rattle.model.specs.Limits.{rowSize, maxBytes, maxRows};
 ghost use Rattle.model.specs.Values.{digits, digitAt};
-ghost use Rattle.model.specs.Text.{comma, lineFeed, names, ends};
+ghost use Rattle.model.specs.Text.{comma, names, ends};
 ghost use Rattle.model.specs.Rows.{rowsFrom, rowLines, fileText};
 ghost use Rattle.model.specs.Lists.{overwrite};
-ghost use Rattle.model.specs.Verdicts.{same, readFile};
-ghost use Rattle.codec.specs.Scanning.{lineAt, LineSays, RowSays, StepSays, namesSize, startsNamed};
-ghost use Rattle.codec.specs.Parsing.{room, Parses};
+ghost use Rattle.model.specs.Verdicts.{readFile};
+ghost use Rattle.lines.specs.Scanning.{lineAt};
+ghost use Rattle.codec.specs.Scanning.{RowSays, StepSays, namesSize, startsNamed};
+ghost use Rattle.codec.specs.Parsing.{Parses};
 ghost use Rattle.codec.specs.Writing.{tableSize, one, two, valueText, rowText, Puts, Spills, shortTexts};
 
 // The place of a row's last value.
 const LAST: usize = ROW_SIZE - 1;
-
-// The byte behind a line's last value, and behind the others.
-const LINE_FEED: u8 = 10;
-
-const COMMA: u8 = 44;
 
 // The line of names, and its bytes, in two widths.
 const NAMES: [u8; NAMES_SIZE] = *b"block,kind,label,a,b,c,d,e,f,g,h\n";
@@ -42,13 +38,7 @@ pub enum Parsed {
     Refused(Refusal),
 }
 
-// Reading: lines and rows at a place of the file, and the reader that goes through it. Their values are read by crates/values.
-
-// A line of values: the place behind it.
-enum Line {
-    Next(usize),
-    Malformed,
-}
+// Reading: rows at a place of the file, and the reader that goes through it. Their lines are read by crates/lines.
 
 // A step through the file: over a line, to the place behind it; or the last, with what the file says.
 enum Step {
@@ -62,71 +52,24 @@ struct Reader<'a> {
     at: usize,
 }
 
-// The byte behind value c of a line.
-fn end_of(c: usize) -> u8
-    ensures { λ r. ⌜ r ≡ getD ends c lineFeed ⌝ }
-{
-    if c < LAST {
-        return COMMA;
-    }
-    LINE_FEED
-}
-
-// The line at a place: its values to a row.
-fn line_at(file: &[u8], from: usize, row: &mut [u32]) -> Line
-    requires { ⌜ length (now row) ≡ rowSize ⌝ }
-    ensures { λ r. ⌜ LineSays (lineAt ends (now (file .entry)) from) r (now (row .exit)) ⌝ }
-{
-    let mut at = from;
-    let mut c = 0;
-    while c < ROW_SIZE {
-        let Field::Value(v, next) = values::value_at(file, at, end_of(c)) else {
-            return Line::Malformed;
-        };
-        row[c] = v;
-        at = next;
-        c += 1;
-    }
-    Line::Next(at)
-}
-
 // The line at a place: its values to row r, if there is room for that row.
 fn row_at(file: &[u8], at: usize, rows: &mut [u32], r: usize) -> Line
-    requires { ⌜ length (now rows) ≡ room ⌝ }
     ensures { λ l. ⌜ RowSays (lineAt ends (now (file .entry)) at) r l (now (rows .entry)) (now (rows .exit)) ⌝ }
 {
-    if r < MAX_ROWS {
+    if r < rows.len() / ROW_SIZE {
         let a = r * ROW_SIZE;
         let e = a + ROW_SIZE;
-        return line_at(file, at, &mut rows[a..e]);
+        return lines::line_at(file, at, &mut rows[a..e]);
     }
     let mut spare = [0u32; ROW_SIZE];
-    line_at(file, at, &mut spare)
-}
-
-// Two lists agree in their first n bytes.
-fn same_to(a: &[u8], b: &[u8], n: usize) -> bool
-    requires { ⌜ (n ≤ length (now a)) × (n ≤ length (now b)) ⌝ }
-    ensures { λ r. ⌜ r ≡ same (take n (now (a .entry))) (take n (now (b .entry))) ⌝ }
-{
-    let mut i = 0;
-    while i < n {
-        if a[i] != b[i] {
-            return false;
-        }
-        i += 1;
-    }
-    true
+    lines::line_at(file, at, &mut spare)
 }
 
 // The file starts with the line of names.
 fn named(file: &[u8]) -> bool
     ensures { λ r. ⌜ r ≡ startsNamed (now (file .entry)) ⌝ }
 {
-    if file.len() < NAMES_SIZE {
-        return false;
-    }
-    same_to(file, &NAMES, NAMES_SIZE)
+    lines::starts(file, &NAMES)
 }
 
 fn refuse(number: u32, place: u32) -> Parsed
@@ -137,7 +80,7 @@ fn refuse(number: u32, place: u32) -> Parsed
 
 // The step from a place: the line there goes to row n. The file's end and a line that is none are the last step.
 fn step_at(file: &[u8], at: usize, rows: &mut [u32], n: usize) -> Step
-    requires { ⌜ (length (now rows) ≡ room) × (n ≤ maxBytes) ⌝ }
+    requires { ⌜ n ≤ maxBytes ⌝ }
     ensures { λ s. ⌜ StepSays (now (file .entry)) at n s (now (rows .entry)) (now (rows .exit)) ⌝ }
 {
     if file.len() <= at {
@@ -158,7 +101,7 @@ fn reader_at<'a>(file: &'a [u8], at: usize) -> Reader<'a>
 
 // The step from a reader's place.
 fn next_row<'a, 'b>(r: Reader<'a>, rows: &'b mut [u32], n: usize) -> Step
-    requires { ⌜ (length (now rows) ≡ room) × (n ≤ maxBytes) ⌝ }
+    requires { ⌜ n ≤ maxBytes ⌝ }
     ensures { λ s. ⌜ StepSays (now (r .entry .file)) (r .entry .at) n s (now (rows .entry)) (now (rows .exit)) ⌝ }
 {
     step_at(r.file, r.at, rows, n)
@@ -166,8 +109,8 @@ fn next_row<'a, 'b>(r: Reader<'a>, rows: &'b mut [u32], n: usize) -> Step
 
 // Reads the lines behind the line of names: one reader goes through them, line by line.
 fn read_lines(file: &[u8], rows: &mut [u32]) -> Parsed
-    requires { ⌜ (length (now file) ≤ maxBytes) × (startsNamed (now file) ≡ true) × (length (now rows) ≡ room) ⌝ }
-    ensures { λ r. ⌜ Parses (readFile (now (file .entry))) r (now (rows .exit)) ⌝ }
+    requires { ⌜ (length (now file) ≤ maxBytes) × (startsNamed (now file) ≡ true) ⌝ }
+    ensures { λ r. ⌜ Parses (readFile (now (file .entry))) r (now (rows .entry)) (now (rows .exit)) ⌝ }
 {
     let mut r = reader_at(file, NAMES_SIZE);
     let mut n = 0;
@@ -180,9 +123,9 @@ fn read_lines(file: &[u8], rows: &mut [u32]) -> Parsed
     }
 }
 
-// Reads a file to rows. Rows past the 1,024th are checked and counted, but not stored.
-pub fn parse(file: &[u8], rows: &mut [u32; ROOM]) -> Parsed
-    ensures { λ r. ⌜ Parses (readFile (now (file .entry))) r (now (rows .exit)) ⌝ }
+// Reads a file to rows. Rows for which there is no room are checked and counted, but not stored. What a refused file leaves in the list is left open.
+pub fn parse(file: &[u8], rows: &mut [u32]) -> Parsed
+    ensures { λ r. ⌜ Parses (readFile (now (file .entry))) r (now (rows .entry)) (now (rows .exit)) ⌝ }
 {
     if MAX_BYTES < file.len() {
         return refuse(1, 0);

@@ -102,7 +102,7 @@ module _ {xs t : List ℕ} (g : Loaded xs t) (z : Frame) (r : ℕ) (may : MaySte
     joins-are = en ∙ ap (joinsOf bs) ej
 
     pub columnsFit : ColumnsFit xs r joins own
-    columnsFit = record { at = λ n h. omega (arith, useRow-cue step-row n (omega (arith, joins-are)), joins-small (z .block) (loaded-show g .good)) }
+    columnsFit = record { at = λ n h. omega (arith, useRow-cue step-row n (omega (arith, joins-are)), joins-small (z .block) (loaded-show g .small)) }
 
     pub stepped : (b : ℕ) (out : List ℕ) → b ≡ innerBase xs t (z .block) (z .base) r → MeetIs xs r joins own z out
         → Stepped xs t z r (record { block = j; base = b; met = out })
@@ -125,7 +125,7 @@ module _ {xs t : List ℕ} (g : Loaded xs t) (z : Frame) (r : ℕ) (may : MaySte
         arity = step-row .good .arity ∙ sym joins-are
 
         long : length (take joins out) ≡ joins
-        long = omega (arith, length-take joins out, m .long, joins-small (useAt xs bs r .block) (loaded-show g .good), joins-are)
+        long = omega (arith, length-take joins out, m .long, joins-small (useAt xs bs r .block) (loaded-show g .small), joins-are)
 
         met-at : (n : ℕ) → n < joins → getD (map (number y) (useAt xs bs r .at)) n 0 ≡ getD (take joins out) n 0
         met-at n h =

@@ -9,7 +9,7 @@ use lib.ListN.{length, take}
 use Rattle.model.specs.Limits.{rowSize, maxRows, deskRows, deskBlocks}
 use Rattle.model.specs.Rows.{rowAt, rowCount, rowsOf, fileText}
 use Rattle.model.specs.Blocks.{blocksOf, count}
-use Rattle.model.specs.Summaries.{summary}
+use Rattle.model.specs.Summaries.{Search, summaryBy}
 use Rattle.model.specs.Lists.{overwrite}
 use Rattle.model.specs.Verdicts.{refusal, refused, andThen, verdict, Numbers, Unread, readFile, numbersOf}
 use Rattle.model.specs.Desk.{
@@ -214,7 +214,7 @@ pub record DeskLeft (xs : List ℕ) (cues : ℕ) : Type 0 where
   pub accepted : verdict xs ≡ Accepted
   pub cues-are : cues ≡ count (blocksOf xs)
   pub blocks : 16 < length (blocksOf xs)
-  pub same : (k i j : ℕ) → k < 16 → summary (blocksOf xs) k i j ≡ summary (blocksOf builtInNumbers) k i j
+  pub same : (find : Search) (k i j : ℕ) → k < 16 → summaryBy find (blocksOf xs) k i j ≡ summaryBy find (blocksOf builtInNumbers) k i j
 
 pub desk-left : (f out after : List ℕ) (rows blocks cues : ℕ) → AsksDeskRead f out (Read rows blocks cues) after → DeskLeft (take (rows * rowSize) after) cues
 unfolding withDesk deskVerdict

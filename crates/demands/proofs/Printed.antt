@@ -74,7 +74,7 @@ refusal-fits f out after q is = go (is .no-other q refl)
     go (of-room e) = so 11 0 e (omega arith) (omega arith)
 
 -- What is printed where rows are accepted, and where they or the text are refused.
-pub text-read : (f xs : List ℕ) → readFile f ≡ Numbers xs → verdict xs ≡ Accepted → printed f ≡ showText (blocksOf xs)
+text-read : (f xs : List ℕ) → readFile f ≡ Numbers xs → verdict xs ≡ Accepted → printed f ≡ showText (blocksOf xs)
 unfolding printed fileVerdict readVerdict numbersOf inLines onAccepted
 text-read f xs e v = rw (e, v)
 
@@ -96,7 +96,7 @@ unfolding count
 count-most xs v = accepted-show xs v .totals (lastBlock (blocksOf xs))
 
 -- What is printed of a refusal that reading gives where there is room for all rows.
-pub refused-so : (f out after : List ℕ) (q : Refusal) → 1024 * 11 ≤ length out → AsksRead f out (ReadRefused q) after → printed f ≡ refusalText q
+refused-so : (f out after : List ℕ) (q : Refusal) → 1024 * 11 ≤ length out → AsksRead f out (ReadRefused q) after → printed f ≡ refusalText q
 refused-so f out after q room e = go (read-case first-way f out after (ReadRefused q) e)
   where
     go : ReadCase first-way f out (ReadRefused q) after → printed f ≡ refusalText q

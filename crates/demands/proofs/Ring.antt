@@ -18,7 +18,7 @@ use Rattle.model.specs.Unfolding.{cueAt, renamed, usesLinks, links, showLinks}
 use Rattle.model.specs.Paths.{ownNumber, usesNumber, copyNumber, numberIn, nowhere, stepThen, usesPlace, placeIn}
 use Rattle.model.specs.Lists.{range, keep, cuesAfter, isLinked, isOut, isInto}
 use Rattle.model.specs.Chains.{followed, Far, Unreachable, isIn, successors, searchFrom, fewest}
-use Rattle.model.specs.Summaries.{blockLinks, orNone, summary}
+use Rattle.model.specs.Summaries.{blockLinks, orNone, summary, summaryBy}
 use Rattle.model.specs.Behind.{Origin, Stands, Missing, stepInto, tracedInto, rowsTraced, usesTraced, traced, openingRow, showTraced, origins, depthWins, stepsWin, better, winner, best, behind}
 use Rattle.model.specs.Ring.{ringWith, ring, notedRing, opening}
 use Rattle.shows.specs.Copies.{nthUse, after as copy-after, ends, goes}
@@ -183,5 +183,5 @@ noted-summaries : (summary (through 255) 0 1 2 ≡ noChain)
     × (summary (through 254) 0 1 2 ≡ 1)
     × (summary (through 254) 1 1 2 ≡ 1)
     × (summary (through 254) 1 2 1 ≡ noChain)
-unfolding ifLt blockAt joinsOf sumOver total lastBlock cueAt renamed usesLinks links showLinks range followed isIn successors searchFrom fewest blockLinks orNone summary
+unfolding ifLt blockAt joinsOf sumOver total lastBlock cueAt renamed usesLinks links showLinks range followed isIn successors searchFrom fewest blockLinks orNone summaryBy
 noted-summaries = (refl, refl, refl, refl, refl, refl, refl)

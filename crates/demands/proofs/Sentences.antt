@@ -93,7 +93,7 @@ module _ (xs : List ℕ) (p : ℕ) (s : Seen) (bs : List Block) (k : Knows xs p 
 
   -- A block has at most eight joins.
   few-joins : (n : ℕ) → n < opened → joinsIn xs n ≤ maxJoins
-  few-joins n h = rw (← k .joins n h, k .tracks .joins n) (joins-small n (k .tracks .good))
+  few-joins n h = rw (← k .joins n h, k .tracks .joins n) (joins-small n (k .tracks .small))
 
   -- The columns used, and the cues named, by the kind of the row.
   used-opening : Opens w → columnsUsed s w ≡ 1

@@ -19,6 +19,7 @@ use Rattle.demands.specs.Acceptance.{nthRow, IsRow, Opens, Lawful, Check
 use Rattle.demands.specs.Blocks.{AreBlocks}
 use Rattle.demands.specs.Files.{UnpaddedFile, ReadsAs}
 use Rattle.demands.specs.RoundTrips.{ReadsAgain}
+use Rattle.demands.specs.WorkArea.{place}
 
 -- The table.
 
@@ -107,4 +108,4 @@ pub record WritesWhole (f : List ℕ) (first : ReadAnswer) (xs : List ℕ) (w : 
 
 -- "block k's summary is k + 2 from first join to second and none back": in the work area that an answer of fewest leaves.
 abbrev pub HasDeskSummaries : List ℕ → Type 0
-HasDeskSummaries after = (k : ℕ) → k < 16 → (getD after (64 * k + 1) 0 ≡ k + 2) × (getD after (64 * k + 8) 0 ≡ 4294967295)
+HasDeskSummaries after = (k : ℕ) → k < 16 → (getD after (place k 1 2) 0 ≡ k + 2) × (getD after (place k 2 1) 0 ≡ 4294967295)

@@ -30,6 +30,7 @@ use Rattle.basics.specs.Values.{SpellsValue}
 use Rattle.shows.specs.Lists.{Rising}
 use Rattle.shows.specs.Files.{SpellsFile}
 use Rattle.demands.specs.Acceptance.{nthRow, IsRow}
+use Rattle.demands.specs.WorkArea.{blockNumbers}
 
 -- The figures of document 01, and those of document 02, Papers 1, 3 and 4: every one that has a name.
 pub record Figures : Type 0 where
@@ -46,7 +47,7 @@ pub record Figures : Type 0 where
   pub total : maxTotal ≡ 2147483647
   pub depth : maxDepth ≡ 127
   pub work : workSize ≡ 16384
-  pub block-summary : summarySize ≡ 64
+  pub block-summary : summarySize ≡ blockNumbers
   pub join-summary : summaryWidth ≡ 8
   pub none : noChain ≡ 4294967295
   pub printed : printedCues ≡ 1000

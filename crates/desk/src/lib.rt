@@ -6,15 +6,13 @@ use model::limits::DESK_BLOCKS;
 use model::limits::DESK_ROWS;
 use model::limits::DESK_SIZE;
 use model::limits::MAX_ROWS;
-use model::limits::ROOM;
-use model::limits::ROW_SIZE;
 ghost use mathlib.Core.Path.{_≡_};
 ghost use Prim.Native.Nat.{_+_, _*_, _≤_};
-ghost use lib.ListN.{length, take};
-ghost use Rattle.model.specs.Limits.{rowSize, maxRows, deskRows};
+ghost use lib.ListN.{length};
+ghost use Rattle.model.specs.Limits.{rowSize, deskRows};
 ghost use Rattle.model.specs.Rows.{rowAt};
 ghost use Rattle.model.specs.Desk.{withDesk};
-ghost use Rattle.desk.specs.Own.{ownRowsFit, opensFirst};
+ghost use Rattle.desk.specs.Own.{ownRowsFit, opensFirst, ownNumbers};
 
 // How many rows a file may have of its own.
 const MAX_OWN_ROWS: usize = MAX_ROWS - DESK_ROWS;
@@ -32,13 +30,11 @@ pub fn fits(many: usize) -> bool
     true
 }
 
-// Puts the built-in table before a file's own rows, so many.
-pub fn put_before(numbers: &mut [u32; ROOM], many: usize)
-    requires { ⌜ deskRows + many ≤ maxRows ⌝ }
-    ensures { λ _. ⌜ take ((deskRows + many) * rowSize) (now (numbers .exit)) ≡ withDesk (take (many * rowSize) (now (numbers .entry))) ⌝ }
-    ensures { λ _. ⌜ length (now (numbers .exit)) ≡ maxRows * rowSize ⌝ }
+// Puts the built-in table before the numbers that stand behind its place.
+pub fn put_before(numbers: &mut [u32])
+    requires { ⌜ deskRows * rowSize ≤ length (now numbers) ⌝ }
+    ensures { λ _. ⌜ now (numbers .exit) ≡ withDesk (ownNumbers (now (numbers .entry))) ⌝ }
 {
-    rows::move_up(numbers, many * ROW_SIZE, DESK_SIZE);
     rows::copy(&BUILT_IN, numbers);
 }
 

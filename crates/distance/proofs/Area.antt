@@ -7,13 +7,14 @@ use mathlib.Core.Path.{_≡_, refl, sym, _∙_, ap}
 use mathlib.Core.List.{List, _++_, flatMap, append-assoc}
 use lib.ListN.{length, getD, take, drop, replicate, length-append, length-drop, length-replicate}
 use lib.Seq.{take-at, drop-at, drop-drop, getD-take, length-take-le}
-use Rattle.model.specs.Limits.{noChain, maxBlocks, maxJoins, summarySize, summaryWidth, workSize}
+use Rattle.model.specs.Limits.{noChain, maxBlocks, maxJoins, summarySize, workSize}
 use Rattle.model.specs.Lists.{range, overwrite}
 use Rattle.model.specs.Blocks.{Block, joinsOf, blocksOf, lastBlock}
-use Rattle.model.specs.Summaries.{summaryOf, summaries, workAfter}
-use Rattle.shows.specs.WellFormed.{Good}
+use Rattle.model.specs.Chains.{fewest}
+use Rattle.model.specs.Summaries.{summaryOf, summaries, workBy, workAfter}
+use Rattle.shows.specs.WellFormed.{Small}
 use Rattle.shows.proofs.AtBlock.{joins-small}
-use Rattle.distances.specs.Tells.{summariesTo}
+use Rattle.distances.specs.Tells.{summaryPlace, summariesTo, summariesToBy}
 use Rattle.distances.proofs.Places.{summariesTo-next, summariesTo-length, summariesTo-at, summaries-all, summaries-length}
 use Rattle.blocks.specs.Loaded.{Loaded}
 use Rattle.blocks.proofs.Loaded.{loaded-show}
@@ -45,13 +46,13 @@ module _ (w v : List ℕ) (k : ℕ) (long : summarySize * k + summarySize ≤ le
   pub with-before : take (summarySize * k) (withPart w k v) ≡ take (summarySize * k) w
   with-before = take-at (take (summarySize * k) w) (v ++ drop (summarySize * k + summarySize) w) (summarySize * k) front
 
-  pub with-below : (bs : List Block) → Good bs → Below bs k w → Below bs k (withPart w k v)
-  with-below bs good below m i j h x y =
-      let few : joinsOf bs m ≤ maxJoins = joins-small m good in
-      let l : summarySize * m + summaryWidth * (i - 1) + (j - 1) < summarySize * k = omega arith in
-      sym (getD-take (summarySize * k) (withPart w k v) (summarySize * m + summaryWidth * (i - 1) + (j - 1)) 0 l)
-      ∙ ap (λ (z : List ℕ). getD z (summarySize * m + summaryWidth * (i - 1) + (j - 1)) 0) with-before
-      ∙ getD-take (summarySize * k) w (summarySize * m + summaryWidth * (i - 1) + (j - 1)) 0 l
+  pub with-below : (bs : List Block) → Small bs → Below bs k w → Below bs k (withPart w k v)
+  with-below bs small below m i j h x y =
+      let few : joinsOf bs m ≤ maxJoins = joins-small m small in
+      let l : summaryPlace m i j < summarySize * k = omega arith in
+      sym (getD-take (summarySize * k) (withPart w k v) (summaryPlace m i j) 0 l)
+      ∙ ap (λ (z : List ℕ). getD z (summaryPlace m i j) 0) with-before
+      ∙ getD-take (summarySize * k) w (summaryPlace m i j) 0 l
       ∙ below m i j h x y
 
   module _ (size : length v ≡ summarySize) where
@@ -98,8 +99,8 @@ module _ (bs : List Block) (k : ℕ) {w u : List ℕ} {i : ℕ} (long : summaryS
   pub partFilled-rows : RowsFilled bs k i (partOf u k)
   partFilled-rows = rw (s .is, part-with w (s .part) k long (s .filled .size)) (s .filled)
 
-  pub partFilled-below : Good bs → Below bs k w → Below bs k u
-  partFilled-below good below = rw (s .is) (with-below w (s .part) k long bs good below)
+  pub partFilled-below : Small bs → Below bs k w → Below bs k u
+  partFilled-below small below = rw (s .is) (with-below w (s .part) k long bs small below)
 
   pub partFilled-on : {x : List ℕ} → PartFilled bs k (i + 1) u x → PartFilled bs k (i + 1) w x
   partFilled-on {x} r =
@@ -122,22 +123,22 @@ module _ (bs : List Block) (w₀ : List ℕ) where
   area k = summariesTo bs k ++ drop (summarySize * k) w₀
 
   pub area-begin : w₀ ≡ area 0
-  unfolding summariesTo range flatMap
+  unfolding summariesToBy range flatMap
   area-begin = refl
 
   pub area-length : (k : ℕ) → summarySize * k ≤ length w₀ → length (area k) ≡ length w₀
   area-length k h =
-      omega (arith, length-append (summariesTo bs k) (drop (summarySize * k) w₀), length-drop (summarySize * k) w₀, summariesTo-length bs k)
+      omega (arith, length-append (summariesTo bs k) (drop (summarySize * k) w₀), length-drop (summarySize * k) w₀, summariesTo-length fewest bs k)
 
-  pub area-below : (k : ℕ) (w : List ℕ) → Good bs → w ≡ area k → Below bs k w
-  area-below k w good e m i j h x y =
+  pub area-below : (k : ℕ) (w : List ℕ) → Small bs → w ≡ area k → Below bs k w
+  area-below k w small e m i j h x y =
       rw e
-      (summariesTo-at bs k (drop (summarySize * k) w₀) m i j h (x .0) (omega (arith, joins-small m good)) (y .0) (omega (arith, joins-small m good)))
+      (summariesTo-at fewest bs k (drop (summarySize * k) w₀) m i j h (x .0) (omega (arith, joins-small m small)) (y .0) (omega (arith, joins-small m small)))
 
   area-rest : (k n : ℕ) → drop (summarySize * k + n) (area k) ≡ drop (summarySize * k + n) w₀
   area-rest k n =
       sym (drop-drop n (summarySize * k) (area k))
-      ∙ ap (drop n) (drop-at (summariesTo bs k) (drop (summarySize * k) w₀) (summarySize * k) (summariesTo-length bs k))
+      ∙ ap (drop n) (drop-at (summariesTo bs k) (drop (summarySize * k) w₀) (summarySize * k) (summariesTo-length fewest bs k))
       ∙ drop-drop n (summarySize * k) w₀
 
   pub area-on : (k : ℕ) (w u : List ℕ) → w ≡ area k
@@ -147,11 +148,11 @@ module _ (bs : List Block) (w₀ : List ℕ) where
       f
       ∙ (rw (
         e,
-        take-at (summariesTo bs k) (drop (summarySize * k) w₀) (summarySize * k) (summariesTo-length bs k),
+        take-at (summariesTo bs k) (drop (summarySize * k) w₀) (summarySize * k) (summariesTo-length fewest bs k),
         area-rest k summarySize,
         add-one,
         p,
-        summariesTo-next bs k,
+        summariesTo-next fewest bs k,
         append-assoc,
       ))
 
@@ -159,18 +160,18 @@ module _ (bs : List Block) (w₀ : List ℕ) where
   pub area-done : (w u z : List ℕ) (b : ℕ) → b ≡ length bs → summarySize * b ≤ workSize → workSize ≤ length w₀ → w ≡ area b
       → z ≡ replicate (length (take (workSize - summarySize * b) (drop (summarySize * b) w))) 0
       → u ≡ take (summarySize * b) w ++ (z ++ drop (workSize - summarySize * b) (drop (summarySize * b) w)) → u ≡ workAfter bs w₀
-  unfolding workAfter overwrite
+  unfolding workBy overwrite
   area-done w u z b eb few long ew ez eu =
       let n : length (take (workSize - summarySize * b) (drop (summarySize * b) (area b))) ≡ workSize - summarySize * b =
       length-take-le (workSize - summarySize * b) (drop (summarySize * b) (area b))
       (omega (arith, length-drop (summarySize * b) (area b), area-length b (omega arith))) in
       let s : summarySize * b + (workSize - summarySize * b) ≡ workSize = omega arith in
-      let o : summaries bs ≡ summariesTo bs b = rw eb (summaries-all bs) in
+      let o : summaries bs ≡ summariesTo bs b = rw eb (summaries-all fewest bs) in
       let l : length (summariesTo bs b ++ replicate (workSize - summarySize * b) 0) ≡ workSize =
       omega (
         arith,
         length-append (summariesTo bs b) (replicate (workSize - summarySize * b) 0),
-        summariesTo-length bs b,
+        summariesTo-length fewest bs b,
         length-replicate {A = ℕ} (workSize - summarySize * b) 0,
       ) in
       eu
@@ -178,7 +179,7 @@ module _ (bs : List Block) (w₀ : List ℕ) where
         ez,
         ew,
         n,
-        take-at (summariesTo bs b) (drop (summarySize * b) w₀) (summarySize * b) (summariesTo-length bs b),
+        take-at (summariesTo bs b) (drop (summarySize * b) w₀) (summarySize * b) (summariesTo-length fewest bs b),
         drop-drop,
         area-rest b,
         s,
@@ -190,10 +191,10 @@ module _ (bs : List Block) (w₀ : List ℕ) where
 
 -- What the fewest question asks of the work area: it begins with the summaries.
 pub area-summaries : (bs : List Block) (w : List ℕ) → take (summarySize * length bs) (workAfter bs w) ≡ summaries bs
-unfolding workAfter overwrite
+unfolding workBy overwrite
 area-summaries bs w =
     rw append-assoc
     (take-at (summaries bs)
     (replicate (workSize - summarySize * length bs) 0
     ++ drop (length (summaries bs ++ replicate (workSize - summarySize * length bs) 0)) w)
-    (summarySize * length bs) (summaries-length bs))
+    (summarySize * length bs) (summaries-length fewest bs))

@@ -1,9 +1,4 @@
--- Laws of what estimates begin with, of settled estimates, of the work area, and of copies on the
--- way up and down.
-pub mod Starts
-pub mod Settled
+-- Laws of the work area as it is filled, and of follow-ons as what is counted.
 pub mod Summaries
 pub mod Area
-pub mod Telling
-pub mod Ways
-pub mod Answering
+pub mod Counting

@@ -1,29 +1,30 @@
--- Estimates from each join of a block in turn are the block's summary, and fill its 64 numbers row
--- by row.
-use Prim.Native.Nat.{ℕ, suc, _+_, _*_, _-_, _/_, _%_, _≤_, _<_}
+-- Estimates from each join of a block in turn are the block's summary, and fill its numbers row by row.
+use Prim.Native.Nat.{ℕ, suc, _+_, _*_, _/_, _%_, _≤_, _<_}
 use native.Mathlib.Omega.{arith}
 use native.Mathlib.Decide.{ℕ-discrete, decLt}
 use mathlib.Core.Path.{_≡_, sym, _∙_}
 use mathlib.Core.Logic.{inl, inr}
-use mathlib.Core.List.{List, [], append-nil}
+use mathlib.Core.List.{List}
 use lib.ListN.{length, getD, replicate, length-replicate, getD-replicate}
-use lib.Seq.{getD-append-add, ext-getD}
+use lib.Seq.{ext-getD}
 use Rattle.model.specs.Limits.{noChain, maxJoins, summarySize, summaryWidth}
 use Rattle.model.specs.Blocks.{Block, blockAt, joinsOf, ownOf, blocksOf}
+use Rattle.model.specs.Chains.{fewest}
 use Rattle.model.specs.Summaries.{summary, summaryOf}
+use Rattle.shows.proofs.Accepted.{cues-fit}
 use Rattle.shows.proofs.BlockAt.{ownOf-at}
 use Rattle.distances.proofs.Fewest.{summary-lacks}
 use Rattle.distances.proofs.Summing.{estimates-summary}
-use Rattle.distances.proofs.Places.{summaryOf-length, summariesTo-next, summariesTo-length, summariesTo-at}
-use Rattle.distances.specs.Tells.{summariesTo}
+use Rattle.distances.proofs.Places.{summaryOf-length, summaryOf-at}
+use Rattle.distances.specs.Walks.{each-one}
 use Rattle.blocks.specs.Loaded.{Loaded, IsBlock}
 use Rattle.blocks.proofs.Loaded.{loaded-show, joins-few}
-use Rattle.relax.specs.Edges.{numbers, Only, SpreadIn}
-use Rattle.distance.specs.Starts.{RowKept}
+use Rattle.searches.specs.Edges.{numbers, Only, SpreadIn}
+use Rattle.searches.specs.Joins.{RowKept}
 use Rattle.distance.specs.Summaries.{partOf, withPart, RowsFilled, PartFilled, Below}
-use Rattle.distance.proofs.Settled.{spread-estimates}
+use Rattle.searches.proofs.Settled.{spread-estimates}
 
--- The 64 numbers, as they are at first.
+-- The numbers, as they are at first.
 pub filled-begin : (bs : List Block) (k : ℕ) → RowsFilled bs k 0 (replicate summarySize noChain)
 filled-begin bs k =
     record {
@@ -32,21 +33,10 @@ filled-begin bs k =
       rest = λ a j h l m. getD-replicate summarySize (summaryWidth * a + j) noChain 0 (omega arith);
     }
 
--- Number (a, j) of a block.
-summaryOf-at : (bs : List Block) (k a j : ℕ) → a < summaryWidth → j < summaryWidth
-    → getD (summaryOf bs k) (summaryWidth * a + j) 0 ≡ summary bs k (suc a) (suc j)
-summaryOf-at bs k a j h l =
-    let n : length (summariesTo bs k) ≡ summarySize * k = summariesTo-length bs k in
-    let p : summarySize * k + summaryWidth * (suc a - 1) + (suc j - 1) ≡ length (summariesTo bs k) + (summaryWidth * a + j) =
-    omega arith in
-    sym (getD-append-add (summariesTo bs k) (summaryOf bs k) (summaryWidth * a + j) 0)
-    ∙ (rw (p, append-nil, summariesTo-next bs k) at
-    (summariesTo-at bs (suc k) [] k (suc a) (suc j) (omega arith) (omega arith) (omega arith) (omega arith) (omega arith)))
-
 -- All rows.
 pub filled-done : (bs : List Block) (k m : ℕ) (v : List ℕ) → m ≡ joinsOf bs k → RowsFilled bs k m v → v ≡ summaryOf bs k
 filled-done bs k m v em f =
-    ext-getD 0 v (summaryOf bs k) (f .size ∙ sym (summaryOf-length bs k)) (λ x h. at x h)
+    ext-getD 0 v (summaryOf bs k) (f .size ∙ sym (summaryOf-length fewest bs k)) (λ x h. at x h)
   where
     at : (x : ℕ) → x < length v → getD v x 0 ≡ getD (summaryOf bs k) x 0
     at x h =
@@ -56,10 +46,10 @@ filled-done bs k m v em f =
       where
         go : (a j : ℕ) → a < summaryWidth → j < summaryWidth → Dec (a < m)
             → getD v (summaryWidth * a + j) 0 ≡ getD (summaryOf bs k) (summaryWidth * a + j) 0
-        go a j l r (yes q) = f .done a j q r ∙ sym (summaryOf-at bs k a j l r)
+        go a j l r (yes q) = f .done a j q r ∙ sym (summaryOf-at fewest bs k a j l r)
         go a j l r (no q) =
-            f .rest a j (omega arith) l r ∙ sym (summary-lacks bs k (suc a) (suc j) (inl (omega arith))) ∙ sym
-            (summaryOf-at bs k a j l r)
+            f .rest a j (omega arith) l r ∙ sym (summary-lacks fewest bs k (suc a) (suc j) (inl (omega arith))) ∙ sym
+            (summaryOf-at fewest bs k a j l r)
 
 module _ {xs t : List ℕ} (loaded : Loaded xs t) (k : ℕ) (h : IsBlock xs k) (work : List ℕ) (below : Below (blocksOf xs) k work) where
   abbrev bs : List Block
@@ -67,17 +57,17 @@ module _ {xs t : List ℕ} (loaded : Loaded xs t) (k : ℕ) (h : IsBlock xs k) (
 
   -- The estimates from join i are the summaries of that join.
   row-summary : (i j : ℕ) (d : List ℕ) → i < joinsOf bs k → j < joinsOf bs k
-      → SpreadIn bs work k (Only (ownOf bs k + 1 + i)) d → ((c : ℕ) → getD d c 0 ≤ noChain)
+      → SpreadIn noChain each-one bs work k (Only (ownOf bs k + 1 + i)) d → ((c : ℕ) → getD d c 0 ≤ noChain)
       → getD d (ownOf bs k + 1 + j) 0 ≡ summary bs k (suc i) (suc j)
   row-summary i j d hi hj s most =
       let p : ownOf bs k + 1 + i ≡ blockAt bs k .own + suc i = omega (arith, ownOf-at bs k) in
       let q : ownOf bs k + 1 + j ≡ blockAt bs k .own + suc j = omega (arith, ownOf-at bs k) in
       rw q
-      (sym (estimates-summary bs (loaded-show loaded .good) k (suc i) (suc j) (numbers work) (λ m l. loaded-show loaded .totals m) below
+      (sym (estimates-summary bs (loaded-show loaded .good) k (suc i) (suc j) (numbers work) (λ m l. cues-fit (loaded-show loaded) m) below
       (spread-estimates bs (loaded-show loaded .good) work k (rw p at s)) (most (blockAt bs k .own + suc j)) (omega arith) (omega arith)))
 
   row-filled : (i o m : ℕ) (v d e : List ℕ) → o ≡ ownOf bs k → m ≡ joinsOf bs k → i < m → RowsFilled bs k i v
-      → SpreadIn bs work k (Only (o + 1 + i)) d → ((c : ℕ) → getD d c 0 ≤ noChain)
+      → SpreadIn noChain each-one bs work k (Only (o + 1 + i)) d → ((c : ℕ) → getD d c 0 ≤ noChain)
       → RowKept v i d (o + 1) m e → length e ≡ length v → RowsFilled bs k (i + 1) e
   row-filled i o m v d e eo em l f s most r long =
       record {
@@ -96,11 +86,11 @@ module _ {xs t : List ℕ} (loaded : Loaded xs t) (k : ℕ) (h : IsBlock xs k) (
       done a j x y (yes q) (no w) =
           rw q
           (r .else (summaryWidth * i + j) (inr (omega arith)) ∙ f .rest i j (omega arith) (omega (arith, few)) y
-          ∙ sym (summary-lacks bs k (suc i) (suc j) (inr (omega arith))))
+          ∙ sym (summary-lacks fewest bs k (suc i) (suc j) (inr (omega arith))))
 
   -- One more row of the block's part of the work area.
   pub join-filled : (i o m : ℕ) (p d v u : List ℕ) → o ≡ ownOf bs k → m ≡ joinsOf bs k → i < joinsOf bs k → p ≡ partOf work k
-      → RowsFilled bs k i (partOf work k) → SpreadIn bs work k (Only (o + 1 + i)) d
+      → RowsFilled bs k i (partOf work k) → SpreadIn noChain each-one bs work k (Only (o + 1 + i)) d
       → ((c : ℕ) → getD d c 0 ≤ noChain)
       → RowKept p i d (o + 1) m v → length v ≡ length p → u ≡ withPart work k v → PartFilled bs k (i + 1) work u
   join-filled i o m p d v u eo em l ep f s most r long eu =

@@ -8,7 +8,10 @@ use Rattle.model.specs.Blocks.{Block, blocksOf}
 use Rattle.model.specs.Summaries.{summary}
 use Rattle.distances.specs.Tells.{Join}
 use Rattle.blocks.specs.Loaded.{Loaded}
-use Rattle.relax.specs.Edges.{numbers}
+use Rattle.blocks.specs.Places.{Found}
+use Rattle.blocks.specs.declared.Place.{Place}
+use Rattle.searches.specs.Starts.{estimatesSize}
+use Rattle.searches.specs.Edges.{numbers}
 
 -- Block k's part of the work area, and the work area with other numbers in it.
 abbrev pub partOf : List ℕ → ℕ → List ℕ
@@ -38,3 +41,9 @@ pub record HasSummaries (xs t work : List ℕ) : Type 0 where
   pub loaded : Loaded xs t
   pub long : summarySize * length (blocksOf xs) ≤ length work
   pub below : Below (blocksOf xs) (length (blocksOf xs)) work
+
+-- What the way up or down the rows of a place asks for: the summaries, the rows that lead to the place, and an estimate for each cue that a block may have.
+pub record MaySearch (xs t work rows : List ℕ) (q : Place) (d : List ℕ) : Type 0 where
+  pub summaries : HasSummaries xs t work
+  pub found : Found xs t rows q
+  pub size : length d ≡ estimatesSize

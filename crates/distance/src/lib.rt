@@ -22,23 +22,24 @@ use relax::clear_block;
 use relax::from_cue;
 use relax::settle;
 ghost use mathlib.Core.Path.{_≡_};
-ghost use Prim.Native.Nat.{_+_, _*_, _-_, _≤_, _<_};
+ghost use Prim.Native.Nat.{_+_, _*_, _≤_, _<_};
 ghost use mathlib.Core.List.{_++_};
 ghost use lib.ListN.{length, take, drop, replicate};
-ghost use Rattle.model.specs.Limits.{maxDepth, workSize, summarySize, summaryWidth};
+ghost use Rattle.model.specs.Limits.{noChain, maxDepth, workSize, summarySize, summaryWidth};
 ghost use Rattle.model.specs.Blocks.{joinsOf, blocksOf, count};
 ghost use Rattle.model.specs.Unfolding.{showLinks};
 ghost use Rattle.model.specs.Chains.{fewest};
 ghost use Rattle.model.specs.Summaries.{summaryOf, summaries, workAfter};
+ghost use Rattle.distances.specs.Walks.{each-one};
 ghost use Rattle.distances.specs.Tells.{summariesTo, distance};
 ghost use Rattle.blocks.specs.Loaded.{Loaded, IsBlock};
 ghost use Rattle.blocks.specs.Places.{blockOn, UsesTo, Found};
-ghost use Rattle.estimates.specs.Starts.{Started, Merged, estimatesSize};
-ghost use Rattle.relax.specs.Edges.{cueCount, SpreadIn};
-ghost use Rattle.distance.specs.Starts.{JoinsAt, RowKept, JoinsKept};
-ghost use Rattle.distance.specs.Summaries.{partOf, RowsFilled, Below, PartFilled, HasSummaries};
+ghost use Rattle.searches.specs.Starts.{Started, Merged, estimatesSize};
+ghost use Rattle.searches.specs.Edges.{cueCount, SpreadIn};
+ghost use Rattle.searches.specs.Joins.{JoinsAt, RowKept, JoinsKept};
+ghost use Rattle.distance.specs.Summaries.{partOf, RowsFilled, Below, PartFilled, HasSummaries, MaySearch};
 ghost use Rattle.copies.specs.ByRows.{copyOn};
-ghost use Rattle.distance.specs.Copies.{FromKept, FromAbove, TellsWhole, keptSize, Risen, Source, Common, Sunk};
+ghost use Rattle.searches.specs.Copies.{FromKept, FromAbove, TellsWhole, keptSize, Risen, Source, Common, Sunk};
 
 // Estimates kept on the way up: eight for each level.
 const KEPT: usize = SUMMARY_WIDTH * MAX_BLOCKS as usize;
@@ -176,7 +177,7 @@ fn rise_one(
 )
     requires { ⌜ HasSummaries (now xs) (now t) (now work) × UsesTo (now xs) (now rows) (l + 1) × (l < maxDepth)
         × (length (now kept) ≡ keptSize) × (length (now d) ≡ estimatesSize) ⌝ }
-    ensures { λ _. ⌜ SpreadIn (blocksOf (now (xs .entry))) (now (work .entry)) (blockOn (now (xs .entry)) (now (rows .entry)) l)
+    ensures { λ _. ⌜ SpreadIn noChain each-one (blocksOf (now (xs .entry))) (now (work .entry)) (blockOn (now (xs .entry)) (now (rows .entry)) l)
         (FromKept (now (xs .entry)) (now (rows .entry)) l (now (kept .entry))) (now (d .exit))
         × JoinsKept (blocksOf (now (xs .entry))) (blockOn (now (xs .entry)) (now (rows .entry)) l) (now (kept .entry)) l (now (d .exit)) (now (kept .exit)) ⌝ }
 {
@@ -198,9 +199,8 @@ fn climb(
     kept: &mut [u32],
     d: &mut [u32],
 )
-    requires { ⌜ HasSummaries (now xs) (now t) (now work) × Found (now xs) (now t) (now rows) from × (length (now kept) ≡ keptSize)
-        × (length (now d) ≡ estimatesSize) ⌝ }
-    ensures { λ _. ⌜ Risen (now (xs .entry)) (now (t .entry)) (now (rows .entry)) from 0 (now (kept .exit)) (now (d .exit)) ⌝ }
+    requires { ⌜ MaySearch (now xs) (now t) (now work) (now rows) from (now d) × (length (now kept) ≡ keptSize) ⌝ }
+    ensures { λ _. ⌜ Risen noChain each-one (now (xs .entry)) (now (t .entry)) (now (rows .entry)) from 0 (now (kept .exit)) (now (d .exit)) ⌝ }
 {
     from_cue(xs, t, work, from.block, wide(from.own), d);
     keep_joins(xs, t, from.block, from.depth, d, kept);
@@ -229,7 +229,7 @@ fn put_joins(p: usize, e: &[u32], m: usize, d: &mut [u32])
 // what the cues that they meet have.
 fn enter(xs: &[u32], t: &[u32; blocks::INDEX], rows: &[u32], l: usize, d: &mut [u32])
     requires { ⌜ Loaded (now xs) (now t) × UsesTo (now xs) (now rows) (l + 1) × (length (now d) ≡ estimatesSize) ⌝ }
-    ensures { λ _. ⌜ Started (cueCount (blocksOf (now (xs .entry))) (blockOn (now (xs .entry)) (now (rows .entry)) (l + 1)))
+    ensures { λ _. ⌜ Started noChain (cueCount (blocksOf (now (xs .entry))) (blockOn (now (xs .entry)) (now (rows .entry)) (l + 1)))
         (FromAbove (now (xs .entry)) (now (rows .entry)) l (now (d .entry))) (now (d .exit)) ⌝ }
 {
     let r = wide(rows[l]);
@@ -276,10 +276,9 @@ fn sink_shared(
     kept: &[u32],
     d: &mut [u32],
 )
-    requires { ⌜ HasSummaries (now xs) (now t) (now work) × Found (now xs) (now t) (now rows) from × (shared ≤ from .depth)
-        × (length (now kept) ≡ keptSize) × (length (now d) ≡ estimatesSize)
-        × Risen (now xs) (now t) (now rows) from 0 (now kept) (now d) ⌝ }
-    ensures { λ _. ⌜ TellsWhole (now (xs .entry)) (copyOn (now (xs .entry)) (now (t .entry)) (now (rows .entry)) shared) (from .cue)
+    requires { ⌜ MaySearch (now xs) (now t) (now work) (now rows) from (now d) × (shared ≤ from .depth) × (length (now kept) ≡ keptSize)
+        × Risen noChain each-one (now xs) (now t) (now rows) from 0 (now kept) (now d) ⌝ }
+    ensures { λ _. ⌜ TellsWhole noChain each-one (now (xs .entry)) (copyOn (now (xs .entry)) (now (t .entry)) (now (rows .entry)) shared) (from .cue)
         (now (d .exit)) ⌝ }
 {
     let mut l = 0;
@@ -302,9 +301,8 @@ fn sink_alone(
     level: usize,
     d: &mut [u32],
 )
-    requires { ⌜ HasSummaries (now xs) (now t) (now work) × Found (now xs) (now t) (now rows) to × (level ≤ to .depth)
-        × (length (now d) ≡ estimatesSize) ⌝ }
-    ensures { λ _. ⌜ Sunk (now (xs .entry)) (now (t .entry)) (now (rows .entry)) level (to .depth) (now (d .entry)) (now (d .exit)) ⌝ }
+    requires { ⌜ MaySearch (now xs) (now t) (now work) (now rows) to (now d) × (level ≤ to .depth) ⌝ }
+    ensures { λ _. ⌜ Sunk noChain each-one (now (xs .entry)) (now (t .entry)) (now (rows .entry)) level (to .depth) (now (d .entry)) (now (d .exit)) ⌝ }
 {
     let mut l = level;
     while l < to.depth {

@@ -5,24 +5,20 @@ use native.Mathlib.Omega.{arith}
 use native.Mathlib.Decide.{decLt}
 use mathlib.Core.Path.{_≡_, refl, sym, _∙_, ap}
 use mathlib.Core.Logic.{_⊎_, inl, inr}
-use mathlib.Core.List.{List, List·Memᴰ}
+use mathlib.Core.List.{List·Memᴰ}
 use lib.ListN.{length, getD}
-use Rattle.model.specs.Limits.{maxTotal, noChain}
-use Rattle.model.specs.Blocks.{Block, joinsOf, lastBlock, count, blockAt}
-use Rattle.model.specs.Unfolding.{showLinks}
-use Rattle.model.specs.Chains.{fewest}
-use Rattle.shows.specs.WellFormed.{Cue, Good}
-use Rattle.distances.specs.Walks.{Walk, stop, Price, Linked, each-one}
+use Rattle.model.specs.Blocks.{Block, joinsOf, blockAt}
+use Rattle.shows.specs.WellFormed.{Cue}
+use Rattle.distances.specs.Walks.{Walk, stop, Price, Linked}
 use Rattle.distances.proofs.Chains.{walk-weaken}
 use Rattle.basics.proofs.Members.{mem-at, getD-map-in}
-use Rattle.shows.specs.Copies.{Part, Copy, number, all-links, meets, Sound, IsPart, InCopy, part-copy, show-copy}
+use Rattle.shows.specs.Copies.{Part, Copy, number, all-links, meets, Sound, IsPart, InCopy, part-copy}
 use Rattle.shows.proofs.Ranges.{number-own, part-use, cueAt-own, cueAt-join}
 use Rattle.shows.proofs.BlockAt.{Lower}
-use Rattle.shows.proofs.Locality.{not-inside, part-total, Under, itself, part-of, under-sound, link-under, under-numbered, show-sound, show-links-at, show-count}
+use Rattle.shows.proofs.Locality.{not-inside, part-total, Under, itself, part-of, under-sound, link-under}
 use Rattle.distances.proofs.Contraction.{Through, leave, enter, region}
-use Rattle.distances.specs.Tells.{Join, met-by, Local, Tells, distance, FromPart}
+use Rattle.distances.specs.Tells.{Join, met-by, Local, Tells, FromPart}
 use Rattle.distances.proofs.Closure.{join-at, ExactTable, Estimates, Covered, estimates-told, At, at-covers}
-use Rattle.distances.proofs.Summing.{told-show}
 
 -- The number of join i of a copy is that of the cue it meets.
 pub join-number : (z : Copy) (i : ℕ) → 1 ≤ i → number z (z .block .own + i) ≡ getD (z .met) (i - 1) 0
@@ -190,12 +186,3 @@ module _ (price : Price) {z y : Copy} (g : Sound z) (u : Under z y) (inf s : ℕ
   down-told limit lower table exact estimates c h =
       estimates-told price (under-sound g u) limit lower table exact inf estimates (all-links z) s (λ l i. link-under g u l i) starts-sound
       joins-cover c h
-
--- In a show: an estimate that tells the least length from s to an own cue of any of its copies says the fewest answer.
-pub fewest-told : (bs : List Block) (good : Good bs) → joinsOf bs (lastBlock bs) ≡ 0 → count bs ≤ maxTotal → {y : Copy} → Under (show-copy bs) y
-    → (s c x : ℕ) → 1 ≤ c → c ≤ y .block .own → Tells each-one (all-links (show-copy bs)) noChain s (number y c) x
-    → fewest (showLinks bs) (count bs) s (number y c) ≡ distance x
-fewest-told bs good closed small {y} u s c x low high told =
-    let q : number y c ≡ y .base + c = cueAt-own (y .block .own) (y .base) (y .met) c high in
-    let (a, b) = under-numbered (show-sound bs good closed) u (number y c) (omega arith) in
-    told-show bs good closed small s (number y c) x (omega arith) (omega (arith, show-count bs good)) (rw (← show-links-at bs good) at told)

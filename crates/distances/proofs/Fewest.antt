@@ -20,15 +20,14 @@ use mathlib.Core.List.{
 use lib.Dec.{T, eqb, ltb}
 use borrow.Author.Tests.{eqb-true, eq-eqb, lt-ltb, le-ltb}
 use Rattle.model.specs.Choice.{ifLt}
-use Rattle.model.specs.Limits.{noChain, maxTotal}
+use Rattle.model.specs.Limits.{noChain}
 use Rattle.model.specs.Blocks.{Link, Block, joinsOf, total, lastBlock, count}
 use Rattle.model.specs.Unfolding.{showLinks}
 use Rattle.model.specs.Chains.{followed, Distance, Far, Unreachable, isIn, successors, searchFrom, fewest}
 use Rattle.model.specs.Lists.{range}
-use Rattle.model.specs.Summaries.{blockLinks, orNone, summary}
+use Rattle.model.specs.Summaries.{Search, blockLinks, orNone, summary, summaryBy}
 use Rattle.shows.specs.WellFormed.{Good}
 use Rattle.distances.specs.Demand.{Chain, here, link, NoChain, Shortest, Summarised}
-use Rattle.shows.proofs.AtBlock.{joins-small}
 use Rattle.distances.proofs.Chains.{chain-append, chain-nought, chain-last}
 use Rattle.distances.proofs.Pigeonhole.{chain-shorten}
 use Rattle.basics.proofs.Members.{range-length, range-mem, range-bounds}
@@ -161,15 +160,15 @@ is-number : Distance → Bool
 is-number (Far n) = true
 is-number Unreachable = false
 
-far-same : {n m : ℕ} → Far n ≡ Far m → n ≡ m
+pub far-same : {n m : ℕ} → Far n ≡ Far m → n ≡ m
 unfolding number-of
 far-same e = ap number-of e
 
-far-not : {n : ℕ} → Far n ≡ Unreachable → ⊥
+pub far-not : {n : ℕ} → Far n ≡ Unreachable → ⊥
 unfolding is-number
 far-not e = false≢true (sym (ap is-number e))
 
--- A right answer is the shortest, and two right answers are one.
+-- A right answer is the shortest.
 pub right-shortest : (E : List Link) (s t : ℕ) (d : Distance) → RightDistance E s t d → Shortest E s t d
 right-shortest E s t (Far n) (c, low) =
     record {
@@ -200,18 +199,6 @@ right-shortest E s t Unreachable none =
       stays = λ e. absurd (none 0 (rw e here));
     }
 
-pub right-same : (E : List Link) (s t : ℕ) (a b : Distance) → RightDistance E s t a → RightDistance E s t b → a ≡ b
-right-same E s t (Far n) b x y = let (m, e) = right-shortest E s t b y .found n (x .0) in go m e
-  where
-    go : (m : ℕ) → b ≡ Far m → Far n ≡ b
-    go m e =
-        let r : Shortest E s t b = right-shortest E s t b y in
-        let h : m ≤ n = r .least m n e (x .0) in
-        let k : n ≤ m = right-shortest E s t (Far n) x .least n m refl (r .chain m e) in
-        let q : n ≡ m = omega arith in
-        rw (q, e) refl
-right-same E s t Unreachable b x y = sym (right-shortest E s t b y .lost x)
-
 -- Demand 3 where the cues are 1 .. cues: the answer is the length of the shortest chain.
 pub fewest-shortest : (E : List Link) (cues s t : ℕ) → Starts E cues → 1 ≤ t → t ≤ cues
     → Shortest (followed E) s t (fewest E cues s t)
@@ -237,17 +224,9 @@ module _ (bs : List Block) (good : Good bs) where
         at v (inner x y) = omega arith
         at v (join i) = absurd (List·Memᴰ·not-nil i)
 
-    -- Every chain of a show can be cut to one with fewer links than the show has cues.
-    pub show-cut : {s t n : ℕ} → 1 ≤ t → t ≤ count bs → Chain (followed (showLinks bs)) t s n
-        → (m : ℕ) × Chain (followed (showLinks bs)) t s m × (m ≤ n) × (m < count bs)
-    show-cut low high c = below-cues {E = showLinks bs} (count bs) (λ l i. show-ends l i .0) low high c
-
     -- Demand 3 for shows.
     pub show-shortest : (s t : ℕ) → 1 ≤ t → t ≤ count bs → Shortest (followed (showLinks bs)) s t (fewest (showLinks bs) (count bs) s t)
     show-shortest s t low high = fewest-shortest (showLinks bs) (count bs) s t (λ l i. show-ends l i .0) low high
-
-    pub show-below : (s t n : ℕ) → 1 ≤ t → t ≤ count bs → fewest (showLinks bs) (count bs) s t ≡ Far n → n < count bs
-    show-below s t n low high e = fewest-below (showLinks bs) (count bs) s t n (λ l i. show-ends l i .0) low high e
 
   module _ (k : ℕ) where
     pub block-ends : (l : Link) → List·Memᴰ l (blockLinks bs k)
@@ -279,35 +258,35 @@ module _ (bs : List Block) (good : Good bs) where
           (omega arith) (omega arith) e
 
 -- Summaries where the block lacks a join, and where it has both.
-pub summary-lacks : (bs : List Block) (k i j : ℕ) → (joinsOf bs k < i) ⊎ (joinsOf bs k < j) → summary bs k i j ≡ noChain
-unfolding summary ifLt
-summary-lacks bs k i j (inl h) = rw (lt-ltb (joinsOf bs k) i h) refl
-summary-lacks bs k i j (inr h) = rw (lt-ltb (joinsOf bs k) j h) (go (ltb (joinsOf bs k) i))
+pub summary-lacks : (find : Search) (bs : List Block) (k i j : ℕ) → (joinsOf bs k < i) ⊎ (joinsOf bs k < j) → summaryBy find bs k i j ≡ noChain
+unfolding summaryBy ifLt
+summary-lacks find bs k i j (inl h) = rw (lt-ltb (joinsOf bs k) i h) refl
+summary-lacks find bs k i j (inr h) = rw (lt-ltb (joinsOf bs k) j h) (go (ltb (joinsOf bs k) i))
   where
     go : (t : Bool) → cond t noChain noChain ≡ noChain
     go true = refl
     go false = refl
 
-pub summary-has : (bs : List Block) (k i j : ℕ) → i ≤ joinsOf bs k → j ≤ joinsOf bs k
-    → summary bs k i j ≡ orNone (fewest (blockLinks bs k) (total bs k + joinsOf bs k) (total bs k + i) (total bs k + j))
-unfolding summary ifLt
-summary-has bs k i j x y = rw (le-ltb (joinsOf bs k) i x, le-ltb (joinsOf bs k) j y) refl
+pub summary-has : (find : Search) (bs : List Block) (k i j : ℕ) → i ≤ joinsOf bs k → j ≤ joinsOf bs k
+    → summaryBy find bs k i j ≡ orNone (find (blockLinks bs k) (total bs k + joinsOf bs k) (total bs k + i) (total bs k + j))
+unfolding summaryBy ifLt
+summary-has find bs k i j x y = rw (le-ltb (joinsOf bs k) i x, le-ltb (joinsOf bs k) j y) refl
 
 pub summary-far : (bs : List Block) (k i j n : ℕ) → i ≤ joinsOf bs k → j ≤ joinsOf bs k
     → fewest (blockLinks bs k) (total bs k + joinsOf bs k) (total bs k + i) (total bs k + j) ≡ Far n → summary bs k i j ≡ n
 unfolding orNone
-summary-far bs k i j n x y e = summary-has bs k i j x y ∙ ap orNone e
+summary-far bs k i j n x y e = summary-has fewest bs k i j x y ∙ ap orNone e
 
 pub summary-none : (bs : List Block) (k i j : ℕ) → i ≤ joinsOf bs k → j ≤ joinsOf bs k
     → fewest (blockLinks bs k) (total bs k + joinsOf bs k) (total bs k + i) (total bs k + j) ≡ Unreachable → summary bs k i j ≡ noChain
 unfolding orNone
-summary-none bs k i j x y e = summary-has bs k i j x y ∙ ap orNone e
+summary-none bs k i j x y e = summary-has fewest bs k i j x y ∙ ap orNone e
 
 -- The summaries are what document 01 says of them, where no total is too large.
-module _ (bs : List Block) (good : Good bs) (k i j : ℕ) (small : total bs k ≤ maxTotal) (low : 1 ≤ j) where
+module _ (bs : List Block) (good : Good bs) (k i j : ℕ) (small : total bs k + joinsOf bs k ≤ noChain) (low : 1 ≤ j) where
   has-joins : summary bs k i j ≢ noChain → Dec (i ≤ joinsOf bs k) → Dec (j ≤ joinsOf bs k) → (i ≤ joinsOf bs k) × (j ≤ joinsOf bs k)
-  has-joins h (no x) d = absurd (h (summary-lacks bs k i j (inl (omega arith))))
-  has-joins h (yes x) (no y) = absurd (h (summary-lacks bs k i j (inr (omega arith))))
+  has-joins h (no x) d = absurd (h (summary-lacks fewest bs k i j (inl (omega arith))))
+  has-joins h (yes x) (no y) = absurd (h (summary-lacks fewest bs k i j (inr (omega arith))))
   has-joins h (yes x) (yes y) = (x, y)
 
   module _ (x : i ≤ joinsOf bs k) (y : j ≤ joinsOf bs k) where
@@ -328,12 +307,12 @@ module _ (bs : List Block) (good : Good bs) (k i j : ℕ) (small : total bs k �
         → (summary bs k i j ≤ m) × (summary bs k i j < noChain)
     has-least m c =
         let (n, e) = has-shortest .found m c in
-        omega (arith, summary-far bs k i j n x y e, has-shortest .least n m e c, block-below bs good k i j low y n e, joins-small k good)
+        omega (arith, summary-far bs k i j n x y e, has-shortest .least n m e c, block-below bs good k i j low y n e)
 
   pub summary-right : Summarised (followed (blockLinks bs k)) (total bs k) (joinsOf bs k) i j (summary bs k i j)
   summary-right =
       record {
-        lacking = λ h. summary-lacks bs k i j h;
+        lacking = λ h. summary-lacks fewest bs k i j h;
         lost = λ h. lost h (decLe i (joinsOf bs k)) (decLe j (joinsOf bs k));
         none = λ e x y m c. absurd (omega (arith, has-least x y m c));
         joined = λ h. has-joins h (decLe i (joinsOf bs k)) (decLe j (joinsOf bs k));
@@ -346,6 +325,6 @@ module _ (bs : List Block) (good : Good bs) (k i j : ℕ) (small : total bs k �
     where
       lost : NoChain (followed (blockLinks bs k)) (total bs k + i) (total bs k + j) → Dec (i ≤ joinsOf bs k) → Dec (j ≤ joinsOf bs k)
           → summary bs k i j ≡ noChain
-      lost h (no x) d = summary-lacks bs k i j (inl (omega arith))
-      lost h (yes x) (no y) = summary-lacks bs k i j (inr (omega arith))
+      lost h (no x) d = summary-lacks fewest bs k i j (inl (omega arith))
+      lost h (yes x) (no y) = summary-lacks fewest bs k i j (inr (omega arith))
       lost h (yes x) (yes y) = summary-none bs k i j x y (has-shortest x y .lost h)

@@ -1,5 +1,6 @@
--- The laws of chains and distances, and how they make the fewest question's answer exact without unfolding. A price is what a link weighs:
--- 1 if it is followed, and a note has none (each-one). A copy is a block in its place, and its parts are the copies of its uses (shows/specs/Copies).
+-- The laws of chains and distances, and how they make the fewest question's answer exact without unfolding. A price is what links
+-- weigh by their labels, 0 or more, or not at all; for the fewest question 1, and a note has none (each-one). A copy is a block in its place, and its
+-- parts are the copies of its uses (shows/specs/Copies).
 --
 -- 0. The model's fewest is the length of a shortest chain, and a summary that of a shortest chain between joins.
 pub mod Walks
@@ -13,13 +14,15 @@ pub mod Places
 pub mod Contraction
 pub mod Images
 -- 3. Closure. Estimates that have fallen to their beginnings, are stable over links and lower summaries, and are attained tell the least of
--- beginning plus chain weight. So an estimate that stayed at "none" means that no chain exists.
+-- beginning plus chain weight. So an estimate that is inf or more means that no chain exists.
 pub mod Closure
--- 4. Summaries. Estimates that begin at join i with 0 are the model's summary from join i; a table of such numbers is exact for each copy. A number
+-- 4. Least weights, whatever links weigh. An estimate that tells the least weight of a walk says it; a table that tells those between joins is exact for
+-- each copy, and the estimates from a block's joins make it a table of one block more.
+pub mod Lightest
+pub mod Knowing
+-- 5. Summaries. Estimates that begin at join i with 0 are the model's summary from join i; a table of such numbers is exact for each copy. A number
 -- of 4,294,967,295 or more is the answer none, and a smaller one is that number (distance).
 pub mod Summing
--- 5. Up and down. Estimates that begin from a use's joins tell the way from s inside the copy above it; those that begin from the joins of the copy
--- above, and from s where it lies inside, tell the way from s in the whole. What is told for t in the show is the model's fewest.
+-- 6. Up and down. Estimates that begin from a use's joins tell the way from s inside the copy above it; those that begin from the joins of the copy
+-- above, and from s where it lies inside, tell the way from s in the whole. How code comes to such estimates: crate searches.
 pub mod Detours
--- 6. How code comes to such estimates: nothing begun, a beginning put in, one lowered over a link or a use, and stable at the end.
-pub mod Relaxing

@@ -1,4 +1,5 @@
 -- What the laws of chains and distances are stated with.
 pub mod Walks
 pub mod Tells
+pub mod Lightest
 pub mod Demand

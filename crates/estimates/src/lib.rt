@@ -12,8 +12,8 @@ ghost use mathlib.Core.Logic.{_⊎_};
 ghost use mathlib.Core.Bool.{true, false};
 ghost use lib.ListN.{length};
 ghost use Rattle.model.specs.Limits.{noChain};
-ghost use Rattle.estimates.specs.Rounds.{orb, One, Round, Fell};
-ghost use Rattle.estimates.specs.Starts.{Nowhere, Cell, Meets, MetAt, Started, Merged, Gathered};
+ghost use Rattle.searches.specs.Rounds.{orb, One, Round, Fell};
+ghost use Rattle.searches.specs.Starts.{Nowhere, Cell, Meets, MetAt, Started, Merged, Gathered};
 
 // No estimate, and no chain between two joins.
 pub const NO_CHAIN: u32 = model::limits::NO_CHAIN;
@@ -114,7 +114,7 @@ pub fn gather(xs: &[u32], r: usize, d: &[u32], m: usize, e: &mut [u32])
 // No estimate yet at the cues up to n.
 pub fn clear(d: &mut [u32], n: usize)
     requires { ⌜ n < length (now d) ⌝ }
-    ensures { λ _. ⌜ Started n Nowhere (now (d .exit)) ⌝ }
+    ensures { λ _. ⌜ Started noChain n Nowhere (now (d .exit)) ⌝ }
 {
     let mut c = 0;
     while c <= n {

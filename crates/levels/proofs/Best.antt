@@ -9,12 +9,12 @@ use mathlib.Core.List.{List, [], _∷_, map, List·Memᴰ, List·Memᴰ·head, L
 use lib.ListN.{length, getD}
 use lib.Dec.{eqb}
 use Rattle.model.specs.Choice.{ifEq, ifTrue}
-use Rattle.model.specs.Rules.{distinct}
 use Rattle.model.specs.Blocks.{Link, Use, Block, blockAt, joinsOf, ownOf, blocksOf, total}
 use Rattle.model.specs.Unfolding.{renamed}
 use Rattle.model.specs.Behind.{Origin, Traced, stepInto, traced, rowsTraced, usesTraced, origins, depthWins, Behind, Stands, Missing, winner, best, openingRow}
 use Rattle.basics.proofs.Choices.{eq-then, eq-else, lt-then, lt-else, true-then, true-else}
-use Rattle.basics.proofs.Members.{getD-mem, getD-map-in, distinct-apart}
+use Rattle.basics.proofs.Members.{getD-mem, getD-map-in}
+use Rattle.basics.specs.Members.{Apart}
 use Rattle.shows.specs.WellFormed.{Cue, GoodLink}
 use Rattle.shows.specs.Copies.{Part, partsFrom, Copy, number, meets, copyOf, Sound, IsPart, part-copy}
 use Rattle.shows.proofs.Ranges.{cueAt-join, partsFrom-use, part-use}
@@ -50,10 +50,10 @@ position-named (a ∷ at) c i = go (position-named at c) (List·Memᴰ·cases-co
     go below (inl f) (no n) = absurd (n (sym f))
     go below (inr j) (no n) = rw (eq-else a c 0 (suc (positionOf at c)) n) (let h = below j in omega arith)
 
-pub position-is : (at : List ℕ) (c i : ℕ) → distinct at ≡ true → i < length at → getD at i 0 ≡ c → positionOf at c ≡ i
+pub position-is : (at : List ℕ) (c i : ℕ) → Apart at → i < length at → getD at i 0 ≡ c → positionOf at c ≡ i
 position-is at c i d h e =
     let l : positionOf at c < length at = position-named at c (rw e at (getD-mem at i h)) in
-    distinct-apart at d (positionOf at c) i l h (position-found at c l ∙ sym e)
+    d (positionOf at c) i l h (position-found at c l ∙ sym e)
 
 -- Levels follow the winner, and a step makes them one more.
 pub none-left : (n : ℕ) → betterLevel n 0 ≡ n

@@ -116,7 +116,7 @@ may-lift {xs} {t} {m} {k} {r} g right row =
     record {
       row = row;
       room = omega (arith, right .long, loaded-show g .blocks, row .block);
-      few = joins-small (useAt xs (blocksOf xs) r .block) (loaded-show g .good);
+      few = joins-small (useAt xs (blocksOf xs) r .block) (loaded-show g .small);
       small = λ i j a b.
           omega (arith, level-small xs (loaded-show g .good) _ _ _ _ (right .at (useAt xs (blocksOf xs) r .block) i j (row .lower) a b), row .lower, row .block, loaded-show g .blocks);
     }

@@ -24,7 +24,7 @@ levels-kept {xs} {k = k} g right c =
     record {
       long = c .long ∙ right .long;
       at = λ b i j h x y.
-          let few : joinsOf (blocksOf xs) b ≤ maxJoins = joins-small b (loaded-show g .good) in
+          let few : joinsOf (blocksOf xs) b ≤ maxJoins = joins-small b (loaded-show g .small) in
           rw (c .else b i j (λ e. omega arith) (omega arith) (omega arith)) (right .at b i j h x y);
     }
 
@@ -39,7 +39,7 @@ made {xs} {t} {m} {w} {v} {k} own g h e right fresh c d = (
     below = levels-kept g right c
 
     few : (b : ℕ) → joinsOf (blocksOf xs) b ≤ maxJoins
-    few b = joins-small b (loaded-show g .good)
+    few b = joins-small b (loaded-show g .small)
 
     here : (i j : ℕ) → i < joinsOf (blocksOf xs) k → j < joinsOf (blocksOf xs) k
         → IsLevel xs k (joinCue (ownOf (blocksOf xs) k) i) (joinCue (ownOf (blocksOf xs) k) j) (levelAt v k i j)

@@ -6,6 +6,7 @@ use mathlib.Core.Logic.{_↔_}
 use mathlib.Core.List.{List}
 use lib.ListN.{length, getD}
 use lib.Seq.{getD-take}
+use Rattle.model.specs.Limits.{maxJoins}
 use Rattle.model.specs.Blocks.{Link, Block, blockAt, joinsOf, ownOf, total, blocksOf}
 use Rattle.shows.specs.WellFormed.{Cue}
 use Rattle.basics.proofs.Members.{getD-mem, mem-at}
@@ -26,7 +27,8 @@ use Rattle.lists.proofs.Filled.{gives-append}
 use Rattle.neighbours.proofs.Near.{near-picked, picked-near, join-number, join-cue}
 
 module _ (q : Ask) (bs : List Block) (m : List ℕ) (copy : Frame) (c : ℕ) (s : List ℕ) (tab : RecordsReady q bs m (copy .block) c)
-    (marks : Marks q m (blockAt bs (copy .block)) c s) (cue : Cue (blockAt bs (copy .block)) c) (sound : Sound (framed bs copy)) (low : Low (framed bs copy)) where
+    (marks : Marks q m (blockAt bs (copy .block)) c s) (cue : Cue (blockAt bs (copy .block)) c) (sound : Sound (framed bs copy)) (low : Low (framed bs copy))
+    (few : joinsOf bs (copy .block) ≤ maxJoins) where
   abbrev k : ℕ
   k = copy .block
 
@@ -56,7 +58,7 @@ module _ (q : Ask) (bs : List Block) (m : List ℕ) (copy : Frame) (c : ℕ) (s 
   flag-near : (j : ℕ) → j < joinsOf bs k → (getD s j 0 ≡ 1) ↔ Near q m (blockAt bs k) c (ownOf bs k + 1 + j)
   flag-near j h =
       rw (ownOf-at bs k, ← mark-of-join (blockAt bs k .own) j s)
-      (marks .at (blockAt bs k .own + 1 + j) (omega arith, omega (arith, sound .fit .good .joins, joinsOf-at bs k)))
+      (marks .at (blockAt bs k .own + 1 + j) (omega arith, omega arith))
 
   -- The marked joins meet the linked cues up to base.
   meets-just : MeetsJust q E (number z c) base s (joinsOf bs k) met
@@ -89,17 +91,17 @@ module _ (q : Ask) (bs : List Block) (m : List ℕ) (copy : Frame) (c : ℕ) (s 
           }
 
 pub answered : (q : Ask) (xs m : List ℕ) (z : Frame) (c joins g₁ g : ℕ) (s page p₁ after : List ℕ) → RecordsReady q (blocksOf xs) m (z .block) c
-    → MayAnswer q xs z c page → Marks q m (blockAt (blocksOf xs) (z .block)) c s → joins ≡ joinsOf (blocksOf xs) (z .block)
+    → MayAnswer q xs z c page → Marks q m (blockAt (blocksOf xs) (z .block)) c s → joins ≡ joinsOf (blocksOf xs) (z .block) → joins ≤ maxJoins
     → JoinsDone q s joins (z .met) page 0 p₁ g₁
     → Walked q xs (record { block = z .block; base = z .base; cue = c }) (z .base) p₁ g₁ (total (blocksOf xs) (z .block)) after g → Answered q xs z c page after g
-answered q xs m z c joins g₁ g s page p₁ after tab may marks ej done walked =
+answered q xs m z c joins g₁ g s page p₁ after tab may marks ej few done walked =
     record {
       gives = λ sound low.
           let bs : List Block = blocksOf xs in
           let e : 0 + z .base ≡ z .base = omega arith in
           let v : ℕ = number (framed bs z) c in
           let just : MeetsJust q (linksOf bs z) v (z .base) s joins (z .met) =
-          rw ej (meets-just q bs m z c s tab marks (omega (arith, may .low, may .high, ownOf-at bs (z .block))) sound low) in
+          rw ej (meets-just q bs m z c s tab marks (omega (arith, may .low, may .high, ownOf-at bs (z .block))) sound low (omega arith)) in
           rw (wanted-append q v (linksOf bs z) 0 (z .base) (total bs (z .block)), e)
           (gives-append (q .room) page 0 _ _ p₁ after g₁ g (done .all (linksOf bs z) v (z .base) just) (walked .gives (metOf bs z) sound));
     }

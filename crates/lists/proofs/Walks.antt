@@ -140,7 +140,7 @@ entered-shut q xs y w i page door e = door .shut e page
 module _ (q : Ask) {xs t : List ℕ} (g : Loaded xs t) (y : Inner) (w i : ℕ) (o : UseRow xs (y .block) (y .row)) (door : Door q xs y w i)
     (open-door : i ≡ maxJoins → ⊥) where
   pub door-small : i < maxJoins
-  door-small = omega (arith, door .within open-door, joins-small (usedBy xs y) (loaded-show g .good))
+  door-small = omega (arith, door .within open-door, joins-small (usedBy xs y) (loaded-show g .small))
 
   arity : i < length (useAt xs (blocksOf xs) (y .row) .at)
   arity = omega (arith, o .good .arity, door .within open-door)

@@ -6,7 +6,7 @@ use mathlib.Core.Path.{_≡_, refl, sym, _∙_, ap}
 use mathlib.Core.Logic.{_↔_, _⊎_, inl, inr}
 use mathlib.Core.List.{List, [], List·Memᴰ, List·Memᴰ·append-cases, Memᴰ·append-left}
 use lib.ListN.{length, getD, length-map}
-use Rattle.model.specs.Limits.{maxJoins}
+use Rattle.model.specs.Limits.{maxJoins, maxOwn}
 use Rattle.model.specs.Blocks.{Link, Use, Block, blockAt, joinsOf, ownOf, total}
 use Rattle.model.specs.Unfolding.{renamed, links}
 use Rattle.shows.specs.WellFormed.{Cue, GoodLink}
@@ -210,9 +210,9 @@ same-bit : (m w : List ℕ) (at d : ℕ) → getD w (at + (d - 1) / 8) 0 ≡ get
 unfolding ownBit
 same-bit m w at d e = ap (λ (b : ℕ). bitAt b ((d - 1) % 8)) e
 
-pub exact-same : (q : Ask) (bs : List Block) (m w : List ℕ) (k i : ℕ) → joinsOf bs k ≤ maxJoins
+pub exact-same : (q : Ask) (bs : List Block) (m w : List ℕ) (k i : ℕ) → ownOf bs k ≤ maxOwn → joinsOf bs k ≤ maxJoins
     → ((n : ℕ) → n < recordSize → getD w (recordAt k i + n) 0 ≡ getD m (recordAt k i + n) 0) → Exact q bs m k i → Exact q bs w k i
-exact-same q bs m w k i b s x =
+exact-same q bs m w k i o b s x =
     record {
       across = λ base met g j l. rw (s j (omega arith)) (x .across base met g j l);
       inside = λ base met g f u. x .inside base met g (rw (s insideAt (omega arith)) at f) u;
@@ -223,4 +223,4 @@ exact-same q bs m w k i b s x =
         → getD w (recordAt k i + bitsAt + (d - 1) / 8) 0 ≡ getD m (recordAt k i + bitsAt + (d - 1) / 8) 0
     byte g d z =
         let e : recordAt k i + bitsAt + (d - 1) / 8 ≡ recordAt k i + (bitsAt + (d - 1) / 8) = omega arith in
-        rw e (s (bitsAt + (d - 1) / 8) (omega (arith, g .fit .good .own, ownOf-at bs k)))
+        rw e (s (bitsAt + (d - 1) / 8) (omega arith))

@@ -9,7 +9,7 @@ use lib.ListN.{length, getD, set, length-set, replicate, length-replicate, getD-
 use lib.Seq.{getD-set-same, getD-set-other}
 use Rattle.model.specs.Limits.{maxJoins, maxOwn}
 use Rattle.model.specs.Blocks.{Use, Block, blockAt, joinsOf, ownOf, blocksOf}
-use Rattle.shows.proofs.AtBlock.{joins-small}
+use Rattle.shows.proofs.AtBlock.{joins-small, own-small}
 use Rattle.shows.proofs.BlockAt.{ownOf-at}
 use Rattle.basics.proofs.Choices.{lt-then, lt-else}
 use Rattle.verdicts.specs.Index.{useAt, usesFrom, linksFrom}
@@ -234,7 +234,7 @@ recordMade-now xs t g q k i c own known x m m₁ s w h ek zk eo small ec step co
     bs = blocksOf xs
 
     few : (j : ℕ) → joinsOf bs j ≤ maxJoins
-    few j = joins-small j (loaded-show g .good)
+    few j = joins-small j (loaded-show g .small)
 
     v : List ℕ
     v = set w (recordAt k i + insideAt) x
@@ -309,7 +309,7 @@ recordMade-now xs t g q k i c own known x m m₁ s w h ek zk eo small ec step co
 
     exact-else : (j a : ℕ) → a < joinsOf bs j → Done v j a → (j ≡ k → a ≡ i → ⊥) → Exact q bs v j a
     exact-else j a l d ne =
-        exact-same q bs m₁ v j a (few j) (λ n y. other j a n (omega (arith, few j)) y ne)
+        exact-same q bs m₁ v j a (own-small j (loaded-show g .small)) (few j) (λ n y. other j a n (omega (arith, few j)) y ne)
         (step .ready .table .exact j a l (before j a (omega (arith, few j)) ne d))
 
     exact-all : (j a : ℕ) → a < joinsOf bs j → Done v j a → Dec (j ≡ k) → Dec (a ≡ i) → Exact q bs v j a

@@ -9,9 +9,8 @@ ghost use Rattle.model.specs.Blocks.{blocksOf};
 ghost use Rattle.verdicts.specs.Index.{indexSize};
 ghost use Rattle.printed.specs.Parts.{isGoing, Prints, Stands, Part, TextBegun};
 use blocks::INDEX;
-use model::ReadAnswer;
+use loading::Loading;
 use model::limits::PRINTED_CUES;
-use model::limits::ROW_SIZE;
 use triples::LABEL_PLACES;
 use triples::MARKS;
 
@@ -49,19 +48,18 @@ fn whole(used: usize) -> Begun
     }
 }
 
-// Begins the text of a file. The rows that it has go to the beginning of a list, and their index to an empty table.
+// Begins the text of a file. It is loaded: its rows go to the beginning of a list, and their index to an empty table.
 pub fn begin(file: &[u8], rows: &mut [u32], t: &mut [u32; INDEX], out: &mut [u8; 64]) -> Begun
     requires { ⌜ (now t ≡ replicate indexSize 0) × (maxRows * rowSize ≤ length (now rows)) ⌝ }
     ensures { λ r. ⌜ TextBegun (now (file .entry)) (now (rows .exit)) (now (t .exit)) (now (out .exit)) r ⌝ }
 {
-    match show::read(file, rows) {
-        ReadAnswer::Refused(refusal) => whole(printing::put_refusal(refusal, out)),
-        ReadAnswer::Read(many, _, cues) => {
+    match loading::load(file, rows, t) {
+        Loading::Refused(refusal) => whole(printing::put_refusal(refusal, out)),
+        Loading::Ready(size) => {
+            let cues = blocks::count(&rows[0..size], t);
             if PRINTED_CUES < cues {
                 return whole(printing::put_count(cues, out));
             }
-            let size = wide(many) * ROW_SIZE;
-            verdicts::check(&rows[0..size], t);
             let used = printing::put_links_title(out);
             Begun {
                 used: used,

@@ -18,15 +18,15 @@ ghost use Prim.Native.Nat.{_+_, _*_, _≤_, _<_};
 ghost use mathlib.Core.Logic.{_⊎_};
 ghost use mathlib.Core.Bool.{false};
 ghost use lib.ListN.{length};
-ghost use Rattle.model.specs.Limits.{summarySize, summaryWidth};
+ghost use Rattle.model.specs.Limits.{noChain, summarySize, summaryWidth};
 ghost use Rattle.model.specs.Blocks.{blocksOf, blockAt};
 ghost use Rattle.distances.specs.Walks.{each-one, Linked};
 ghost use Rattle.verdicts.specs.Index.{linkAt};
 ghost use Rattle.blocks.specs.Loaded.{Loaded, IsBlock};
-ghost use Rattle.estimates.specs.Rounds.{Round};
-ghost use Rattle.estimates.specs.Starts.{Nowhere, Meets, Started, estimatesSize};
-ghost use Rattle.relax.specs.Lines.{Least, Line, Lines, Alike};
-ghost use Rattle.relax.specs.Edges.{Mesh, LinkEnds, LinkEdge, UseEdges, BlockEdge, cueCount, SettledOver, Only, SpreadIn};
+ghost use Rattle.searches.specs.Rounds.{Round};
+ghost use Rattle.searches.specs.Starts.{Nowhere, Meets, Started, estimatesSize};
+ghost use Rattle.searches.specs.Lines.{Least, Line, Lines, Alike};
+ghost use Rattle.searches.specs.Edges.{Mesh, LinkEnds, LinkEdge, UseEdges, BlockEdge, cueCount, SettledOver, Only, SpreadIn, MaySettle};
 
 // The lesser of two numbers.
 fn least(a: u32, b: u32) -> u32
@@ -37,7 +37,7 @@ fn least(a: u32, b: u32) -> u32
 
 // The smaller of an estimate y and the sum of an estimate x and a weight w.
 fn lowered(y: u32, x: u32, w: u32) -> u32
-    ensures { λ r. ⌜ Least y x w r ⌝ }
+    ensures { λ r. ⌜ Least noChain y x w r ⌝ }
 {
     let room = NO_CHAIN - x;
     least(y, x + least(w, room))
@@ -46,7 +46,7 @@ fn lowered(y: u32, x: u32, w: u32) -> u32
 // Eight estimates, lowered by an estimate x and the eight weights from place q on.
 fn lower_line(work: &[u32], q: usize, x: u32, e: &mut [u32])
     requires { ⌜ (q + summaryWidth ≤ length (now work)) × (length (now e) ≡ summaryWidth) ⌝ }
-    ensures { λ _. ⌜ Line (now (work .entry)) q x (now (e .entry)) summaryWidth (now (e .exit)) ⌝ }
+    ensures { λ _. ⌜ Line noChain (now (work .entry)) q x (now (e .entry)) summaryWidth (now (e .exit)) ⌝ }
 {
     let mut j = 0;
     while j < SUMMARY_WIDTH {
@@ -58,7 +58,7 @@ fn lower_line(work: &[u32], q: usize, x: u32, e: &mut [u32])
 // The same, where x is an estimate at all.
 fn lower_by(work: &[u32], q: usize, x: u32, e: &mut [u32])
     requires { ⌜ (q + summaryWidth ≤ length (now work)) × (length (now e) ≡ summaryWidth) ⌝ }
-    ensures { λ _. ⌜ Line (now (work .entry)) q x (now (e .entry)) summaryWidth (now (e .exit)) ⌝ }
+    ensures { λ _. ⌜ Line noChain (now (work .entry)) q x (now (e .entry)) summaryWidth (now (e .exit)) ⌝ }
 {
     if x < NO_CHAIN {
         lower_line(work, q, x, e);
@@ -68,7 +68,7 @@ fn lower_by(work: &[u32], q: usize, x: u32, e: &mut [u32])
 // Eight estimates, lowered by the estimates g and the 64 weights from place q on.
 fn lower_lines(work: &[u32], q: usize, g: &[u32], e: &mut [u32])
     requires { ⌜ (q + summarySize ≤ length (now work)) × (length (now g) ≡ summaryWidth) × (length (now e) ≡ summaryWidth) ⌝ }
-    ensures { λ _. ⌜ Lines (now (work .entry)) q (now (g .entry)) (now (e .entry)) summaryWidth (now (e .exit)) ⌝ }
+    ensures { λ _. ⌜ Lines noChain summaryWidth (now (work .entry)) q (now (g .entry)) (now (e .entry)) summaryWidth (now (e .exit)) ⌝ }
 {
     let mut i = 0;
     while i < SUMMARY_WIDTH {
@@ -147,7 +147,7 @@ fn relax_use(xs: &[u32], work: &[u32], r: usize, q: usize, m: usize, d: &mut [u3
 // The link of row r, if it is followed: a note is not.
 fn relax_link(xs: &[u32], r: usize, d: &mut [u32]) -> bool
     requires { ⌜ LinkEnds (now xs) r (length (now d)) ⌝ }
-    ensures { λ c. ⌜ Round (LinkEdge (linkAt (now (xs .entry)) r)) (now (d .entry)) c (now (d .exit)) ⌝ }
+    ensures { λ c. ⌜ Round (LinkEdge each-one (linkAt (now (xs .entry)) r)) (now (d .entry)) c (now (d .exit)) ⌝ }
 {
     if MAX_FOLLOWED < blocks::label(xs, r) {
         return false;
@@ -175,8 +175,7 @@ fn relax_links(xs: &[u32], t: &[u32; blocks::INDEX], k: usize, d: &mut [u32]) ->
 
 // The uses of block k, by the summaries of the blocks that they name.
 fn relax_uses(xs: &[u32], t: &[u32; blocks::INDEX], work: &[u32], k: usize, d: &mut [u32]) -> bool
-    requires { ⌜ Loaded (now xs) (now t) × IsBlock (now xs) k × (summarySize * k ≤ length (now work))
-        × (length (now d) ≡ estimatesSize) ⌝ }
+    requires { ⌜ MaySettle (now xs) (now t) k (now work) (now d) ⌝ }
     ensures { λ c. ⌜ Round (UseEdges (blocksOf (now (xs .entry))) (now (work .entry)) (blockAt (blocksOf (now (xs .entry))) k .uses)) (now
         (d .entry)) c (now (d .exit)) ⌝ }
 {
@@ -195,9 +194,8 @@ fn relax_uses(xs: &[u32], t: &[u32; blocks::INDEX], work: &[u32], k: usize, d: &
 
 // All edges of block k, each once.
 fn relax_block(xs: &[u32], t: &[u32; blocks::INDEX], work: &[u32], k: usize, d: &mut [u32]) -> bool
-    requires { ⌜ Loaded (now xs) (now t) × IsBlock (now xs) k × (summarySize * k ≤ length (now work))
-        × (length (now d) ≡ estimatesSize) ⌝ }
-    ensures { λ c. ⌜ Round (BlockEdge (blocksOf (now (xs .entry))) (now (work .entry)) k) (now (d .entry)) c (now (d .exit)) ⌝ }
+    requires { ⌜ MaySettle (now xs) (now t) k (now work) (now d) ⌝ }
+    ensures { λ c. ⌜ Round (BlockEdge each-one (blocksOf (now (xs .entry))) (now (work .entry)) k) (now (d .entry)) c (now (d .exit)) ⌝ }
 {
     let a = relax_links(xs, t, k, d);
     let c = relax_uses(xs, t, work, k, d);
@@ -206,9 +204,8 @@ fn relax_block(xs: &[u32], t: &[u32; blocks::INDEX], work: &[u32], k: usize, d: 
 
 // Estimates of block k until a whole round changes nothing.
 pub fn settle(xs: &[u32], t: &[u32; blocks::INDEX], work: &[u32], k: usize, d: &mut [u32])
-    requires { ⌜ Loaded (now xs) (now t) × IsBlock (now xs) k × (summarySize * k ≤ length (now work))
-        × (length (now d) ≡ estimatesSize) ⌝ }
-    ensures { λ _. ⌜ SettledOver (BlockEdge (blocksOf (now (xs .entry))) (now (work .entry)) k) (now (d .entry)) (now (d .exit)) ⌝ }
+    requires { ⌜ MaySettle (now xs) (now t) k (now work) (now d) ⌝ }
+    ensures { λ _. ⌜ SettledOver (BlockEdge each-one (blocksOf (now (xs .entry))) (now (work .entry)) k) (now (d .entry)) (now (d .exit)) ⌝ }
 {
     loop {
         let more = relax_block(xs, t, work, k, d);
@@ -221,7 +218,7 @@ pub fn settle(xs: &[u32], t: &[u32; blocks::INDEX], work: &[u32], k: usize, d: &
 // No estimate yet at the cues of block k.
 pub fn clear_block(xs: &[u32], t: &[u32; blocks::INDEX], k: usize, d: &mut [u32])
     requires { ⌜ Loaded (now xs) (now t) × IsBlock (now xs) k × (length (now d) ≡ estimatesSize) ⌝ }
-    ensures { λ _. ⌜ Started (cueCount (blocksOf (now (xs .entry))) k) Nowhere (now (d .exit)) ⌝ }
+    ensures { λ _. ⌜ Started noChain (cueCount (blocksOf (now (xs .entry))) k) Nowhere (now (d .exit)) ⌝ }
 {
     let own = blocks::wide(blocks::own(xs, t, k));
     clear(d, own + blocks::joins(xs, t, k));
@@ -236,9 +233,8 @@ pub fn from_cue(
     c: usize,
     d: &mut [u32],
 )
-    requires { ⌜ Loaded (now xs) (now t) × IsBlock (now xs) k × (summarySize * k ≤ length (now work))
-        × (length (now d) ≡ estimatesSize) × (c ≤ cueCount (blocksOf (now xs)) k) ⌝ }
-    ensures { λ _. ⌜ SpreadIn (blocksOf (now (xs .entry))) (now (work .entry)) k
+    requires { ⌜ MaySettle (now xs) (now t) k (now work) (now d) × (c ≤ cueCount (blocksOf (now xs)) k) ⌝ }
+    ensures { λ _. ⌜ SpreadIn noChain each-one (blocksOf (now (xs .entry))) (now (work .entry)) k
         (Only c) (now (d .exit)) ⌝ }
 {
     clear_block(xs, t, k, d);

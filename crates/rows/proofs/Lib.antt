@@ -1,2 +1,2 @@
--- The laws of numbers that are copied and moved.
+-- The laws of numbers that are copied.
 pub mod Copying

@@ -1,8 +1,8 @@
-// Numbers put into a list of rows: `copy` to its beginning, `set_row` at a row, `move_up` to make room before them.
+// Numbers put into a list of rows: `copy` to its beginning, `set_row` at a row.
 use model::limits::ROW_SIZE;
 ghost use mathlib.Core.Path.{_≡_};
 ghost use Prim.Native.Nat.{_+_, _*_, _≤_};
-ghost use lib.ListN.{length, take, drop};
+ghost use lib.ListN.{length};
 ghost use lib.Seq.{sets};
 ghost use Rattle.model.specs.Limits.{rowSize};
 ghost use Rattle.model.specs.Lists.{overwrite};
@@ -27,16 +27,4 @@ pub fn set_row(row: &[u32], r: usize, numbers: &mut [u32])
     let a = r * ROW_SIZE;
     let e = a + ROW_SIZE;
     copy(row, &mut numbers[a..e]);
-}
-
-// The first n numbers moved up by so many places. What stands before and behind them afterwards is left open.
-pub fn move_up(numbers: &mut [u32], n: usize, by: usize)
-    requires { ⌜ n + by ≤ length (now numbers) ⌝ }
-    ensures { λ _. ⌜ take n (drop by (now (numbers .exit))) ≡ take n (now (numbers .entry)) ⌝ }
-{
-    let mut i = n;
-    while 0 < i {
-        i -= 1;
-        numbers[i + by] = numbers[i];
-    }
 }

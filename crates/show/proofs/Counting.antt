@@ -9,7 +9,7 @@ use Rattle.model.specs.declared.Verdict.{Verdict}
 use Rattle.model.specs.declared.Verdict.the-variants.{Accepted}
 use Rattle.model.specs.declared.CountAnswer.the-variants.{Cues}
 use Rattle.verdicts.specs.Passing.{IsChecked}
-use Rattle.answers.proofs.Outcomes.{asked-yes}
+use Rattle.loading.proofs.Checked.{asked-yes}
 
 pub count-yes : (xs t : List ℕ) (v : Verdict) (c : IsChecked xs t v) (n : ℕ) → v ≡ Accepted → n ≡ count (blocksOf xs) → ofCount (Cues n) ≡ countAsked xs
 unfolding ofCount countAsked

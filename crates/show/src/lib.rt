@@ -7,21 +7,17 @@ ghost use Rattle.model.specs.Questions.{outcome};
 ghost use Rattle.model.specs.Asking.{AsksRead, AsksDeskRead, AsksWrite, AsksCount, AsksLocate, AsksNumber, AsksOut, AsksIn, AsksRow, AsksFewest};
 ghost use Rattle.answers.specs.Asked.{listAsked};
 use blocks::INDEX;
-use codec::Parsed;
+use loading::Loading;
 use model::CountAnswer;
 use model::FewestAnswer;
 use model::ListAnswer;
 use model::LocateAnswer;
 use model::NumberAnswer;
 use model::ReadAnswer;
-use model::Refusal;
 use model::RowAnswer;
 use model::Verdict;
 use model::WriteAnswer;
-use model::limits::DESK_ROWS;
-use model::limits::MAX_ROWS;
 use model::limits::ROOM;
-use model::limits::ROW_SIZE;
 
 // The count of cues.
 pub fn count(rows: &[u32]) -> CountAnswer
@@ -61,18 +57,10 @@ pub fn read(file: &[u8], rows: &mut [u32]) -> ReadAnswer
     ensures { λ r. ⌜ AsksRead (now (file .entry)) (now (rows .entry)) r (now (rows .exit)) ⌝ }
 {
     let mut numbers = [0u32; ROOM];
-    match codec::parse(file, &mut numbers) {
-        Parsed::Refused(refusal) => ReadAnswer::Refused(refusal),
-        Parsed::Rows(many) => {
-            if MAX_ROWS < many {
-                return ReadAnswer::Refused(Refusal {
-                    number: 4,
-                    place: 0,
-                });
-            }
-            let end = many * ROW_SIZE;
-            answers::read_rows(&numbers[0..end], rows)
-        }
+    let mut table = [0u32; INDEX];
+    match loading::load(file, &mut numbers, &mut table) {
+        Loading::Ready(end) => answers::read_in(&numbers[0..end], &table, rows),
+        Loading::Refused(refusal) => ReadAnswer::Refused(refusal),
     }
 }
 
@@ -81,20 +69,10 @@ pub fn read_desk(file: &[u8], rows: &mut [u32]) -> ReadAnswer
     ensures { λ r. ⌜ AsksDeskRead (now (file .entry)) (now (rows .entry)) r (now (rows .exit)) ⌝ }
 {
     let mut numbers = [0u32; ROOM];
-    match codec::parse(file, &mut numbers) {
-        Parsed::Refused(refusal) => ReadAnswer::Refused(refusal),
-        Parsed::Rows(many) => {
-            let fits = desk::fits(many);
-            if !fits {
-                return ReadAnswer::Refused(Refusal {
-                    number: 4,
-                    place: 0,
-                });
-            }
-            desk::put_before(&mut numbers, many);
-            let end = (DESK_ROWS + many) * ROW_SIZE;
-            answers::read_desk_rows(&numbers[0..end], rows)
-        }
+    let mut table = [0u32; INDEX];
+    match loading::load_desk(file, &mut numbers, &mut table) {
+        Loading::Ready(end) => answers::read_in(&numbers[0..end], &table, rows),
+        Loading::Refused(refusal) => ReadAnswer::Refused(refusal),
     }
 }
 

@@ -9,7 +9,7 @@ use mathlib.Core.List.{List, [], _∷_, List·Memᴰ, List·Memᴰ·head, List·
 use lib.ListN.{length, getD, take, drop, take-append-drop, List·getD-eq-default}
 use borrow.Author.Tests.{ne-eqb}
 use Rattle.model.specs.Choice.{ifEq}
-use Rattle.model.specs.Limits.{rowSize, maxRows, maxJoins, maxOwn, maxLabel, maxTotal}
+use Rattle.model.specs.Limits.{rowSize, maxRows, maxJoins, maxOwn, maxLabel, maxTotal, noChain}
 use Rattle.model.specs.Rows.{Row, cell, rowAt, rowsFrom, rowCount, rowsOf, rowValues}
 use Rattle.model.specs.Rules.{Seen, start, cuesIn, columnsUsed, named, isCue, isZero, labelFits, ownFits, fault, after}
 use Rattle.model.specs.Blocks.{Link, Use, Block, joinsOf, ownOf, addLink, addUse, addRow, addRows, blocksOf, total, lastBlock}
@@ -26,7 +26,7 @@ use Rattle.model.specs.Verdicts.{
 }
 use Rattle.model.specs.declared.Verdict.{Verdict}
 use Rattle.model.specs.declared.Verdict.the-variants.{Accepted, Refused}
-use Rattle.shows.specs.WellFormed.{Good, none, more}
+use Rattle.shows.specs.WellFormed.{Small, small-none, small-more}
 use Rattle.shows.specs.Accepted.{Show}
 use Rattle.shows.proofs.AtBlock.{joins-small}
 use Rattle.basics.proofs.Members.{every-mem}
@@ -54,14 +54,14 @@ counted xs e =
     (a, b, c)
 
 -- The blocks so far have few own cues and joins, so the current block has few cues.
-own-small : {bs : List Block} → Good bs → ownNow bs ≤ maxOwn
-own-small none = omega arith
-own-small (more g gs) = g .own
+now-small : {bs : List Block} → Small bs → ownNow bs ≤ maxOwn
+now-small small-none = omega arith
+now-small (small-more j o gs) = o
 
 cues-small : (s : Seen) (bs : List Block) → Tracks s bs → cuesIn s ≤ 263
 unfolding cuesIn
 cues-small s bs t =
-    omega (arith, t .own, own-small (t .good), t .joins (length (s .joins) - 1), joins-small (length (s .joins) - 1) (t .good))
+    omega (arith, t .own, now-small (t .small), t .joins (length (s .joins) - 1), joins-small (length (s .joins) - 1) (t .small))
 
 is-zero : (x : ℕ) → isZero x ≡ true → x ≡ 0
 unfolding isZero
@@ -349,9 +349,14 @@ accepted-show xs e =
       rows = (counted xs (p .count) .1, counted xs (p .count) .2);
       values = values-small xs p;
       good = t .good;
+      small = t .small;
       blocks = (blocks-some xs p, t .few);
       no-joins = last-block xs p .0;
       own = last-block xs p .1;
       joins = λ k h. other-stands (blocksOf xs) k (λ q. omega arith) (stands xs p k (omega arith));
       totals = totals-small xs p;
     }
+
+-- Its blocks have few cues and joins each, so a number of four bytes counts them.
+pub cues-fit : {xs : List ℕ} → Show xs → (k : ℕ) → total (blocksOf xs) k + joinsOf (blocksOf xs) k ≤ noChain
+cues-fit show k = omega (arith, show .totals k, joins-small k (show .small))

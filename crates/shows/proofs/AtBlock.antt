@@ -11,11 +11,11 @@ use lib.ListN.{length}
 use lib.Dec.{eqb}
 use borrow.Author.Tests.{eq-eqb, ne-eqb}
 use Rattle.model.specs.Choice.{ifLt}
-use Rattle.model.specs.Limits.{maxJoins}
+use Rattle.model.specs.Limits.{maxJoins, maxOwn}
 use Rattle.model.specs.Blocks.{Block, noBlock, blockAt, joinsOf, ownOf, sumOver, total}
 use Rattle.model.specs.Unfolding.{cueAt, renamed, usesLinks, links}
 use Rattle.model.specs.Paths.{copyNumber, numberIn, usesPlace, placeIn}
-use Rattle.shows.specs.WellFormed.{Good, none, more}
+use Rattle.shows.specs.WellFormed.{Small, small-none, small-more}
 
 module _ (b : Block) (earlier : List Block) (k : ℕ) where
   pub blockAt-hit : eqb k (length earlier) ≡ true → blockAt (b ∷ earlier) k ≡ b
@@ -96,10 +96,23 @@ unfolding joinsOf blockAt noBlock
 joins-beyond [] k h = refl
 joins-beyond (b ∷ earlier) k h = joins-skip b earlier k (λ e. omega arith) ∙ joins-beyond earlier k (omega arith)
 
-pub joins-small : {bs : List Block} (k : ℕ) → Good bs → joinsOf bs k ≤ maxJoins
-joins-small k none = let e : joinsOf [] k ≡ 0 = joins-beyond [] k (omega arith) in omega arith
-joins-small k (more {b = b} {earlier = earlier} g gs) = go (joins-small k gs) (ℕ-discrete k (length earlier))
+-- The first of small blocks.
+pub head-small : {b : Block} {earlier : List Block} → Small (b ∷ earlier) → (b .own ≤ maxOwn) × (b .joins ≤ maxJoins)
+head-small (small-more j o gs) = (o, j)
+
+pub joins-small : {bs : List Block} (k : ℕ) → Small bs → joinsOf bs k ≤ maxJoins
+joins-small k small-none = let e : joinsOf [] k ≡ 0 = joins-beyond [] k (omega arith) in omega arith
+joins-small k (small-more {b = b} {earlier = earlier} j o gs) = go (joins-small k gs) (ℕ-discrete k (length earlier))
   where
     go : joinsOf earlier k ≤ maxJoins → Dec (k ≡ length earlier) → joinsOf (b ∷ earlier) k ≤ maxJoins
-    go below (yes e) = rw (joins-hit b earlier k e) (g .joins)
+    go below (yes e) = rw (joins-hit b earlier k e) j
     go below (no n) = rw (joins-skip b earlier k n) below
+
+pub own-small : {bs : List Block} (k : ℕ) → Small bs → ownOf bs k ≤ maxOwn
+unfolding ownOf blockAt noBlock
+own-small k small-none = omega arith
+own-small k (small-more {b = b} {earlier = earlier} j o gs) = go (own-small k gs) (ℕ-discrete k (length earlier))
+  where
+    go : ownOf earlier k ≤ maxOwn → Dec (k ≡ length earlier) → ownOf (b ∷ earlier) k ≤ maxOwn
+    go below (yes e) = rw (ownOf-hit b earlier k (eq-eqb k (length earlier) e)) o
+    go below (no n) = rw (ownOf-skip b earlier k (ne-eqb k (length earlier) n)) below

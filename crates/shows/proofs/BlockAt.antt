@@ -56,13 +56,13 @@ module _ (b : Block) (earlier : List Block) where
       }
 
   block-more : {c : Block} → GoodBlock earlier c → GoodBlock (b ∷ earlier) c
-  block-more g = record { joins = g .joins; own = g .own; links = g .links; uses = λ u i. use-more (g .uses u i) }
+  block-more g = record { links = g .links; uses = λ u i. use-more (g .uses u i) }
 
 -- Every block is well formed among all of them, and its uses name lower blocks.
 pub good-at : (bs : List Block) → Good bs → (k : ℕ) → GoodBlock bs (blockAt bs k)
 unfolding blockAt noBlock
 good-at [] good k =
-    record { joins = omega arith; own = omega arith; links = λ l i. absurd (List·Memᴰ·not-nil i); uses = λ u i. absurd (List·Memᴰ·not-nil i) }
+    record { links = λ l i. absurd (List·Memᴰ·not-nil i); uses = λ u i. absurd (List·Memᴰ·not-nil i) }
 good-at (b ∷ earlier) (more ok good) k = go (good-at earlier good k) (eqb k (length earlier)) refl
   where
     go : GoodBlock earlier (blockAt earlier k) → (t : Bool) → eqb k (length earlier) ≡ t → GoodBlock (b ∷ earlier) (blockAt (b ∷ earlier) k)

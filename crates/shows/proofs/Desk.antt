@@ -16,7 +16,7 @@ use Rattle.model.specs.Rules.{Seen, start, fault, after}
 use Rattle.model.specs.Blocks.{Link, Use, Block, joinsOf, addLink, addUse, addRow, addRows, blocksOf, total}
 use Rattle.model.specs.Unfolding.{links}
 use Rattle.model.specs.Lists.{range}
-use Rattle.model.specs.Summaries.{blockLinks, summary}
+use Rattle.model.specs.Summaries.{Search, blockLinks, summaryBy}
 use Rattle.model.specs.Verdicts.{refused, checkRows, openingRows, checkBlocks, mayStand, totalFits, verdict}
 use Rattle.model.specs.Desk.{builtIn, builtInNumbers, withDesk, checkOwn, checkFirst}
 use Rattle.model.specs.declared.Refusal.{Refusal}
@@ -94,9 +94,9 @@ module _ (bs : List Block) (k : ℕ) (h : k < length bs) where
   links-behind [] base met = refl
   links-behind (b ∷ front) base met = links-skip b (front ++ bs) k base met (behind-skip front bs k h) ∙ links-behind front base met
 
-  summary-behind : (front : List Block) (i j : ℕ) → summary (front ++ bs) k i j ≡ summary bs k i j
-  unfolding summary blockLinks
-  summary-behind front i j =
+  summary-behind : (find : Search) (front : List Block) (i j : ℕ) → summaryBy find (front ++ bs) k i j ≡ summaryBy find bs k i j
+  unfolding summaryBy blockLinks
+  summary-behind find front i j =
       rw (joins-behind front, total-behind front, links-behind front 0 (range (suc (total bs k)) (joinsOf bs k))) refl
 
 -- Rows that open a block first leave the blocks before them behind the new ones.
@@ -202,10 +202,11 @@ module _ (xs : List ℕ) (own : checkOwn xs ≡ Accepted) (first : checkFirst (r
       rw (with-rows xs, rows-after [] builtIn (rowsFrom xs 0 (rowCount xs)), e)
       (front-first (addRows [] builtIn) (rowAt xs 0) vs (desk-first (rowAt xs 0) first .0))
 
-  pub desk-summary : (k i j : ℕ) → k < deskBlocks → summary (blocksOf (withDesk xs)) k i j ≡ summary (blocksOf builtInNumbers) k i j
-  desk-summary k i j h =
+  pub desk-summary : (find : Search) (k i j : ℕ) → k < deskBlocks
+      → summaryBy find (blocksOf (withDesk xs)) k i j ≡ summaryBy find (blocksOf builtInNumbers) k i j
+  desk-summary find k i j h =
       let f : NewFirst (addRows [] builtIn) (blocksOf (withDesk xs)) = own-front in
-      rw (f .all, table-blocks) (summary-behind (addRows [] builtIn) k (omega (arith, table-count)) (f .new ∷ f .others) i j)
+      rw (f .all, table-blocks) (summary-behind (addRows [] builtIn) k (omega (arith, table-count)) find (f .new ∷ f .others) i j)
 
   pub desk-blocks : deskBlocks < length (blocksOf (withDesk xs))
   desk-blocks =

@@ -39,7 +39,7 @@ use Rattle.model.specs.Rules.{
 use Rattle.model.specs.Blocks.{Link, Block, noBlock, blockAt, joinsOf, addLink, addUse, addRow, addRows, blocksOf, sumOver, total}
 use Rattle.model.specs.Unfolding.{cueAt, renamed, usesLinks, links}
 use Rattle.model.specs.Chains.{followed, isIn, successors, searchFrom, fewest}
-use Rattle.model.specs.Summaries.{blockLinks, orNone, summary}
+use Rattle.model.specs.Summaries.{blockLinks, orNone, summary, summaryBy}
 use Rattle.model.specs.Verdicts.{checkRows, openingRows}
 use Rattle.model.specs.Desk.{plainOpening, plainLink, plainRun, builtIn, builtInNumbers, withDesk}
 use Rattle.model.specs.declared.Verdict.{Verdict}
@@ -152,7 +152,7 @@ isRight : List Row → ℕ → Bool
 isRight ws n = ifTrue (accepts (checkRows start 1 ws)) (every (isCrossed (addRows [] ws)) (range 0 n)) false
 
 table-right : isRight builtIn deskBlocks ≡ true
-unfolding isRight accepts isCrossed every ifEq ifLt ifTrue builtIn flatMap range plainRun plainOpening plainLink checkRows start fault after mayFollow mayOpen goesOn inRange labelFits ownFits isCue cuesIn named columnsUsed isZero distinct differs inOrder isBelow linkKey useKey noBlock blockAt joinsOf addLink addUse addRow addRows sumOver total cueAt renamed usesLinks links followed isIn successors searchFrom fewest blockLinks orNone summary
+unfolding isRight accepts isCrossed every ifEq ifLt ifTrue builtIn flatMap range plainRun plainOpening plainLink checkRows start fault after mayFollow mayOpen goesOn inRange labelFits ownFits isCue cuesIn named columnsUsed isZero distinct differs inOrder isBelow linkKey useKey noBlock blockAt joinsOf addLink addUse addRow addRows sumOver total cueAt renamed usesLinks links followed isIn successors searchFrom fewest blockLinks orNone summaryBy
 table-right = refl
 
 -- The rule at the rows: they pass.

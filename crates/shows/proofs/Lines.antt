@@ -1,17 +1,18 @@
 -- Lines: a line is read to some values just where it spells them, no text of them is shorter than the one that is written, and a file is its
 -- lines.
-use Prim.Native.Nat.{ℕ, suc, _+_, _*_, _≤_}
+use Prim.Native.Nat.{ℕ, zero, suc, _+_, _*_, _≤_}
 use mathlib.Core.Path.{_≡_, refl, _∙_, ap}
 use mathlib.Core.List.{List, [], _∷_, _++_, flatten}
 use native.Mathlib.Omega.{arith}
 use native.Mathlib.Decide.{ℕ-discrete}
 use lib.ListN.{length, length-append, take}
 use Rattle.model.specs.Choice.{ifLt}
+use Rattle.model.specs.Limits.{rowSize}
 use Rattle.model.specs.Values.{digitZero, isDigit, run, afterRun, digits}
-use Rattle.model.specs.Text.{lineFeed, names, ends, LineValues, Values, Malformed, valueThen, endedBy, valuesOf, intoFirst, linesOf, lineText}
+use Rattle.model.specs.Text.{comma, lineFeed, names, ends, LineValues, Values, Malformed, valueThen, endedBy, valuesOf, intoFirst, linesOf, lineText}
 use Rattle.basics.specs.Members.{Each}
 use Rattle.basics.specs.Values.{shown, SpellsValue, Small, Other}
-use Rattle.shows.specs.Files.{SpellsLine, no-value, value-then, Plain, OneLine, ended, longer}
+use Rattle.shows.specs.Files.{SpellsLine, no-value, value-then, endsOf, Plain, OneLine, ended, longer}
 use Rattle.basics.proofs.Choices.{eq-then, eq-else, true-then, eq-first, true-first}
 use Rattle.basics.proofs.Digits.{spelled-read, read-spelled, digits-spell, digits-shortest, digits-three}
 
@@ -115,13 +116,30 @@ pub names-line : OneLine names
 unfolding names
 names-line = line-behind (take 32 names) (omega arith) ended
 
+-- For any count of values, and for the eleven of a row.
+pub endsOf-line : (n : ℕ) → OneLine (endsOf (suc n))
+unfolding endsOf
+endsOf-line zero = ended
+endsOf-line (suc n) = longer plain (endsOf-line n)
+  where
+    plain : Plain comma
+    plain e = omega arith
+
+pub endsOf-other : (n : ℕ) → Each Other (endsOf n)
+unfolding endsOf isDigit ifLt
+endsOf-other zero = tt
+endsOf-other (suc zero) = (refl, tt)
+endsOf-other (suc (suc n)) = (refl, endsOf-other (suc n))
+
+pub ends-are : ends ≡ endsOf rowSize
+unfolding ends endsOf
+ends-are = refl
+
 pub ends-line : OneLine ends
-unfolding ends
-ends-line = line-behind (take 10 ends) (omega arith) ended
+ends-line = rw ends-are (endsOf-line 10)
 
 pub ends-other : Each Other ends
-unfolding ends isDigit ifLt
-ends-other = (refl, (refl, (refl, (refl, (refl, (refl, (refl, (refl, (refl, (refl, (refl, tt)))))))))))
+ends-other = rw ends-are (endsOf-other rowSize)
 
 -- No digit is a line feed.
 shown-plain : (ds : List ℕ) → Each Plain (shown ds)

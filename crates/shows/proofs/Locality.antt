@@ -23,7 +23,7 @@ use Rattle.model.specs.Unfolding.{cueAt, links, showLinks}
 use Rattle.model.specs.Lists.{range}
 use Rattle.model.specs.Summaries.{blockLinks}
 use Rattle.shows.specs.WellFormed.{Cue, GoodUse, Good}
-use Rattle.basics.proofs.Members.{getD-mem, getD-map-in, range-length, range-bounds, range-apart, distinct-apart}
+use Rattle.basics.proofs.Members.{getD-mem, getD-map-in, range-length, range-bounds, range-apart}
 use Rattle.basics.specs.Members.{Apart}
 use Rattle.shows.proofs.Ranges.{Within, inner, join, partsFrom-apart, Inside, uses-copy, copy-uses, links-within, Own, own-own, meets-own, part-use, arity, part-range, cueAt-own, cueAt-join}
 use Rattle.shows.specs.Copies.{Part, partsFrom, Copy, number, own-links, part-links, all-links, extent, meets, size, copyOf, Clear, Sound, IsPart, InCopy, part-copy, show-copy, Low}
@@ -121,7 +121,7 @@ module _ {z : Copy} (g : Sound z) where
       let n : length (meets z p) ≡ length (p .of .at) = length-map (p .of .at) (number z) in
       let c : ℕ = getD (p .of .at) a 0 in
       let d : ℕ = getD (p .of .at) b 0 in
-      distinct-apart (p .of .at) (u .apart) a b (omega arith) (omega arith)
+      u .apart a b (omega arith) (omega arith)
       (number-apart c d (u .cues c (getD-mem (p .of .at) a (omega arith))) (u .cues d (getD-mem (p .of .at) b (omega arith)))
       (sym (getD-map-in (number z) (p .of .at) a (omega arith)) ∙ e ∙ getD-map-in (number z) (p .of .at) b (omega arith)))
 

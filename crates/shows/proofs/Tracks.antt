@@ -13,8 +13,8 @@ use Rattle.model.specs.Limits.{maxJoins, maxOwn, maxLabel, maxBlocks}
 use Rattle.model.specs.Rows.{Row}
 use Rattle.model.specs.Rules.{Seen, start, cuesIn, columnsUsed, named, every, isCue, labelFits, ownFits, differs, distinct, fault, after}
 use Rattle.model.specs.Blocks.{Link, Use, Block, joinsOf, addLink, addUse, addRow}
-use Rattle.shows.specs.WellFormed.{Cue, GoodLink, GoodUse, GoodBlock, Good, none, more}
-use Rattle.basics.proofs.Members.{getD-mem, every-mem}
+use Rattle.shows.specs.WellFormed.{Cue, GoodLink, GoodUse, GoodBlock, Good, none, more, Small, small-none, small-more}
+use Rattle.basics.proofs.Members.{getD-mem, every-mem, distinct-apart}
 use Rattle.shows.proofs.AtBlock.{joins-hit, joins-skip, joins-beyond, joins-small}
 use Rattle.basics.proofs.Choices.{eq-then, eq-else, passed, passed-lt, passed-not-lt, passed-not-eq}
 use Rattle.shows.proofs.Passed.{Passed, faultless, isCue-bounds, Kind, opens, links, uses, kind-of, Fits, fits-of}
@@ -49,11 +49,12 @@ pub record Tracks (s : Seen) (bs : List Block) : Type 0 where
   pub joins : (k : ℕ) → getD (s .joins) k 0 ≡ joinsOf bs k
   pub own : s .own ≡ ownNow bs
   pub good : Good bs
+  pub small : Small bs
   pub few : length bs ≤ maxBlocks
 
 pub tracks-start : Tracks start []
 unfolding start
-tracks-start = record { count = refl; joins = λ k. sym (joins-beyond [] k (omega arith)); own = refl; good = none; few = omega arith }
+tracks-start = record { count = refl; joins = λ k. sym (joins-beyond [] k (omega arith)); own = refl; good = none; small = small-none; few = omega arith }
 
 -- The cues of the current block.
 cues-now : (s : Seen) (b : Block) (earlier : List Block) → Tracks s (b ∷ earlier) → cuesIn s ≡ b .own + b .joins
@@ -78,12 +79,17 @@ module _ (s : Seen) (w : Row) (eight : length (w .columns) ≡ 8) (p : Passed s 
   opened : Block
   opened = record { joins = w .label; own = getD (w .columns) 0 0; links = []; uses = [] }
 
+  opened-small : w .kind ≡ 0 → (opened .joins ≤ maxJoins) × (opened .own ≤ maxOwn)
+  unfolding fits labelFits ownFits opened
+  opened-small q = (
+    passed-not-lt maxJoins (w .label) true (rw (eq-then (w .kind) 0 _ _ q) at (fits .label)) .0,
+    passed-not-lt maxOwn (getD (w .columns) 0 0) true (rw (eq-then (w .kind) 0 _ _ q) at (fits .own)) .0,
+  )
+
   opened-good : w .kind ≡ 0 → (bs : List Block) → GoodBlock bs opened
   unfolding fits labelFits ownFits opened
   opened-good q bs =
       record {
-        joins = passed-not-lt maxJoins (w .label) true (rw (eq-then (w .kind) 0 _ _ q) at (fits .label)) .0;
-        own = passed-not-lt maxOwn (getD (w .columns) 0 0) true (rw (eq-then (w .kind) 0 _ _ q) at (fits .own)) .0;
         links = λ l i. absurd (List·Memᴰ·not-nil i);
         uses = λ u i. absurd (List·Memᴰ·not-nil i);
       }
@@ -97,6 +103,7 @@ module _ (s : Seen) (w : Row) (eight : length (w .columns) ≡ 8) (p : Passed s 
         joins = λ k. at k (ℕ-discrete k (length bs));
         own = refl;
         good = more (opened-good q bs) (t .good);
+        small = small-more (opened-small q .0) (opened-small q .1) (t .small);
         few = omega (arith, t .count);
       }
     where
@@ -116,10 +123,17 @@ module _ (s : Seen) (w : Row) (eight : length (w .columns) ≡ 8) (p : Passed s 
         go (yes q) = joins-hit b earlier k q ∙ sym (joins-hit c earlier k q ∙ e)
         go (no n) = joins-skip b earlier k n ∙ sym (joins-skip c earlier k n)
 
-    kept : (c : Block) → c .joins ≡ b .joins → c .own ≡ b .own → GoodBlock earlier c → Good earlier
+    kept : (c : Block) → c .joins ≡ b .joins → c .own ≡ b .own → GoodBlock earlier c → Good earlier → Small (b ∷ earlier)
         → Tracks (record { joins = s .joins; own = s .own; before = w }) (c ∷ earlier)
-    kept c e o g gs =
-        record { count = t .count; joins = same-joins c e; own = t .own ∙ sym o; good = more g gs; few = t .few }
+    kept c e o g gs (small-more x y z) =
+        record {
+          count = t .count;
+          joins = same-joins c e;
+          own = t .own ∙ sym o;
+          good = more g gs;
+          small = small-more {b = c} (rw e x) (rw o y) z;
+          few = t .few;
+        }
 
     with-link : Link → Block
     with-link l = record { joins = b .joins; own = b .own; links = b .links ++ (l ∷ []); uses = b .uses }
@@ -131,8 +145,6 @@ module _ (s : Seen) (w : Row) (eight : length (w .columns) ≡ 8) (p : Passed s 
     unfolding with-link
     link-good l h g =
         record {
-          joins = g .joins;
-          own = g .own;
           links = λ m i. pick m (List·Memᴰ·append-cases (b .links) i);
           uses = λ u i. let v : GoodUse earlier b u = g .uses u i in record { lower = v .lower; arity = v .arity; cues = v .cues; apart = v .apart };
         }
@@ -148,8 +160,6 @@ module _ (s : Seen) (w : Row) (eight : length (w .columns) ≡ 8) (p : Passed s 
     unfolding with-use
     use-good u h g =
         record {
-          joins = g .joins;
-          own = g .own;
           links = λ m i. let v : GoodLink b m = g .links m i in record { from = v .from; to = v .to; apart = v .apart; label = v .label };
           uses = λ v i. pick v (List·Memᴰ·append-cases (b .uses) i);
         }
@@ -185,7 +195,7 @@ module _ (s : Seen) (w : Row) (eight : length (w .columns) ≡ 8) (p : Passed s 
         in-label = passed-not-lt (w .label) 1 _ (rw (eq-then (w .kind) 1 _ _ q) at (rw (eq-else (w .kind) 0 _ _ zero?) at (fits .label)))
 
     -- A use row's block and cues.
-    use-ok : w .kind ≡ 2 → w .block + 1 ≡ length (s .joins) → Good earlier
+    use-ok : w .kind ≡ 2 → w .block + 1 ≡ length (s .joins) → Small earlier
         → GoodUse earlier b (record { block = w .label; at = take (joinsOf (b ∷ earlier) (w .label)) (w .columns) })
     unfolding fits named columnsUsed labelFits
     use-ok q h gs =
@@ -193,7 +203,7 @@ module _ (s : Seen) (w : Row) (eight : length (w .columns) ≡ 8) (p : Passed s 
           lower = low;
           arity = length-take-le _ (w .columns) (omega (arith, few-joins)) ∙ skipped;
           cues = λ c i. named-cue b earlier t c (rw many i);
-          apart = rw many at (p .apart);
+          apart = distinct-apart _ (rw many at (p .apart));
         }
       where
         zero? : w .kind ≡ 0 → ⊥
@@ -227,26 +237,27 @@ module _ (s : Seen) (w : Row) (eight : length (w .columns) ≡ 8) (p : Passed s 
       (addLink (record { from = getD (w .columns) 0 0; to = getD (w .columns) 1 0; label = w .label }) bs)
   unfolding addLink with-link
   link-step [] t q h = absurd (no-block [] t h refl)
-  link-step (b ∷ earlier) t q h = go (t .good)
+  link-step (b ∷ earlier) t q h = go (t .good) (t .small)
     where
       l : Link
       l = record { from = getD (w .columns) 0 0; to = getD (w .columns) 1 0; label = w .label }
 
-      go : Good (b ∷ earlier) → Tracks (record { joins = s .joins; own = s .own; before = w }) (addLink l (b ∷ earlier))
-      go (more g gs) = kept b earlier t (with-link b earlier t l) refl refl (link-good b earlier t l (link-ok b earlier t q) g) gs
+      go : Good (b ∷ earlier) → Small (b ∷ earlier) → Tracks (record { joins = s .joins; own = s .own; before = w }) (addLink l (b ∷ earlier))
+      go (more g gs) small = kept b earlier t (with-link b earlier t l) refl refl (link-good b earlier t l (link-ok b earlier t q) g) gs small
 
   use-step : (bs : List Block) → Tracks s bs → w .kind ≡ 2 → w .block + 1 ≡ length (s .joins)
       → Tracks (record { joins = s .joins; own = s .own; before = w })
       (addUse (record { block = w .label; at = take (joinsOf bs (w .label)) (w .columns) }) bs)
   unfolding addUse with-use
   use-step [] t q h = absurd (no-block [] t h refl)
-  use-step (b ∷ earlier) t q h = go (t .good)
+  use-step (b ∷ earlier) t q h = go (t .good) (t .small)
     where
       u : Use
       u = record { block = w .label; at = take (joinsOf (b ∷ earlier) (w .label)) (w .columns) }
 
-      go : Good (b ∷ earlier) → Tracks (record { joins = s .joins; own = s .own; before = w }) (addUse u (b ∷ earlier))
-      go (more g gs) = kept b earlier t (with-use b earlier t u) refl refl (use-good b earlier t u (use-ok b earlier t q h gs) g) gs
+      go : Good (b ∷ earlier) → Small (b ∷ earlier) → Tracks (record { joins = s .joins; own = s .own; before = w }) (addUse u (b ∷ earlier))
+      go (more g gs) (small-more x y z) =
+          kept b earlier t (with-use b earlier t u) refl refl (use-good b earlier t u (use-ok b earlier t q h z) g) gs (small-more x y z)
 
 -- A row that passes keeps the agreement.
 pub tracks-step : (s : Seen) (w : Row) (bs : List Block) → length (w .columns) ≡ 8 → fault s w ≡ 0 → Tracks s bs

@@ -6,15 +6,16 @@ use lib.ListN.{length, getD}
 use Rattle.model.specs.Limits.{rowSize, maxRows, maxBlocks, maxTotal}
 use Rattle.model.specs.Rows.{rowCount}
 use Rattle.model.specs.Blocks.{joinsOf, ownOf, total, blocksOf, lastBlock}
-use Rattle.shows.specs.WellFormed.{Good}
+use Rattle.shows.specs.WellFormed.{Good, Small}
 
 pub record Show (xs : List ℕ) : Type 0 where
   -- the rows: whole ones, 1 to 1,024, every value of at most three digits
   pub whole : length xs % rowSize ≡ 0
   pub rows : (1 ≤ rowCount xs) × (rowCount xs ≤ maxRows)
   pub values : (i : ℕ) → getD xs i 0 ≤ 999
-  -- the blocks: well formed, 1 to 128
+  -- the blocks: well formed, none too large, 1 to 128
   pub good : Good (blocksOf xs)
+  pub small : Small (blocksOf xs)
   pub blocks : (1 ≤ length (blocksOf xs)) × (length (blocksOf xs) ≤ maxBlocks)
   -- the last block is the show: no joins, at least one own cue; every other block has joins
   pub no-joins : joinsOf (blocksOf xs) (lastBlock (blocksOf xs)) ≡ 0

@@ -1,11 +1,11 @@
 -- The text of a show file, said of its bytes, and what the laws of files are stated with. Document 01, "The show file".
-use Prim.Native.Nat.{ℕ, _≤_}
+use Prim.Native.Nat.{ℕ, zero, suc, _≤_}
 use mathlib.Core.Path.{_≡_}
 use mathlib.Core.List.{List, [], _∷_, _++_}
 use mathlib.Core.Logic.{_≢_}
 use lib.ListN.{length}
 use Rattle.model.specs.Limits.{rowSize, maxBytes}
-use Rattle.model.specs.Text.{lineFeed, names, ends}
+use Rattle.model.specs.Text.{comma, lineFeed, names, ends}
 use Rattle.basics.specs.Values.{SpellsValue}
 
 -- "eleven values with single commas between", "Every line, the last too, ends in one line feed": the text of a line of values, each of
@@ -25,6 +25,12 @@ pub record SpellsFile (f xs : List ℕ) : Type 0 where
   pub text : f ≡ names ++ lines
   pub values : SpellsLines lines xs
   pub short : length f ≤ maxBytes
+
+-- "single commas between", "ends in one line feed": the byte behind each of n values of a line, for every kind of file.
+unfoldable pub endsOf : ℕ → List ℕ
+endsOf zero = []
+endsOf (suc zero) = lineFeed ∷ []
+endsOf (suc (suc n)) = comma ∷ endsOf (suc n)
 
 -- A byte is no line feed. Bytes that end in their only line feed.
 abbrev pub Plain : ℕ → Type 0

@@ -1,13 +1,12 @@
 -- Well-formed blocks: what checks 5 to 8 of document 01 leave of the rows of a show, said of its blocks.
 use Prim.Native.Nat.{ℕ, _+_, _≤_, _<_}
 use mathlib.Core.Path.{_≡_}
-use mathlib.Core.Bool.{true}
 use mathlib.Core.Logic.{_≢_}
 use mathlib.Core.List.{List, [], _∷_, List·Memᴰ}
 use lib.ListN.{length}
 use Rattle.model.specs.Limits.{maxJoins, maxOwn, maxLabel}
-use Rattle.model.specs.Rules.{distinct}
 use Rattle.model.specs.Blocks.{Link, Use, Block, joinsOf}
+use Rattle.basics.specs.Members.{Apart}
 
 -- c is one of a block's cues: an own one or a join.
 abbrev pub Cue : Block → ℕ → Type 0
@@ -24,14 +23,17 @@ pub record GoodUse (earlier : List Block) (b : Block) (u : Use) : Type 0 where
   pub lower : u .block < length earlier
   pub arity : length (u .at) ≡ joinsOf earlier (u .block)
   pub cues : (c : ℕ) → List·Memᴰ c (u .at) → Cue b c
-  pub apart : distinct (u .at) ≡ true
+  pub apart : Apart (u .at)
 
 pub record GoodBlock (earlier : List Block) (b : Block) : Type 0 where
-  pub joins : b .joins ≤ maxJoins
-  pub own : b .own ≤ maxOwn
   pub links : (l : Link) → List·Memᴰ l (b .links) → GoodLink b l
   pub uses : (u : Use) → List·Memᴰ u (b .uses) → GoodUse earlier b u
 
 pub data Good : List Block → Type 0 where
   none : Good []
   more : {b : Block} {earlier : List Block} → GoodBlock earlier b → Good earlier → Good (b ∷ earlier)
+
+-- How many joins and own cues blocks may have. Being well formed does not depend on it.
+pub data Small : List Block → Type 0 where
+  small-none : Small []
+  small-more : {b : Block} {earlier : List Block} → b .joins ≤ maxJoins → b .own ≤ maxOwn → Small earlier → Small (b ∷ earlier)

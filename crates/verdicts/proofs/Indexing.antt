@@ -13,7 +13,7 @@ use Rattle.model.specs.Rules.{Seen, start, goesOn, mayFollow, fault, after}
 use Rattle.model.specs.Blocks.{Link, Use, Block, joinsOf, addLink, addUse, addRow}
 use Rattle.shows.specs.WellFormed.{Good, more}
 use Rattle.basics.proofs.Choices.{eq-then, eq-else, lt-then, lt-else, passed, passed-lt}
-use Rattle.shows.proofs.AtBlock.{joins-hit, joins-skip, joins-beyond, joins-small}
+use Rattle.shows.proofs.AtBlock.{joins-hit, joins-skip, joins-beyond, joins-small, head-small}
 use Rattle.shows.proofs.Accepted.{opening-length, other-length}
 use Rattle.shows.proofs.Passed.{Passed, faultless, Kind, opens, links, uses, kind-of}
 use Rattle.shows.proofs.Tracks.{Tracks, tracks-step}
@@ -142,9 +142,6 @@ module _ (xs : List ℕ) (all : List Block) (r : ℕ) (k : KnownRows xs r) (ok :
   unfolding addRow
   blocks-use q = eq-else _ _ _ _ (λ e. omega arith) ∙ eq-else _ _ _ _ (λ e. omega arith)
 
-  head-own : {b : Block} {cs : List Block} → Good (b ∷ cs) → b .own ≤ maxOwn
-  head-own (more g gs) = g .own
-
   last-lower : {b : Block} {cs : List Block} (us : List Use) (u : Use) → b .uses ≡ us ++ (u ∷ []) → Good (b ∷ cs) → u .block < length cs
   last-lower us u e (more g gs) = g .uses u (rw e (Memᴰ·append-right us (List·Memᴰ·head refl))) .lower
 
@@ -159,7 +156,7 @@ module _ (xs : List ℕ) (all : List Block) (r : ℕ) (k : KnownRows xs r) (ok :
 
   next-open : Now → w .kind ≡ 0 → w .block ≡ length (s .joins) → length (s .joins) < maxBlocks → Next
   next-open T q h few =
-      let own : cell xs r 3 ≤ maxOwn = head-own (rw (blocks-open q) at (tracked .good)) in
+      let own : cell xs r 3 ≤ maxOwn = head-small (rw (blocks-open q) at (tracked .small)) .0 in
       let room : length bs < maxBlocks = omega (arith, count-is) in
       let at : w .block ≡ length bs = h ∙ count-is in
       table-cast (sym (rw at at (open-indexed q))) (sym (blocks-open q)) (sym q) (open-table xs all (tableTo xs r) r bs (s .before .kind) T room own)
@@ -254,7 +251,7 @@ module _ (xs : List ℕ) (r : ℕ) (f : Fine xs r) where
       go (yes h) =
           let b : label < length (blocksTo xs r) = omega (arith, k .blocks, k .tracks .count) in
           let j : joinsAt xs (tableTo xs r) label ≡ joinsOf (blocksTo xs r) label = joins-by-table xs _ _ _ r _ label T b in
-          let small : joinsOf (blocksTo xs r) label ≤ 8 = joins-small label (k .tracks .good) in
+          let small : joinsOf (blocksTo xs r) label ≤ 8 = joins-small label (k .tracks .small) in
           lt-then _ _ _ _ h ∙ lt-else _ _ _ _ (rw j small) ∙ j ∙ sym (k .tracks .joins label)
       go (no h) =
           let b : length (blocksTo xs r) ≤ label = omega (arith, k .blocks, k .tracks .count) in

@@ -9,9 +9,9 @@ use lib.Seq.{getD-append-seam}
 use Rattle.model.specs.Limits.{rowSize, maxJoins, maxOwn}
 use Rattle.model.specs.Rows.{Row, cell, rowAt, rowsFrom}
 use Rattle.model.specs.Rules.{Seen, start, cuesIn, fault, after}
-use Rattle.model.specs.Blocks.{Block, addRow, addRows}
-use Rattle.shows.specs.WellFormed.{Good, more}
+use Rattle.model.specs.Blocks.{addRow, addRows}
 use Rattle.basics.proofs.Choices.{eq-then, eq-else, lt-else}
+use Rattle.shows.proofs.AtBlock.{head-small}
 use Rattle.shows.proofs.Tracks.{Tracks, tracks-start, tracks-step}
 use Rattle.verdicts.specs.Passing.{cuesOf, nextState, seenTo, stateTo, blocksTo, Fine}
 
@@ -51,10 +51,6 @@ opened-seen joins own label w =
     let e : length (joins ++ (label ∷ [])) - 1 ≡ length joins = omega (arith, length-append joins (label ∷ [])) in
     rw (e, getD-append-seam joins label [] 0)
 
--- The first block of a well-formed list is small.
-head-small : {b : Block} {bs : List Block} → Good (b ∷ bs) → (b .own ≤ maxOwn) × (b .joins ≤ maxJoins)
-head-small (more g gs) = (g .own, g .joins)
-
 module _ (xs : List ℕ) (r : ℕ) (k : KnownRows xs r) (ok : fault (seenTo xs r) (rowAt xs r) ≡ 0) where
   abbrev pub s : Seen
   s = seenTo xs r
@@ -75,7 +71,7 @@ module _ (xs : List ℕ) (r : ℕ) (k : KnownRows xs r) (ok : fault (seenTo xs r
 
   open-small : w .kind ≡ 0 → (getD xs (r * rowSize + 3) 0 ≤ maxOwn) × (getD xs (r * rowSize + 2) 0 ≤ maxJoins)
   unfolding addRow rowAt cell
-  open-small q = head-small (rw (eq-then (w .kind) 0 _ _ q) at (tracked .good))
+  open-small q = head-small (rw (eq-then (w .kind) 0 _ _ q) at (tracked .small))
 
   after-open : w .kind ≡ 0 → after s w ≡ record { joins = s .joins ++ (w .label ∷ []); own = getD (w .columns) 0 0; before = w }
   unfolding after

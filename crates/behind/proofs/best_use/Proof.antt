@@ -4,7 +4,7 @@ use Prim.Native.Nat.{_-_, _≤_}
 use native.Mathlib.Omega.{arith}
 use mathlib.Core.Path.{refl}
 use Rattle.behind.specs.Leads.{LeadsTo}
-use Rattle.behind.proofs.Leading.{uses-row, lead-begin, lead-on, lead-done}
+use Rattle.behind.proofs.Leading.{lead-begin, lead-on, lead-done}
 use Rattle.behind.proofs.best_use.Statement.{statement}
 use Rattle.behind.proofs.best_use.Tie as tie
 
@@ -14,23 +14,10 @@ Inv-loop xs t m c rows lead₀ r₀ lead r = (rows .first ≤ r) × (r ≤ rows 
 abbrev μ-loop : tie.MeasureT-loop
 μ-loop xs t m c rows lead₀ r₀ lead r = rows .end - r
 
-use-rows-requires : tie.Need-use-rows-requires Inv-loop μ-loop
-use-rows-requires c κs =
-    let pre = c .before .before .pre in
-    (pre .0, pre .1 .block)
-
 loop-holds : tie.Need-loop-holds Inv-loop μ-loop
 loop-holds c =
     let pre = c .before .before .before .pre in
     (omega arith, omega (arith, c .use-rows .ensures .order), lead-begin (pre .0) _ (c .use-rows .ensures) _ refl)
-
-try-use-requires : tie.Need-try-use-requires Inv-loop μ-loop
-try-use-requires c κs =
-    let at-loop = c .before .before in
-    let at-rows = at-loop .before in
-    let pre = at-rows .before .before .before .pre in
-    let inv = at-loop .loop .inv in
-    (pre .0, pre .1, uses-row (at-rows .use-rows .ensures) _ (inv .0) (c .if1 .taken), inv .2 .lead)
 
 loop-again : tie.Need-loop-again Inv-loop μ-loop
 loop-again c =
@@ -51,5 +38,5 @@ returns c =
 pub best-use-spec : {M : Type 1} → statement M
 best-use-spec =
     tie.close
-    (tie.spec Inv-loop μ-loop use-rows-requires loop-holds try-use-requires (λ c. search needs) (λ c. search needs) loop-again
+    (tie.spec Inv-loop μ-loop (λ c κs. search needs) loop-holds (λ c κs. search needs) (λ c. search needs) (λ c. search needs) loop-again
     returns)

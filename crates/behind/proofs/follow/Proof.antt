@@ -1,18 +1,9 @@
 -- `follow`: the cues of two joins.
 use borrow.Author.Needs.{needs}
 use native.Mathlib.Omega.{arith}
-use Rattle.blocks.proofs.Loaded.{used-block}
 use Rattle.behind.proofs.Seeing.{joins-fit}
 use Rattle.behind.proofs.follow.Statement.{statement}
 use Rattle.behind.proofs.follow.Tie as tie
-
-used-requires : tie.Need-used-requires
-used-requires c κs = c .before .pre .1 .row .there
-
-own-requires : tie.Need-own-requires
-own-requires c κs =
-    let pre = c .before .before .pre in
-    (pre .0, used-block _ (pre .1 .row) (c .used .ensures .0))
 
 cast-t7 : tie.Need-cast-t7
 cast-t7 c = omega (arith, joins-fit (c .before .before .before .before .pre))
@@ -29,4 +20,4 @@ add-t11 c = omega (arith, joins-fit (c .before .before .before .before .before .
 pub follow-spec : {M : Type 1} → statement M
 follow-spec =
     tie.close
-    (tie.spec used-requires own-requires (λ c. search needs) cast-t7 add-t8 (λ c. search needs) cast-t10 add-t11 (λ c. search needs))
+    (tie.spec (λ c κs. search needs) (λ c κs. search needs) (λ c. search needs) cast-t7 add-t8 (λ c. search needs) cast-t10 add-t11 (λ c. search needs))

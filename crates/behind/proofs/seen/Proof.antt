@@ -3,15 +3,9 @@ use borrow.Author.Needs.{needs}
 use native.Mathlib.Omega.{arith}
 use mathlib.Core.Path.{refl}
 use mathlib.Core.Logic.{⊎-elim}
-use Rattle.behind.proofs.Seeing.{seen-small, seen-own, seen-join, seen-none}
+use Rattle.behind.proofs.Seeing.{seen-own, seen-join, seen-none}
 use Rattle.behind.proofs.seen.Statement.{statement}
 use Rattle.behind.proofs.seen.Tie as tie
-
-add-if2 : tie.Need-add-if2
-add-if2 c =
-    let at-own = c .before in
-    let pre = at-own .before .before .pre in
-    omega (arith, seen-small _ _ _ (at-own .own .ensures .0) (pre .0) (pre .1))
 
 returns : tie.Need-returns
 returns c = search (seen-own, needs)
@@ -33,5 +27,5 @@ returns-3 c =
 pub seen-spec : {M : Type 1} → statement M
 seen-spec =
     tie.close
-    (tie.spec (λ c κs. search needs) add-if2 (λ c. search needs) returns (λ c κs. search needs) (λ c κs. search needs) (λ c. search needs)
+    (tie.spec (λ c κs. search needs) (λ c. search needs) (λ c. search needs) returns (λ c κs. search needs) (λ c κs. search needs) (λ c. search needs)
     (λ c. search needs) (λ c. search needs) returns-2 returns-3)

@@ -6,20 +6,10 @@ use Rattle.behind.proofs.Trying.{uses-use, unmet-from, unmet-to, tried-
 use Rattle.behind.proofs.try_use.Statement.{statement}
 use Rattle.behind.proofs.try_use.Tie as tie
 
-used-requires : tie.Need-used-requires
-used-requires c κs =
-    let pre = c .before .before .pre in
-    uses-use (pre .0) (pre .1 .block) (pre .2) .there
-
 joins-requires : tie.Need-joins-requires
 joins-requires c κs =
     let pre = c .before .before .before .pre in
     (pre .0, used-block _ (uses-use (pre .0) (pre .1 .block) (pre .2)) (c .used .ensures .0))
-
-join-at-requires : tie.Need-join-at-requires
-join-at-requires c κs =
-    let pre = c .before .before .before .before .pre in
-    (uses-use (pre .0) (pre .1 .block) (pre .2) .there, c .joins .ensures .1)
 
 returns : tie.Need-returns
 returns c =
@@ -28,12 +18,6 @@ returns c =
     let named = many .before in
     let pre = named .before .before .before .pre in
     unmet-from (pre .0) _ (pre .1) _ (pre .2) _ (pre .3) _ _ _ (named .used .ensures .0) (many .joins .ensures .0) (first .join-at .ensures) (c .if1 .taken)
-
-join-at-requires-2 : tie.Need-join-at-requires-2
-join-at-requires-2 c κs =
-    let many = c .before .before in
-    let pre = many .before .before .before .before .pre in
-    (uses-use (pre .0) (pre .1 .block) (pre .2) .there, many .joins .ensures .1)
 
 returns-2 : tie.Need-returns-2
 returns-2 c =
@@ -84,5 +68,5 @@ returns-4 c =
 pub try-use-spec : {M : Type 1} → statement M
 try-use-spec =
     tie.close
-    (tie.spec used-requires joins-requires join-at-requires returns join-at-requires-2 returns-2 level-at-requires
+    (tie.spec (λ c κs. search needs) joins-requires (λ c κs. search needs) returns (λ c κs. search needs) returns-2 level-at-requires
     (λ c κs. search needs) returns-3 returns-4)

@@ -70,16 +70,7 @@ cast-rows c =
     omega (arith, row-few (pre .0) _ (inv .1 .lead) (links .link-rows .ensures) _ (best .best-use .ensures) _ (own .own-row .ensures) _ (at-stays .stays .ensures) (test .if1 .left))
 
 mul-rows : tie.Need-mul-rows Inv-loop μ-loop
-mul-rows c =
-    let test = c .before in
-    let at-stays = test .before in
-    let best = at-stays .before in
-    let own = best .before in
-    let links = own .before in
-    let at-loop = links .before in
-    let pre = at-loop .before .before .before .before .pre in
-    let inv = at-loop .loop .inv in
-    omega (arith, inv .1 .short)
+mul-rows c = omega (arith, c .before .before .before .before .before .before .loop .inv .1 .short)
 
 slice-write-rows : tie.Need-slice-write-rows Inv-loop μ-loop
 slice-write-rows c =
@@ -94,16 +85,7 @@ slice-write-rows c =
     room-left (pre .0) _ (inv .1 .lead) (links .link-rows .ensures) _ (best .best-use .ensures) _ (own .own-row .ensures) _ (at-stays .stays .ensures) (test .if1 .left) (inv .1)
 
 add-d : tie.Need-add-d Inv-loop μ-loop
-add-d c =
-    let test = c .before in
-    let at-stays = test .before in
-    let best = at-stays .before in
-    let own = best .before in
-    let links = own .before in
-    let at-loop = links .before in
-    let pre = at-loop .before .before .before .before .pre in
-    let inv = at-loop .loop .inv in
-    omega (arith, inv .1 .short)
+add-d c = omega (arith, c .before .before .before .before .before .before .loop .inv .1 .short)
 
 follow-requires : tie.Need-follow-requires Inv-loop μ-loop
 follow-requires c κs =

@@ -9,7 +9,7 @@ returns : tie.Need-returns
 returns c = search (long-refused, needs)
 
 read-lines-requires : tie.Need-read-lines-requires
-read-lines-requires c κs = (search needs, sym (c .before .before .named .ensures) ∙ c .before .if2 .taken, search needs)
+read-lines-requires c κs = (search needs, sym (c .before .before .named .ensures) ∙ c .before .if2 .taken)
 
 returns-3 : tie.Need-returns-3
 returns-3 c = search (unnamed-refused, needs)
@@ -17,4 +17,5 @@ returns-3 c = search (unnamed-refused, needs)
 pub parse-spec : {M : Type 1} → statement M
 parse-spec =
     tie.close
-    (tie.spec (λ c κs. search needs) returns (λ c κs. search needs) read-lines-requires (λ c. search needs) (λ c κs. search needs) returns-3)
+    (tie.spec (λ c κs. search needs) returns (λ c κs. search needs) read-lines-requires (λ c. search needs) (λ c. search needs)
+    (λ c κs. search needs) returns-3)

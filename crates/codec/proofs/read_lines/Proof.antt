@@ -51,7 +51,7 @@ use denote.Triple.Clauses.{ensured, lasts}
 use Rattle.model.specs.Limits.{maxBytes}
 use Rattle.model.specs.Verdicts.{readFile}
 use Rattle.codec.specs.Scanning.{namesSize, StepSays, startsNamed}
-use Rattle.codec.specs.Parsing.{room, Parses}
+use Rattle.codec.specs.Parsing.{Parses}
 use Rattle.codec.specs.declared.Reader.{Reader}
 use Rattle.codec.specs.declared.Parsed.{Parsed}
 use Rattle.codec.specs.declared.Step.{Step}
@@ -82,22 +82,22 @@ abbrev stayed : Stays (lines.ended .signature .params) (lines.ended .kept)
 stayed = (stay-none-slice (0 ∷ []) tt (plain (λ _. u8)) yes, (stay-slice (1 ∷ []) tt (plain (λ _. u32)), tt))
 
 -- what the function asks for
-abbrev Ready : List ℕ → List ℕ → Type 0
-Ready f ys = (length f ≤ maxBytes) × (startsNamed f ≡ true) × (length ys ≡ room)
+abbrev Ready : List ℕ → Type 0
+Ready f = (length f ≤ maxBytes) × (startsNamed f ≡ true)
 
 -- where a turn begins: the reader's place, the number of the row, and the rows so far
-record Turn (f : List ℕ) : Type 0 where
+record Turn (f lent : List ℕ) : Type 0 where
   place : ℕ
   count : ℕ
   rows : List ℕ
-  sofar : Sofar f place count rows
+  sofar : Sofar f lent place count rows
 
 -- a turn is below another where less of the file is left
-abbrev less : (f : List ℕ) → Turn f → Turn f → Type 0
-less f t u = length f - t .place < length f - u .place
+abbrev less : (f lent : List ℕ) → Turn f lent → Turn f lent → Type 0
+less f lent t u = length f - t .place < length f - u .place
 
-less-wf : (f : List ℕ) → WellFounded (less f)
-less-wf f = InvImage·wf (λ (t : Turn f). length f - t .place) (Nat·lt-wfRel .wf)
+less-wf : (f lent : List ℕ) → WellFounded (less f lent)
+less-wf f lent = InvImage·wf (λ (t : Turn f lent). length f - t .place) (Nat·lt-wfRel .wf)
 
 -- the types of the locals
 abbrev fileTy : Ty
@@ -133,7 +133,7 @@ module _ {M : Type 1} (𝓤 : URA M) (H : Heap 𝓤) (A : Atoms 𝓤) (mem : Mem
   abbrev Next : Contract 𝓤
   Next = tripleOf 𝓤 H A next.signature (next.spec 𝓤 H A mem run)
 
-module _ {M : Type 1} (𝓤 : URA M) (H : Heap 𝓤) (A : Atoms 𝓤) (W : Given 𝓤 H A) (mem : Memory → SProp 𝓤) (run : Routine → Fun 𝓤) (κ κ′ : Lft) (q q′ : Share) (s : RefT (List ℕ)) (b o : ℕ) (γ : GName) (ys : List ℕ) (ready : Ready (now s) ys) where
+module _ {M : Type 1} (𝓤 : URA M) (H : Heap 𝓤) (A : Atoms 𝓤) (W : Given 𝓤 H A) (mem : Memory → SProp 𝓤) (run : Routine → Fun 𝓤) (κ κ′ : Lft) (q q′ : Share) (s : RefT (List ℕ)) (b o : ℕ) (γ : GName) (ys : List ℕ) (ready : Ready (now s)) where
   abbrev κs : Lfts 2
   κs = (κ, (κ′, tt))
 
@@ -171,24 +171,24 @@ module _ {M : Type 1} (𝓤 : URA M) (H : Heap 𝓤) (A : Atoms 𝓤) (W : Given
   Rows κ″ δ zs = MutSlice (named 1) κ″ u32 .own (x δ zs) (w ∷ [])
 
   -- a turn's reader, and how it lies in memory
-  abbrev reader : Turn f → Reader
+  abbrev reader : Turn f ys → Reader
   reader t = record { file = s; at = t .place }
 
-  abbrev mach : Turn f → Val
+  abbrev mach : Turn f ys → Val
   mach t = T′.lowered (reader t)
 
   -- the numbers of a turn are small
-  place-fits : (t : Turn f) → t .place < 2 ^ 64
+  place-fits : (t : Turn f ys) → t .place < 2 ^ 64
   place-fits t = omega (arith, t .sofar .inside, ready .0)
 
-  count-small : (t : Turn f) → t .count ≤ maxBytes
+  count-small : (t : Turn f ys) → t .count ≤ maxBytes
   count-small t = omega (arith, t .sofar .few, t .sofar .inside, ready .0)
 
-  count-fits : (t : Turn f) → t .count < 2 ^ 64
+  count-fits : (t : Turn f ys) → t .count < 2 ^ 64
   count-fits t = omega (arith, count-small t)
 
-  many : (t : Turn f) → length (t .rows) ≡ length ys
-  many t = t .sofar .long ∙ sym (ready .2)
+  many : (t : Turn f ys) → length (t .rows) ≡ length ys
+  many t = t .sofar .long
 
   -- the first call makes the reader: its arguments, and how they lie in memory
   abbrev arg-new : RefT (List ℕ) × (ℕ × Unit {0})
@@ -235,21 +235,21 @@ module _ {M : Type 1} (𝓤 : URA M) (H : Heap 𝓤) (A : Atoms 𝓤) (W : Given
     abbrev κs′ : Lfts 2
     κs′ = (κ, (ν ∷ [], tt))
 
-    abbrev arg : GName → Turn f → Reader × (RefT (List ℕ) × (ℕ × Unit {0}))
+    abbrev arg : GName → Turn f ys → Reader × (RefT (List ℕ) × (ℕ × Unit {0}))
     arg δ t = (reader t, (x δ (t .rows), (t .count, tt)))
 
-    abbrev at-next : Turn f → Vals next.signature κs′
+    abbrev at-next : Turn f ys → Vals next.signature κs′
     at-next t = (mach t ∷ [], (w ∷ [], (vint w64 (t .count) ∷ [], tt)))
 
-    abbrev to-next : GName → Turn f → Next 𝓤 H A mem run .Ghost
+    abbrev to-next : GName → Turn f ys → Next 𝓤 H A mem run .Ghost
     to-next δ t = ((κs′, (q, (fullShare, tt)), tt, arg δ t, at-next t), tt)
 
-    asked-next : (δ : GName) (t : Turn f) → ent 𝓤 (onEntry 𝓤 H A next.signature κs′ (q, (fullShare, tt)) (arg δ t) (at-next t)) (Next 𝓤 H A mem run .pre (to-next δ t))
+    asked-next : (δ : GName) (t : Turn f ys) → ent 𝓤 (onEntry 𝓤 H A next.signature κs′ (q, (fullShare, tt)) (arg δ t) (at-next t)) (Next 𝓤 H A mem run .pre (to-next δ t))
     asked-next δ t =
         qed W ((‵ (flft κ q) ⊛ ‵ (flft (ν ∷ []) fullShare) ⊛ ‵ ftrue) ∷ ‵ (owns (T.the-row α ∷ MutSlice (named 1) (ν ∷ []) u32 ∷ usize ∷ []) (arg δ t) (at-next t)) ∷ []) ∵
-        says ! (t .sofar .long, count-small t) $ frame ! $ done !
+        says ! (count-small t) $ frame ! $ done !
 
-    goes-next : (δ : GName) (t : Turn f) → ent 𝓤 (⋆ 𝓤 H A (‵ (Rows (ν ∷ []) δ (t .rows)) ∷ ‵ (flft (ν ∷ []) fullShare) ∷ (‵ Own ⊛ ‵ (flft κ q)) ∷ [])) (sep 𝓤 (Next 𝓤 H A mem run .pre (to-next δ t)) (sem 𝓤 H A Own))
+    goes-next : (δ : GName) (t : Turn f ys) → ent 𝓤 (⋆ 𝓤 H A (‵ (Rows (ν ∷ []) δ (t .rows)) ∷ ‵ (flft (ν ∷ []) fullShare) ∷ (‵ Own ⊛ ‵ (flft κ q)) ∷ [])) (sep 𝓤 (Next 𝓤 H A mem run .pre (to-next δ t)) (sem 𝓤 H A Own))
     goes-next δ t =
         qed W (‵ (Rows (ν ∷ []) δ (t .rows)) ∷ ‵ (flft (ν ∷ []) fullShare) ∷ (‵ Own ⊛ ‵ (flft κ q)) ∷ []) ∵
         move ! (2 ∷ []) $ split ! $ use1 W (‵ Own ⊛ ‵ Own) (shr-slice-copy 𝓤 H A W (named 0) κ u8 .twice s (v ∷ [])) $ split ! $
@@ -262,11 +262,11 @@ module _ {M : Type 1} (𝓤 : URA M) (H : Heap 𝓤) (A : Atoms 𝓤) (W : Given
         nothing ! $ move ! (4 ∷ 0 ∷ []) $ join ! $ move ! (3 ∷ 0 ∷ []) $ join ! $ use2 W (raw (Next 𝓤 H A mem run .pre (to-next δ t))) (asked-next δ t) $ frame ! $ done !
 
   -- what the answer and the rows say of a turn
-  abbrev Says : Turn f → Step → List ℕ → Type 0
+  abbrev Says : Turn f ys → Step → List ℕ → Type 0
   Says t a zs = StepSays f (t .place) (t .count) a (t .rows) zs
 
   -- the end: what the file says
-  exits : (p : Parsed) (zs : List ℕ) → Parses (readFile f) p zs → length zs ≡ length ys → Is P.the-row p (P′.lowered p ∷ [])
+  exits : (p : Parsed) (zs : List ℕ) → Parses (readFile f) p ys zs → length zs ≡ length ys → Is P.the-row p (P′.lowered p ∷ [])
       → ent 𝓤 (⋆ 𝓤 H A (‵ Own ∷ ‵ (Rows κ′ γ zs) ∷ ‵ (flft κ q) ∷ ‵ (flft κ′ q′) ∷ [])) (Post (P′.lowered p))
   exits p zs g l is =
       qed W (‵ Own ∷ ‵ (Rows κ′ γ zs) ∷ ‵ (flft κ q) ∷ ‵ (flft κ′ q′) ∷ []) ∵
@@ -276,7 +276,7 @@ module _ {M : Type 1} (𝓤 : URA M) (H : Heap 𝓤) (A : Atoms 𝓤) (W : Given
       owned ! P.the-row (Is P.the-row) (EL.makes P.the-type P′.the-plain 𝓤 H A) p _ is $ done !
 
   module _ (𝓣 : Tables 𝓤 H) (fits : Room u32 (length ys)) (is-file : Is (ShrSlice (named 0) κ u8) s (v ∷ [])) (known-next : Triple 𝓤 (𝓣 .C #codec·next-row) (Next 𝓤 H A mem run)) where
-    reader-typed : (t : Turn f) → Holds (hasTy readerTy (mach t)) × WT (mach t)
+    reader-typed : (t : Turn f ys) → Holds (hasTy readerTy (mach t)) × WT (mach t)
     reader-typed t = (tt, (shr-slice-lawful 𝓤 H A W (named 0) κ u8 .typed s (v ∷ []) is-file .0 .1, (record { fits = place-fits t }, tt)))
 
     module _ (l₀ l₁ l₂ l₃ l₄ l₅ l₆ l₇ l₈ l₉ l₁₀ : ℕ) where
@@ -284,7 +284,7 @@ module _ {M : Type 1} (𝓤 : URA M) (H : Heap 𝓤) (A : Atoms 𝓤) (W : Given
       E = (P′.mir, l₀) ∷ (fileTy, l₁) ∷ (rowsTy (named 1), l₂) ∷ (readerTy, l₃) ∷ (num, l₄) ∷ (num, l₅) ∷ (P′.mir, l₆) ∷ (S′.mir, l₇) ∷ (readerTy, l₈) ∷ (tyRef erased mut (tyInt w32), l₉) ∷ (rowsTy erased, l₁₀) ∷ []
 
       -- what is held, with what the local of the answer has: the file, the rows and the tokens; then the locals from the last to the first
-      abbrev Held : Turn f → List ℕ → Item 𝓤 → List (Item 𝓤)
+      abbrev Held : Turn f ys → List ℕ → Item 𝓤 → List (Item 𝓤)
       Held t zs answer = ‵ Own ∷ ‵ (Rows κ′ γ zs) ∷ ‵ (flft κ q) ∷ ‵ (flft κ′ q′)
           ∷ ‵ (froom (rowsTy erased) l₁₀ 0) ∷ ‵ (fdies (rowsTy erased) l₁₀) ∷ ‵ (froom (tyRef erased mut (tyInt w32)) l₉ 0) ∷ ‵ (fdies (tyRef erased mut (tyInt w32)) l₉)
           ∷ ‵ (froom readerTy l₈ 0) ∷ ‵ (fdies readerTy l₈) ∷ answer ∷ ‵ (fdies S′.mir l₇) ∷ ‵ (froom P′.mir l₆ 0) ∷ ‵ (fdies P′.mir l₆)
@@ -293,31 +293,32 @@ module _ {M : Type 1} (𝓤 : URA M) (H : Heap 𝓤) (A : Atoms 𝓤) (W : Given
           ∷ ‵ (fat fullShare fileTy l₁ 0 v) ∷ ‵ (fdies fileTy l₁) ∷ ‵ (froom P′.mir l₀ 0) ∷ ‵ (fdies P′.mir l₀) ∷ []
 
       -- the loop's invariant
-      abbrev I : Turn f → List (Item 𝓤)
+      abbrev I : Turn f ys → List (Item 𝓤)
       I t = Held t (t .rows) (‵ (froom S′.mir l₇ 0))
 
       -- what is to hold where the loop ends, and where a turn does
       abbrev Left : Out → SProp 𝓤
       Left = afterBlock 𝓤 H (afterSeq 𝓤 H (Wp 𝓤 H (𝓣 .C) (𝓣 .Λ) E pieces.t-4 (atReturn 𝓤 H E Post)) (atReturn 𝓤 H E Post))
 
-      abbrev After : Turn f → Kit.Post 𝓤 H
-      After t = anyQ (afterTurn 𝓤 H (Below 𝓤 H A (less f) I t) Left)
+      abbrev After : Turn f ys → Kit.Post 𝓤 H
+      After t = anyQ (afterTurn 𝓤 H (Below 𝓤 H A (less f ys) I t) Left)
 
-      abbrev Then : Turn f → Kit.Post 𝓤 H
+      abbrev Then : Turn f ys → Kit.Post 𝓤 H
       Then t = anyQ (afterSeq 𝓤 H (Wp 𝓤 H (𝓣 .C) (𝓣 .Λ) E counts (Kit.post 𝓤 H (After t))) (Kit.post 𝓤 H (After t)))
 
       -- the match on the answer: the reader goes to the next place, or the function returns
-      matched : (t : Turn f) (a : Step) (zs : List ℕ) → Is S.the-row a (S′.lowered a ∷ []) → length zs ≡ length (t .rows) → Says t a zs
+      matched : (t : Turn f ys) (a : Step) (zs : List ℕ) → Is S.the-row a (S′.lowered a ∷ []) → length zs ≡ length (t .rows) → Says t a zs
           → Sq W (Held t zs (‵ (fat fullShare S′.mir l₇ 0 (S′.lowered a)))) (runs (𝓣 .C) (𝓣 .Λ) E (seq matches counts) (After t))
       unfolding afterTurn
       matched t (On i) zs is l g =
-          let t′ : Turn f = record { place = i; count = t .count + 1; rows = zs; sofar = sofar-on f (t .rows) zs (t .place) (t .count) (t .sofar) l i g } in
+          let t′ : Turn f ys =
+          record { place = i; count = t .count + 1; rows = zs; sofar = sofar-on f ys (t .rows) zs (t .place) (t .count) (t .sofar) l i g } in
           first ! $ switches-on ! (load ! (from ! (vrt ! refl (fld ! refl (stop !)))) (look-tag ! 10 (whole !))) $ exec ! (𝓣 .C) (𝓣 .Λ) E goes-on (Then t) $
           assigns ! (of-opd ! (load ! (from ! (vrt ! refl (fld ! refl (stop !)))) (look-in ! 10 (in-variant ! 0 0 refl refl (whole !))))) (from ! (stop !)) (init ! 14 refl (tt, record { fits = place-fits t′ })) $
           assigns-last ! (of-opd ! (load ! (from ! (stop !)) (look ! 14 refl))) (from ! (fld ! refl (stop !))) (store-in ! 18 (sub ! 1 refl (whole !)) (tt, record { fits = place-fits t′ })) $
           exec ! (𝓣 .C) (𝓣 .Λ) E counts (After t) $
           assigns-last ! (bin ! (load ! (from ! (stop !)) (look ! 16 refl)) (lit ! tt) (record { fits = count-fits t′ })) (from ! (stop !)) (store ! 16 refl (tt, record { fits = count-fits t′ })) $
-          forget ! 10 refl $ forget ! 14 refl $ again ! (less f) I t t′ (sofar-less f (t .rows) zs (t .place) (t .count) (t .sofar) l i g)
+          forget ! 10 refl $ forget ! 14 refl $ again ! (less f ys) I t t′ (sofar-less f ys (t .rows) zs (t .place) (t .count) (t .sofar) l i g)
       matched t (Done p) zs is l g =
           let part = EL.owed S.the-type S′.the-laws (Done p) _ is .0 in
           let is′ : Is P.the-row p (P′.lowered p ∷ []) = subst (Is P.the-row p) (P′.lowers .val-is p _ part) part in
@@ -327,10 +328,10 @@ module _ {M : Type 1} (𝓤 : URA M) (H : Heap 𝓤) (A : Atoms 𝓤) (W : Given
           assigns ! (of-opd ! (load ! (from ! (stop !)) (look ! 12 refl))) (from ! (stop !)) (init ! 24 refl typed) $
           returns-within ! Post refl (look ! 24 refl) $ forget ! 10 refl $ forget ! 12 refl $ forget ! 16 refl $ forget ! 18 refl $ forget ! 20 refl $ forget ! 22 refl $ forget ! 24 refl $
           move ! (24 ∷ 25 ∷ []) $ free1 ! $ move ! (22 ∷ 23 ∷ []) $ free1 ! $ move ! (20 ∷ 21 ∷ []) $ free1 ! $ move ! (18 ∷ 19 ∷ []) $ free1 ! $ move ! (16 ∷ 17 ∷ []) $ free1 ! $ move ! (14 ∷ 15 ∷ []) $ free1 ! $ move ! (12 ∷ 13 ∷ []) $ free1 ! $ move ! (10 ∷ 11 ∷ []) $ free1 ! $ move ! (8 ∷ 9 ∷ []) $ free1 ! $ move ! (6 ∷ 7 ∷ []) $ free1 ! $ move ! (4 ∷ 5 ∷ []) $ free1 ! $ free0 ! $
-          by ! (exits p zs (sofar-done f (t .rows) zs (t .place) (t .count) (t .sofar) l p g) (l ∙ many t) is′)
+          by ! (exits p zs (sofar-done f ys (t .rows) zs (t .place) (t .count) (t .sofar) l p g) (l ∙ many t) is′)
 
       -- a turn: the rows are lent to next_row and come back, and the answer is matched
-      turns : (t : Turn f) → Sq W (I t) (runs (𝓣 .C) (𝓣 .Λ) E pieces.turn-1 (After t))
+      turns : (t : Turn f ys) → Sq W (I t) (runs (𝓣 .C) (𝓣 .Λ) E pieces.turn-1 (After t))
       turns t =
           assigns ! (of-opd ! (load ! (from ! (stop !)) (look ! 18 refl))) (from ! (stop !)) (init ! 8 refl (reader-typed t)) $
           assigns ! (addr ! (from ! (fld ! refl (hop ! (look-in ! 20 (sub ! 0 refl (whole !))) (stop !))))) (from ! (stop !)) (init ! 6 refl (tt, tt)) $
@@ -370,13 +371,13 @@ module _ {M : Type 1} (𝓤 : URA M) (H : Heap 𝓤) (A : Atoms 𝓤) (W : Given
         drop ! $ split ! $ move ! (2 ∷ []) $ split ! $ move ! (1 ∷ []) $ split ! $
         -- held: the rows and their token; the file and its token; nothing; the locals
         keep ! (2 ∷ 0 ∷ 3 ∷ 1 ∷ 5 ∷ 6 ∷ 7 ∷ 8 ∷ 9 ∷ 10 ∷ 11 ∷ 12 ∷ 13 ∷ 14 ∷ 15 ∷ 16 ∷ 17 ∷ 18 ∷ 19 ∷ 20 ∷ 21 ∷ 22 ∷ 23 ∷ 24 ∷ 25 ∷ 26 ∷ []) $
-        first ! $ blocks ! $ loops ! 𝓣 (less f) (less-wf f) (I l₀ l₁ l₂ l₃ l₄ l₅ l₆ l₇ l₈ l₉ l₁₀) (turns l₀ l₁ l₂ l₃ l₄ l₅ l₆ l₇ l₈ l₉ l₁₀)
-        (record { place = namesSize; count = 0; rows = ys; sofar = sofar-begin f ys (ready .0) (ready .1) (ready .2) }))))))))))))))))
+        first ! $ blocks ! $ loops ! 𝓣 (less f ys) (less-wf f ys) (I l₀ l₁ l₂ l₃ l₄ l₅ l₆ l₇ l₈ l₉ l₁₀) (turns l₀ l₁ l₂ l₃ l₄ l₅ l₆ l₇ l₈ l₉ l₁₀)
+        (record { place = namesSize; count = 0; rows = ys; sofar = sofar-begin f ys (ready .0) (ready .1) }))))))))))))))))
 
 module _ {M : Type 1} (𝓤 : URA M) (H : Heap 𝓤) (A : Atoms 𝓤) (W : Given 𝓤 H A) (mem : Memory → SProp 𝓤) (run : Routine → Fun 𝓤) (𝓣 : Tables 𝓤 H) (known-new : Triple 𝓤 (𝓣 .C #codec·reader-at) (New 𝓤 H A mem run)) (known-next : Triple 𝓤 (𝓣 .C #codec·next-row) (Next 𝓤 H A mem run)) where
   read-lines-walks : Walks 𝓤 H A lines.ended stayed (WpFn 𝓤 H (𝓣 .C) (𝓣 .Λ) code.function) (lines.clauses 𝓤 H A mem run)
   read-lines-walks = walked 𝓤 H A lines.ended stayed (lines.clauses 𝓤 H A mem run) (WpFn 𝓤 H (𝓣 .C) (𝓣 .Λ) code.function) (λ κs. (slice-vals, (slice-vals, tt))) (λ κs. (shr-slice-tells (named 0) (κs .0) u8, (mut-slice-tells (named 1) (κs .1 .0) u32, tt)))
-      (λ κs qs bounds a g are. needs 𝓤 (Ready (now (a .0)) (now (a .1 .0))) _ (λ ready.
+      (λ κs qs bounds a g are. needs 𝓤 (Ready (now (a .0))) _ (λ ready.
       walk 𝓤 H A W mem run (κs .0) (κs .1 .0) (qs .0) (qs .1 .0) (a .0) (a .1 .0 .ptr .0) (a .1 .0 .ptr .1) (a .1 .0 .name) (a .1 .0 .now) ready 𝓣 (are .1 .0 .0 .1) (are .0) known-next known-new))
 
   read-lines-meets : Meets 𝓤 H A lines.signature (WpFn 𝓤 H (𝓣 .C) (𝓣 .Λ) code.function) (lines.spec 𝓤 H A mem run)

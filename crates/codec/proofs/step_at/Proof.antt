@@ -1,6 +1,6 @@
 -- A place of the file: reading ends there, or the line there goes to its row.
 use borrow.Author.Needs.{needs}
-use Rattle.codec.proofs.LineScan.{step-end, step-bad, step-on}
+use Rattle.codec.proofs.RowScan.{step-end, step-bad, step-on}
 use Rattle.codec.proofs.step_at.Statement.{statement}
 use Rattle.codec.proofs.step_at.Tie as tie
 

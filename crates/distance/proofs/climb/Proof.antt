@@ -7,16 +7,19 @@ use mathlib.Core.Path.{_≡_}
 use lib.ListN.{length}
 use Rattle.blocks.specs.Places.{Found}
 use Rattle.blocks.specs.declared.Place.{Place}
-use Rattle.distance.specs.Copies.{Risen}
+use Rattle.model.specs.Limits.{noChain}
+use Rattle.distances.specs.Walks.{each-one}
+use Rattle.searches.specs.Copies.{Risen}
 use Rattle.copies.proofs.ByRows.{place-block, own-known, rows-to}
-use Rattle.distance.proofs.Ways.{risen-start, risen-on}
+use Rattle.distance.proofs.Counting.{summaries-known, may-settle}
+use Rattle.searches.proofs.Ways.{risen-start, risen-on}
 use Rattle.distance.proofs.climb.Statement.{statement}
 use Rattle.distance.proofs.climb.Tie as tie
 
 abbrev Inv-loop : tie.InvT-loop
 Inv-loop xs t work rows kept₀ d₀ l₀ kept d l =
     (l ≤ l₀) × (length kept ≡ length kept₀) × (length d ≡ length d₀)
-    × ((q : Place) → Found xs t rows q → l₀ ≤ q .depth → Risen xs t rows q l₀ kept₀ d₀ → Risen xs t rows q l kept d)
+    × ((q : Place) → Found xs t rows q → l₀ ≤ q .depth → Risen noChain each-one xs t rows q l₀ kept₀ d₀ → Risen noChain each-one xs t rows q l kept d)
 
 abbrev μ-loop : tie.MeasureT-loop
 μ-loop xs t work rows kept₀ d₀ l₀ kept d l = l
@@ -25,17 +28,15 @@ from-cue-requires : tie.Need-from-cue-requires Inv-loop μ-loop
 from-cue-requires c κs =
     let at-wide = c .before in
     let start = at-wide .before .before .before .before .before .before in (
-      start .pre .0 .loaded,
-      place-block (start .pre .0 .loaded) (start .pre .1),
-      omega (arith, start .pre .0 .long, place-block (start .pre .0 .loaded) (start .pre .1)),
-      search needs,
-      omega (arith, at-wide .wide .ensures .0, own-known (start .pre .0 .loaded) (start .pre .1)),
+      may-settle (start .pre .0 .summaries) (place-block (start .pre .0 .summaries .loaded) (start .pre .0 .found)) (search needs),
+      omega (arith, at-wide .wide .ensures .0, own-known (start .pre .0 .summaries .loaded) (start .pre .0 .found)),
     )
 
 keep-joins-requires : tie.Need-keep-joins-requires Inv-loop μ-loop
 keep-joins-requires c κs =
     let start = c .before .before .before .before .before .before .before .before .before .before .before .before in
-    (start .pre .0 .loaded, place-block (start .pre .0 .loaded) (start .pre .1), start .pre .1 .deep, search needs, search needs)
+    let loaded = start .pre .0 .summaries .loaded in
+    (loaded, place-block loaded (start .pre .0 .found), start .pre .0 .found .deep, search needs, search needs)
 
 loop-holds : tie.Need-loop-holds Inv-loop μ-loop
 loop-holds c = (search needs, search needs, search needs, λ q f h r. r)
@@ -43,9 +44,9 @@ loop-holds c = (search needs, search needs, search needs, λ q f h r. r)
 rise-one-requires : tie.Need-rise-one-requires Inv-loop μ-loop
 rise-one-requires c κs =
     let start = c .before .before .before .before .before .before .before .before .before .before .before .before .before .before .before .before .before .before .before in (
-      start .pre .0,
-      rows-to (start .pre .0 .loaded) (start .pre .1) _ (omega arith),
-      omega (arith, start .pre .1 .deep),
+      start .pre .0 .summaries,
+      rows-to (start .pre .0 .summaries .loaded) (start .pre .0 .found) _ (omega arith),
+      omega (arith, start .pre .0 .found .deep),
       search needs,
       search needs,
     )
@@ -59,7 +60,7 @@ loop-again c =
       omega arith,
       search needs,
       search needs,
-      λ q f h r. risen-on (start .pre .0) f (at-loop .loop .l - 1) (at-loop .loop .kept) (at-loop .loop .d)
+      λ q f h r. risen-on (summaries-known (start .pre .0 .summaries)) f (at-loop .loop .l - 1) (at-loop .loop .kept) (at-loop .loop .d)
           (at-rise-one .rise-one .last .1 .1 .1 .1 .1 .1 .0) (at-rise-one .rise-one .last .1 .1 .1 .1 .1 .0)
           (omega arith) (rw e (at-loop .loop .inv .3 q f h r)) (at-rise-one .rise-one .ensures .0) (at-rise-one .rise-one .ensures .1),
     )
@@ -73,9 +74,9 @@ returns c =
     let start = at-wide .before .before .before .before .before .before in
     let e : at-loop .loop .l ≡ 0 = omega arith in
     let start-of =
-    risen-start (start .pre .0) (start .pre .1) _ _ _ _ (start .pre .1 .block)
+    risen-start (summaries-known (start .pre .0 .summaries)) (start .pre .0 .found) _ _ _ _ (start .pre .0 .found .block)
     (rw (at-wide .wide .ensures .0) at (at-from-cue .from-cue .ensures)) (at-keep-joins .keep-joins .ensures) in
-    rw e at (at-loop .loop .inv .3 _ (start .pre .1) (omega arith) start-of)
+    rw e at (at-loop .loop .inv .3 _ (start .pre .0 .found) (omega arith) start-of)
 
 pub climb-spec : {M : Type 1} → statement M
 climb-spec =

@@ -4,7 +4,7 @@ use borrow.Author.Needs.{needs}
 use native.Mathlib.Omega.{arith}
 use mathlib.Core.Path.{_≡_, refl}
 use lib.ListN.{getD}
-use Rattle.distance.proofs.Starts.{common-on}
+use Rattle.searches.proofs.Joins.{common-on}
 use Rattle.distance.proofs.common.Statement.{statement}
 use Rattle.distance.proofs.common.Tie as tie
 

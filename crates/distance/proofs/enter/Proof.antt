@@ -3,15 +3,10 @@ use borrow.Author.Needs.{needs}
 use native.Mathlib.Omega.{arith}
 use mathlib.Core.Path.{_∙_}
 use Rattle.blocks.proofs.Loaded.{used-block}
-use Rattle.relax.proofs.Edges.{row-meets}
-use Rattle.distance.proofs.Starts.{use-row-on, entered-on}
+use Rattle.searches.proofs.Edges.{row-meets}
+use Rattle.searches.proofs.Joins.{use-row-on, entered-on}
 use Rattle.distance.proofs.enter.Statement.{statement}
 use Rattle.distance.proofs.enter.Tie as tie
-
-shared-slice-read-wide : tie.Need-shared-slice-read-wide
-shared-slice-read-wide c =
-    let start = c .before .before .before .before in
-    omega (arith, start .pre .1 .long)
 
 used-requires : tie.Need-used-requires
 used-requires c κs =
@@ -60,6 +55,6 @@ returns c =
 pub enter-spec : {M : Type 1} → statement M
 enter-spec =
     tie.close
-    (tie.spec (λ c. search needs) shared-slice-read-wide (λ c κs. search needs) used-requires own-requires (λ c κs. search needs) joins-requires
+    (tie.spec (λ c. search needs) (λ c. search needs) (λ c κs. search needs) used-requires own-requires (λ c κs. search needs) joins-requires
     (λ c. search needs) gather-requires (λ c. search needs) (λ c κs. search needs) (λ c. search needs) (λ c. search needs) (λ c κs. search needs)
     (λ c. search needs) returns)

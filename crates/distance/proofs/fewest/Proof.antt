@@ -3,24 +3,23 @@ use borrow.Author.Needs.{needs}
 use native.Mathlib.Omega.{arith}
 use mathlib.Core.Path.{refl}
 use Rattle.copies.proofs.ByRows.{own-few}
-use Rattle.distance.proofs.Answering.{hasSummaries, answered}
+use Rattle.searches.proofs.Answering.{answered}
+use Rattle.distance.proofs.Counting.{may-search, fewest-is}
 use Rattle.distance.proofs.fewest.Statement.{statement}
 use Rattle.distance.proofs.fewest.Tie as tie
 
 climb-requires : tie.Need-climb-requires
 climb-requires c κs =
     let start = c .before .before .before .before .before .before in
-    (hasSummaries (start .pre .0) _ (start .pre .3), start .pre .1, search needs, search needs)
+    (may-search (start .pre .0) (start .pre .3) (start .pre .1) (search needs), search needs)
 
 sink-shared-requires : tie.Need-sink-shared-requires
 sink-shared-requires c κs =
     let at-common = c .before .before in
     let at-climb = at-common .before .before .before in
     let start = at-climb .before .before .before .before .before .before .before in (
-      hasSummaries (start .pre .0) _ (start .pre .3),
-      start .pre .1,
+      may-search (start .pre .0) (start .pre .3) (start .pre .1) (search needs),
       at-common .common .ensures .first,
-      search needs,
       search needs,
       at-climb .climb .ensures,
     )
@@ -29,7 +28,7 @@ sink-alone-requires : tie.Need-sink-alone-requires
 sink-alone-requires c κs =
     let at-common = c .before .before .before .before .before in
     let start = at-common .before .before .before .before .before .before .before .before .before .before in
-    (hasSummaries (start .pre .0) _ (start .pre .3), start .pre .2, at-common .common .ensures .second, search needs)
+    (may-search (start .pre .0) (start .pre .3) (start .pre .2) (search needs), at-common .common .ensures .second)
 
 array-read-result : tie.Need-array-read-result
 array-read-result c =
@@ -42,10 +41,11 @@ returns c =
     let at-sink-shared = at-sink-alone .before .before .before in
     let at-common = at-sink-shared .before .before .before in
     let start = at-common .before .before .before .before .before .before .before .before .before .before in
-    answered (start .pre .0) (start .pre .1) (start .pre .2) _ (at-common .common .ensures)
+    fewest-is (start .pre .0) (start .pre .2) _ _
+    (answered (start .pre .0) (start .pre .1) (start .pre .2) _ (at-common .common .ensures)
     (at-sink-shared .sink-shared .last .1 .1 .1 .1 .1 .1 .1 .0) (at-sink-alone .sink-alone .last .1 .1 .1 .1 .1 .1 .0)
     (c .wide .result) _ (c .wide .ensures .0) refl
-    (at-sink-shared .sink-shared .ensures) (at-sink-alone .sink-alone .ensures)
+    (at-sink-shared .sink-shared .ensures) (at-sink-alone .sink-alone .ensures))
 
 pub fewest-spec : {M : Type 1} → statement M
 fewest-spec =

@@ -4,8 +4,8 @@ use borrow.Author.Needs.{needs}
 use native.Mathlib.Omega.{arith}
 use mathlib.Core.Path.{_≡_}
 use lib.ListN.{length, getD}
-use Rattle.estimates.proofs.Starts.{agree-on}
-use Rattle.distance.proofs.Starts.{agree-same}
+use Rattle.searches.proofs.Starts.{agree-on}
+use Rattle.searches.proofs.Joins.{agree-same}
 use Rattle.distance.proofs.fill.Statement.{statement}
 use Rattle.distance.proofs.fill.Tie as tie
 

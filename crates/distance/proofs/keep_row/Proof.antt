@@ -5,8 +5,8 @@ use borrow.Author.Needs.{needs}
 use native.Mathlib.Omega.{arith}
 use mathlib.Core.Path.{_≡_}
 use lib.ListN.{length}
-use Rattle.distance.specs.Starts.{RowKept}
-use Rattle.distance.proofs.Starts.{row-begin, row-on}
+use Rattle.searches.specs.Joins.{RowKept}
+use Rattle.searches.proofs.Joins.{row-begin, row-on}
 use Rattle.distance.proofs.keep_row.Statement.{statement}
 use Rattle.distance.proofs.keep_row.Tie as tie
 

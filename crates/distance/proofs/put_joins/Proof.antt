@@ -5,9 +5,9 @@ use borrow.Author.Needs.{needs}
 use native.Mathlib.Omega.{arith}
 use mathlib.Core.Path.{_≡_, refl}
 use lib.ListN.{length}
-use Rattle.estimates.specs.Starts.{Merged}
-use Rattle.distance.specs.Starts.{JoinsAt}
-use Rattle.distance.proofs.Starts.{joins-begin, joins-on}
+use Rattle.searches.specs.Starts.{Merged}
+use Rattle.searches.specs.Joins.{JoinsAt}
+use Rattle.searches.proofs.Joins.{joins-begin, joins-on}
 use Rattle.distance.proofs.put_joins.Statement.{statement}
 use Rattle.distance.proofs.put_joins.Tie as tie
 

@@ -2,15 +2,10 @@
 use borrow.Author.Needs.{needs}
 use native.Mathlib.Omega.{arith}
 use Rattle.blocks.proofs.Loaded.{used-block}
-use Rattle.relax.proofs.Edges.{row-meets}
-use Rattle.distance.proofs.Starts.{use-row-on, put-kept}
+use Rattle.searches.proofs.Edges.{row-meets}
+use Rattle.searches.proofs.Joins.{use-row-on, put-kept}
 use Rattle.distance.proofs.put_kept.Statement.{statement}
 use Rattle.distance.proofs.put_kept.Tie as tie
-
-shared-slice-read-wide : tie.Need-shared-slice-read-wide
-shared-slice-read-wide c =
-    let start = c .before .before .before .before .before in
-    omega (arith, start .pre .1 .long)
 
 used-requires : tie.Need-used-requires
 used-requires c κs =
@@ -47,5 +42,5 @@ returns c =
 pub put-kept-spec : {M : Type 1} → statement M
 put-kept-spec =
     tie.close
-    (tie.spec (λ c. search needs) shared-slice-read-wide (λ c κs. search needs) used-requires joins-requires (λ c. search needs) (λ c. search needs)
+    (tie.spec (λ c. search needs) (λ c. search needs) (λ c κs. search needs) used-requires joins-requires (λ c. search needs) (λ c. search needs)
     put-met-requires (λ c. search needs) returns)

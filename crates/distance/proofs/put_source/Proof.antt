@@ -1,7 +1,7 @@
 -- `distance::put_source` meets its contract.
 use borrow.Author.Needs.{needs}
 use native.Mathlib.Omega.{arith}
-use Rattle.distance.proofs.Starts.{source-inner, source-here}
+use Rattle.searches.proofs.Joins.{source-inner, source-here}
 use Rattle.copies.proofs.ByRows.{rows-to, own-few}
 use Rattle.distance.proofs.put_source.Statement.{statement}
 use Rattle.distance.proofs.put_source.Tie as tie

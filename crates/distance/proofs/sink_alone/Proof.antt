@@ -4,14 +4,17 @@ use borrow.Author.Needs.{needs}
 use native.Mathlib.Omega.{arith}
 use mathlib.Core.Path.{_≡_}
 use lib.ListN.{length}
-use Rattle.distance.specs.Copies.{Sunk}
+use Rattle.model.specs.Limits.{noChain}
+use Rattle.distances.specs.Walks.{each-one}
+use Rattle.searches.specs.Copies.{Sunk}
 use Rattle.copies.proofs.ByRows.{rows-to}
-use Rattle.distance.proofs.Ways.{sunk-on}
+use Rattle.distance.proofs.Counting.{summaries-known}
+use Rattle.searches.proofs.Ways.{sunk-on}
 use Rattle.distance.proofs.sink_alone.Statement.{statement}
 use Rattle.distance.proofs.sink_alone.Tie as tie
 
 abbrev Inv-loop : tie.InvT-loop
-Inv-loop xs t work to rows level d₀ l₀ d l = (level ≤ l) × (l ≤ to .depth) × (length d ≡ length d₀) × Sunk xs t rows level l d₀ d
+Inv-loop xs t work to rows level d₀ l₀ d l = (level ≤ l) × (l ≤ to .depth) × (length d ≡ length d₀) × Sunk noChain each-one xs t rows level l d₀ d
 
 abbrev μ-loop : tie.MeasureT-loop
 μ-loop xs t work to rows level d₀ l₀ d l = to .depth - l
@@ -22,25 +25,12 @@ loop-holds c = (search needs, search needs, search needs, λ s told out. told)
 enter-requires : tie.Need-enter-requires Inv-loop μ-loop
 enter-requires c κs =
     let start = c .before .before .before .before .before .before .before .before in
-    (start .pre .0 .loaded, rows-to (start .pre .0 .loaded) (start .pre .1) _ (omega arith), search needs)
-
-add-l : tie.Need-add-l Inv-loop μ-loop
-add-l c =
-    let start = c .before .before .before .before .before .before .before .before .before .before .before in
-    omega (arith, start .pre .1 .deep)
+    (start .pre .0 .summaries .loaded, rows-to (start .pre .0 .summaries .loaded) (start .pre .0 .found) _ (omega arith), search needs)
 
 block-on-requires : tie.Need-block-on-requires Inv-loop μ-loop
 block-on-requires c κs =
     let start = c .before .before .before .before .before .before .before .before .before .before .before in
-    (start .pre .0 .loaded, rows-to (start .pre .0 .loaded) (start .pre .1) _ (omega arith))
-
-settle-requires : tie.Need-settle-requires Inv-loop μ-loop
-settle-requires c κs =
-    let at-block-on = c .before in
-    let at-enter = at-block-on .before .before .before in
-    let at-loop = at-enter .before .before .before .before in
-    let start = at-loop .before .before .before .before .before in
-    (start .pre .0 .loaded, at-block-on .block-on .ensures .1, omega (arith, start .pre .0 .long, at-block-on .block-on .ensures .1), omega (arith, at-enter .enter .kept .1 .1 .1 .1 .0, at-loop .loop .inv .2))
+    (start .pre .0 .summaries .loaded, rows-to (start .pre .0 .summaries .loaded) (start .pre .0 .found) _ (omega arith))
 
 loop-again : tie.Need-loop-again Inv-loop μ-loop
 loop-again c =
@@ -52,7 +42,8 @@ loop-again c =
       search needs,
       search needs,
       search needs,
-      sunk-on (start .pre .0) (start .pre .1) (start .args .level) (at-loop .loop .l) (start .args .d .now) (at-loop .loop .d) _ _
+      sunk-on (summaries-known (start .pre .0 .summaries)) (start .pre .0 .found) (start .args .level) (at-loop .loop .l)
+          (start .args .d .now) (at-loop .loop .d) _ _
           (omega arith) (at-loop .loop .inv .0) (at-loop .loop .inv .3) (at-enter .enter .ensures)
           (rw (at-block-on .block-on .ensures .0) at (at-settle .settle .ensures)),
     )
@@ -66,5 +57,6 @@ returns c =
 pub sink-alone-spec : {M : Type 1} → statement M
 sink-alone-spec =
     tie.close
-    (tie.spec Inv-loop μ-loop loop-holds enter-requires add-l block-on-requires settle-requires (λ c. search needs) loop-again (λ c. search needs)
+    (tie.spec Inv-loop μ-loop loop-holds enter-requires (λ c. search needs) block-on-requires (λ c κs. search needs) (λ c. search needs)
+    loop-again (λ c. search needs)
     returns)

@@ -6,15 +6,18 @@ use native.Mathlib.Omega.{arith}
 use mathlib.Core.Path.{_≡_}
 use lib.ListN.{length}
 use Rattle.copies.specs.ByRows.{copyOn}
-use Rattle.distance.specs.Copies.{TellsWhole}
+use Rattle.model.specs.Limits.{noChain}
+use Rattle.distances.specs.Walks.{each-one}
+use Rattle.searches.specs.Copies.{TellsWhole}
 use Rattle.copies.proofs.ByRows.{rows-to}
-use Rattle.distance.proofs.Ways.{whole-first, shared-on}
+use Rattle.distance.proofs.Counting.{summaries-known}
+use Rattle.searches.proofs.Ways.{whole-first, shared-on}
 use Rattle.distance.proofs.sink_shared.Statement.{statement}
 use Rattle.distance.proofs.sink_shared.Tie as tie
 
 abbrev Inv-loop : tie.InvT-loop
 Inv-loop xs t work from rows shared kept d₀ l₀ d l =
-    (l ≤ shared) × (length d ≡ length d₀) × TellsWhole xs (copyOn xs t rows l) (from .cue) d
+    (l ≤ shared) × (length d ≡ length d₀) × TellsWhole noChain each-one xs (copyOn xs t rows l) (from .cue) d
 
 abbrev μ-loop : tie.MeasureT-loop
 μ-loop xs t work from rows shared kept d₀ l₀ d l = shared - l
@@ -22,36 +25,17 @@ abbrev μ-loop : tie.MeasureT-loop
 loop-holds : tie.Need-loop-holds Inv-loop μ-loop
 loop-holds c =
     let start = c .before .before .before .before .before in
-    (search needs, search needs, whole-first (start .pre .5))
+    (search needs, search needs, whole-first (start .pre .3))
 
 enter-requires : tie.Need-enter-requires Inv-loop μ-loop
 enter-requires c κs =
     let start = c .before .before .before .before .before .before .before .before in
-    (start .pre .0 .loaded, rows-to (start .pre .0 .loaded) (start .pre .1) _ (omega arith), search needs)
-
-add-l : tie.Need-add-l Inv-loop μ-loop
-add-l c =
-    let start = c .before .before .before .before .before .before .before .before .before .before .before in
-    omega (arith, start .pre .1 .deep)
-
-put-source-requires : tie.Need-put-source-requires Inv-loop μ-loop
-put-source-requires c κs =
-    let start = c .before .before .before .before .before .before .before .before .before .before .before .before in
-    (start .pre .0 .loaded, start .pre .1, omega arith, search needs, search needs)
+    (start .pre .0 .summaries .loaded, rows-to (start .pre .0 .summaries .loaded) (start .pre .0 .found) _ (omega arith), search needs)
 
 block-on-requires : tie.Need-block-on-requires Inv-loop μ-loop
 block-on-requires c κs =
     let start = c .before .before .before .before .before .before .before .before .before .before .before .before .before .before .before in
-    (start .pre .0 .loaded, rows-to (start .pre .0 .loaded) (start .pre .1) _ (omega arith))
-
-settle-requires : tie.Need-settle-requires Inv-loop μ-loop
-settle-requires c κs =
-    let at-block-on = c .before in
-    let at-put-source = at-block-on .before .before .before in
-    let at-enter = at-put-source .before .before .before .before in
-    let at-loop = at-enter .before .before .before in
-    let start = at-loop .before .before .before .before .before .before in
-    (start .pre .0 .loaded, at-block-on .block-on .ensures .1, omega (arith, start .pre .0 .long, at-block-on .block-on .ensures .1), omega (arith, at-put-source .put-source .kept .1 .1 .1 .1 .1 .1 .0, at-enter .enter .kept .1 .1 .1 .1 .0, at-loop .loop .inv .1))
+    (start .pre .0 .summaries .loaded, rows-to (start .pre .0 .summaries .loaded) (start .pre .0 .found) _ (omega arith))
 
 loop-again : tie.Need-loop-again Inv-loop μ-loop
 loop-again c =
@@ -63,8 +47,9 @@ loop-again c =
     let start = at-loop .before .before .before .before .before .before in (
       search needs,
       search needs,
-      shared-on (start .pre .0) (start .pre .1) (at-loop .loop .l) (start .args .kept .now) (at-loop .loop .d) _ _ _ (omega arith)
-          (start .pre .5 .levels) (at-loop .loop .inv .2) (at-enter .enter .ensures)
+      shared-on (summaries-known (start .pre .0 .summaries)) (start .pre .0 .found) (at-loop .loop .l) (start .args .kept .now)
+          (at-loop .loop .d) _ _ _ (omega arith)
+          (start .pre .3 .levels) (at-loop .loop .inv .2) (at-enter .enter .ensures)
           (at-put-source .put-source .ensures) (rw (at-block-on .block-on .ensures .0) at (at-settle .settle .ensures)),
     )
 
@@ -77,5 +62,6 @@ returns c =
 pub sink-shared-spec : {M : Type 1} → statement M
 sink-shared-spec =
     tie.close
-    (tie.spec Inv-loop μ-loop loop-holds enter-requires add-l put-source-requires block-on-requires settle-requires (λ c. search needs) loop-again
+    (tie.spec Inv-loop μ-loop loop-holds enter-requires (λ c. search needs) (λ c κs. search needs) block-on-requires (λ c κs. search needs) (λ c. search needs)
+    loop-again
     (λ c. search needs) returns)

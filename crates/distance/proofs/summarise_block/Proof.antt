@@ -6,7 +6,7 @@ use native.Mathlib.Omega.{arith}
 use mathlib.Core.Path.{_≡_, refl}
 use lib.ListN.{length}
 use Rattle.model.specs.Blocks.{blocksOf}
-use Rattle.estimates.specs.Starts.{estimatesSize}
+use Rattle.searches.specs.Starts.{estimatesSize}
 use Rattle.blocks.proofs.Loaded.{loaded-show}
 use Rattle.distance.specs.Summaries.{PartFilled}
 use Rattle.distance.proofs.Area.{partFilled-begin, partFilled-same, partFilled-rows, partFilled-below, partFilled-on, partFilled-done}
@@ -34,13 +34,13 @@ summarise-join-requires c κs =
     let at-fill = at-joins .before .before .before in
     let start = at-fill .before .before .before .before .before in
     let first = partFilled-begin _ (start .args .k) (start .args .work .now) _ _ (start .pre .3) (at-fill .fill .ensures) refl in
-    let good = loaded-show (start .pre .0) .good in (
+    let small = loaded-show (start .pre .0) .small in (
       start .pre .0,
       start .pre .1,
       omega (arith, at-joins .joins .ensures .0),
       search needs,
       search needs,
-      partFilled-below _ _ (omega arith) (at-loop .loop .inv .3) good (partFilled-below _ _ (start .pre .3) first good (start .pre .4)),
+      partFilled-below _ _ (omega arith) (at-loop .loop .inv .3) small (partFilled-below _ _ (start .pre .3) first small (start .pre .4)),
       partFilled-rows _ _ (omega arith) (at-loop .loop .inv .3),
     )
 

@@ -6,7 +6,7 @@ use native.Mathlib.Omega.{arith}
 use mathlib.Core.Path.{_≡_}
 use lib.ListN.{length}
 use Rattle.model.specs.Blocks.{blocksOf}
-use Rattle.estimates.specs.Starts.{estimatesSize}
+use Rattle.searches.specs.Starts.{estimatesSize}
 use Rattle.blocks.proofs.Loaded.{loaded-show}
 use Rattle.distance.proofs.Area.{area, area-begin, area-below, area-on}
 use Rattle.distance.proofs.summarise_blocks.Statement.{statement}
@@ -31,7 +31,7 @@ summarise-block-requires c κs =
       omega arith,
       at-loop .loop .inv .2,
       omega (arith, show .blocks),
-      area-below _ (start .args .work .now) _ _ (show .good) (at-loop .loop .inv .3),
+      area-below _ (start .args .work .now) _ _ (show .small) (at-loop .loop .inv .3),
     )
 
 loop-again : tie.Need-loop-again Inv-loop μ-loop

@@ -12,9 +12,6 @@ from-cue-requires c κs =
     let at-wide = c .before .before .before in
     let at-own = at-wide .before in
     let start = at-own .before .before .before .before in (
-      start .pre .0,
-      start .pre .1,
-      search needs,
       search needs,
       omega (arith, at-wide .wide .ensures .0, at-own .own .ensures .0),
     )

@@ -5,7 +5,7 @@ use mathlib.Core.Path.{_≡_}
 use lib.ListN.{length, getD}
 use borrow.Author.Needs.{needs}
 use Rattle.model.specs.Limits.{noChain}
-use Rattle.estimates.proofs.Starts.{agree-on, started-blank}
+use Rattle.searches.proofs.Starts.{agree-on, started-blank}
 use Rattle.estimates.proofs.clear.Statement.{statement}
 use Rattle.estimates.proofs.clear.Tie as tie
 
@@ -23,7 +23,7 @@ loop-again c =
     (search needs, search needs, agree-on (λ a. noChain) (c .before .loop .d) (c .before .loop .c) (omega arith) (c .before .loop .inv .2))
 
 returns : tie.Need-returns Inv-loop μ-loop
-returns c = started-blank _ _ _ (omega arith) (c .before .loop .inv .2)
+returns c = started-blank _ _ _ _ (omega arith) (c .before .loop .inv .2)
 
 pub clear-spec : {M : Type 1} → statement M
 clear-spec =

@@ -1,6 +1,6 @@
 -- `estimates::either` meets its contract.
 use borrow.Author.Needs.{needs}
-use Rattle.estimates.proofs.Rounds.{or-yes, or-no}
+use Rattle.searches.proofs.Lowering.{or-yes, or-no}
 use Rattle.estimates.proofs.either.Statement.{statement}
 use Rattle.estimates.proofs.either.Tie as tie
 

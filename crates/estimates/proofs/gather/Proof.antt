@@ -5,8 +5,8 @@ use borrow.Author.Needs.{needs}
 use native.Mathlib.Omega.{arith}
 use mathlib.Core.Path.{_≡_, refl, _∙_}
 use lib.ListN.{length}
-use Rattle.estimates.specs.Starts.{Gathered}
-use Rattle.estimates.proofs.Starts.{meets-within, gathered-begin, gathered-on}
+use Rattle.searches.specs.Starts.{Gathered}
+use Rattle.searches.proofs.Starts.{meets-within, gathered-begin, gathered-on}
 use Rattle.estimates.proofs.gather.Statement.{statement}
 use Rattle.estimates.proofs.gather.Tie as tie
 

@@ -1,6 +1,6 @@
 -- `estimates::improve` meets its contract.
 use borrow.Author.Needs.{needs}
-use Rattle.estimates.proofs.Rounds.{round-both}
+use Rattle.searches.proofs.Lowering.{round-both}
 use Rattle.estimates.proofs.improve.Statement.{statement}
 use Rattle.estimates.proofs.improve.Tie as tie
 

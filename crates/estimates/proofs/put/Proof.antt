@@ -1,7 +1,7 @@
 -- `estimates::put` meets its contract.
 use borrow.Author.Needs.{needs}
-use Rattle.estimates.proofs.Starts.{merged-put, merged-kept}
-use Rattle.estimates.proofs.Rounds.{fell-begin, fell-put}
+use Rattle.searches.proofs.Starts.{merged-put, merged-kept}
+use Rattle.searches.proofs.Lowering.{fell-begin, fell-put}
 use Rattle.estimates.proofs.put.Statement.{statement}
 use Rattle.estimates.proofs.put.Tie as tie
 

@@ -5,10 +5,10 @@ use borrow.Author.Needs.{needs}
 use native.Mathlib.Omega.{arith}
 use mathlib.Core.Path.{_≡_, refl, _∙_}
 use lib.ListN.{length}
-use Rattle.estimates.specs.Rounds.{Fell}
-use Rattle.estimates.specs.Starts.{MetAt, Merged}
-use Rattle.estimates.proofs.Starts.{meets-within, met-begin, met-on}
-use Rattle.estimates.proofs.Rounds.{fell-begin, fell-on}
+use Rattle.searches.specs.Rounds.{Fell}
+use Rattle.searches.specs.Starts.{MetAt, Merged}
+use Rattle.searches.proofs.Starts.{meets-within, met-begin, met-on}
+use Rattle.searches.proofs.Lowering.{fell-begin, fell-on}
 use Rattle.estimates.proofs.put_met.Statement.{statement}
 use Rattle.estimates.proofs.put_met.Tie as tie
 

@@ -46,7 +46,8 @@ returns c =
     let at-joins = at-marks-of .before .before .before in
     let start = at-joins .before .before .before .before .before in
     let marks = at-marks-of .marks-of .ensures in
-    answered _ _ _ (start .args .z) _ _ _ _ _ _ _ _ (marks .ready) (start .pre .1) (marks .marks) (at-joins .joins .ensures .0) (at-give-joins .give-joins .ensures)
+    answered _ _ _ (start .args .z) _ _ _ _ _ _ _ _ (marks .ready) (start .pre .1) (marks .marks) (at-joins .joins .ensures .0)
+    (at-joins .joins .ensures .1) (at-give-joins .give-joins .ensures)
     (at-walk .walk .ensures .whole _ _ (at-give-block .give-block .ensures))
 
 pub answer-by-spec : {M : Type 1} → statement M

@@ -5,8 +5,8 @@ use native.Mathlib.Omega.{arith}
 use mathlib.Core.Path.{_≡_, refl}
 use borrow.Author.Needs.{needs}
 use Rattle.model.specs.Limits.{summaryWidth}
-use Rattle.relax.specs.Lines.{Alike}
-use Rattle.relax.proofs.Lines.{alike-begin, alike-on}
+use Rattle.searches.specs.Lines.{Alike}
+use Rattle.searches.proofs.Lines.{alike-begin, alike-on}
 use Rattle.relax.proofs.differ.Statement.{statement}
 use Rattle.relax.proofs.differ.Tie as tie
 

@@ -2,14 +2,15 @@
 use borrow.Author.Needs.{needs}
 use native.Mathlib.Omega.{arith}
 use Rattle.blocks.proofs.Loaded.{own-few, joins-few}
-use Rattle.relax.proofs.Rounds.{spread-first}
+use Rattle.searches.proofs.Rounds.{spread-first}
 use Rattle.relax.proofs.from_cue.Statement.{statement}
 use Rattle.relax.proofs.from_cue.Tie as tie
 
 put-requires : tie.Need-put-requires
 put-requires c κs =
     let start = c .before .before .before .before .before .before .before .before in
-    omega (arith, own-few (start .pre .0) _ (start .pre .1), joins-few (start .pre .0) _ (start .pre .1))
+    let may = start .pre .0 in
+    omega (arith, own-few (may .loaded) _ (may .block), joins-few (may .loaded) _ (may .block))
 
 returns : tie.Need-returns
 returns c = search (spread-first, needs)

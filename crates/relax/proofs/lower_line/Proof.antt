@@ -4,25 +4,25 @@ use native.Mathlib.Omega.{arith}
 use mathlib.Core.Path.{_≡_, refl}
 use lib.ListN.{length}
 use borrow.Author.Needs.{needs}
-use Rattle.model.specs.Limits.{summaryWidth}
-use Rattle.relax.specs.Lines.{Line}
-use Rattle.relax.proofs.Lines.{line-begin, line-on}
+use Rattle.model.specs.Limits.{noChain, summaryWidth}
+use Rattle.searches.specs.Lines.{Line}
+use Rattle.searches.proofs.Lines.{line-begin, line-on}
 use Rattle.relax.proofs.lower_line.Statement.{statement}
 use Rattle.relax.proofs.lower_line.Tie as tie
 
 abbrev Inv-loop : tie.InvT-loop
-Inv-loop work q x e₀ j₀ e j = (j ≤ summaryWidth) × (length e ≡ summaryWidth) × Line work q x e₀ j e
+Inv-loop work q x e₀ j₀ e j = (j ≤ summaryWidth) × (length e ≡ summaryWidth) × Line noChain work q x e₀ j e
 
 abbrev μ-loop : tie.MeasureT-loop
 μ-loop work q x e₀ j₀ e j = summaryWidth - j
 
 loop-holds : tie.Need-loop-holds Inv-loop μ-loop
-loop-holds c = (search needs, search needs, line-begin _ _ _ _)
+loop-holds c = (search needs, search needs, line-begin _ _ _ _ _)
 
 loop-again : tie.Need-loop-again Inv-loop μ-loop
 loop-again c =
     let l = c .before .before .before .before .loop in
-    (search needs, search needs, line-on _ _ _ _ _ _ _ _ _ (omega arith) (l .inv .2) refl refl (c .lowered .ensures))
+    (search needs, search needs, line-on _ _ _ _ _ _ _ _ _ _ (omega arith) (l .inv .2) refl refl (c .lowered .ensures))
 
 returns : tie.Need-returns Inv-loop μ-loop
 returns c = let e : c .before .loop .j ≡ summaryWidth = omega arith in rw e at (c .before .loop .inv .2)

@@ -1,7 +1,7 @@
 -- `relax::relax_block` meets its contract. The round over the links and that over the uses are one
 -- over the block.
 use borrow.Author.Needs.{needs}
-use Rattle.relax.proofs.Edges.{block-round}
+use Rattle.searches.proofs.Edges.{block-round}
 use Rattle.relax.proofs.relax_block.Statement.{statement}
 use Rattle.relax.proofs.relax_block.Tie as tie
 

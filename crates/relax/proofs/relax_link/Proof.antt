@@ -1,13 +1,13 @@
 -- `relax::relax_link` meets its contract.
 use borrow.Author.Needs.{needs}
 use native.Mathlib.Omega.{arith}
-use mathlib.Core.Path.{_∙_}
-use Rattle.relax.proofs.Edges.{link-note, link-taken}
+use mathlib.Core.Path.{refl, _∙_}
+use Rattle.searches.proofs.Edges.{link-note, link-taken}
 use Rattle.relax.proofs.relax_link.Statement.{statement}
 use Rattle.relax.proofs.relax_link.Tie as tie
 
 returns : tie.Need-returns
-returns c = link-note _ _ (omega (arith, c .before .label .ensures))
+returns c = link-note _ _ _ (λ w p. omega (arith, p .0, c .before .label .ensures))
 
 returns-2 : tie.Need-returns-2
 returns-2 c =
@@ -17,7 +17,7 @@ returns-2 c =
     let at-wide = at-to .before in
     let at-from = at-wide .before in
     let at-label = at-from .before .before in
-    link-taken _ _ _ (omega (arith, at-label .label .ensures)) (at-wide .wide .ensures .0 ∙ at-from .from .ensures)
+    link-taken _ _ _ _ _ (omega (arith, at-label .label .ensures), refl) (λ w p. p .1) (at-wide .wide .ensures .0 ∙ at-from .from .ensures)
     (at-wide2 .wide2 .ensures .0 ∙ at-to .to .ensures) (at-improve .improve .ensures)
 
 pub relax-link-spec : {M : Type 1} → statement M

@@ -4,16 +4,17 @@ use borrow.Author.Needs.{needs}
 use native.Mathlib.Omega.{arith}
 use mathlib.Core.Path.{_≡_}
 use lib.ListN.{length}
-use Rattle.estimates.specs.Rounds.{Round}
+use Rattle.distances.specs.Walks.{each-one}
+use Rattle.searches.specs.Rounds.{Round}
 use Rattle.blocks.proofs.Loaded.{link-row}
-use Rattle.relax.proofs.Rounds.{span-begin}
-use Rattle.relax.proofs.Edges.{LinkSpan, link-ends, links-on, links-done}
+use Rattle.searches.proofs.Rounds.{span-begin}
+use Rattle.searches.proofs.Edges.{LinkSpan, link-ends, links-on, links-done}
 use Rattle.relax.proofs.relax_links.Statement.{statement}
 use Rattle.relax.proofs.relax_links.Tie as tie
 
 abbrev Inv-loop : tie.InvT-loop
 Inv-loop xs t k d₀ rows changed₀ r₀ d changed r =
-    (rows .first ≤ r) × (r ≤ rows .end) × (length d ≡ length d₀) × Round (LinkSpan xs (rows .first) r) d₀ changed d
+    (rows .first ≤ r) × (r ≤ rows .end) × (length d ≡ length d₀) × Round (LinkSpan each-one xs (rows .first) r) d₀ changed d
 
 abbrev μ-loop : tie.MeasureT-loop
 μ-loop xs t k d₀ rows changed₀ r₀ d changed r = rows .end - r
@@ -29,11 +30,6 @@ relax-link-requires c κs =
     link-ends (start .pre .0)
     (link-row (start .pre .0) _ (start .pre .1) (at-loop .loop .r) (at-link-rows .link-rows .ensures) (omega arith) (omega arith)) (search needs)
 
-add-r : tie.Need-add-r Inv-loop μ-loop
-add-r c =
-    let at-link-rows = c .before .before .before .before .before .before .before .before in
-    omega (arith, at-link-rows .link-rows .ensures .few)
-
 loop-again : tie.Need-loop-again Inv-loop μ-loop
 loop-again c =
     let at-relax-link = c .before .before .before in
@@ -41,7 +37,7 @@ loop-again c =
       search needs,
       search needs,
       search needs,
-      links-on _ _ _ (at-loop .loop .inv .0) (at-loop .loop .inv .3) (at-relax-link .relax-link .ensures) (c .either .ensures),
+      links-on _ _ _ _ (at-loop .loop .inv .0) (at-loop .loop .inv .3) (at-relax-link .relax-link .ensures) (c .either .ensures),
     )
 
 returns : tie.Need-returns Inv-loop μ-loop
@@ -49,10 +45,10 @@ returns c =
     let at-loop = c .before .before in
     let at-link-rows = at-loop .before in
     let e : at-loop .loop .r ≡ at-link-rows .link-rows .result .end =
-    omega arith in links-done _ _ (at-link-rows .link-rows .ensures) (rw e at (at-loop .loop .inv .3))
+    omega arith in links-done _ _ _ (at-link-rows .link-rows .ensures) (rw e at (at-loop .loop .inv .3))
 
 pub relax-links-spec : {M : Type 1} → statement M
 relax-links-spec =
     tie.close
-    (tie.spec Inv-loop μ-loop (λ c κs. search needs) loop-holds relax-link-requires (λ c κs. search needs) add-r (λ c. search needs) loop-again
+    (tie.spec Inv-loop μ-loop (λ c κs. search needs) loop-holds relax-link-requires (λ c κs. search needs) (λ c. search needs) (λ c. search needs) loop-again
     (λ c. search needs) returns)

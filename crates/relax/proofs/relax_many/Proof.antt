@@ -1,21 +1,10 @@
 -- `relax::relax_many` meets its contract.
 use borrow.Author.Needs.{needs}
-use native.Mathlib.Omega.{arith}
 use lib.ListN.{getD-replicate}
-use Rattle.model.specs.Limits.{noChain}
-use Rattle.relax.proofs.Lines.{round-alike, round-met}
+use Rattle.model.specs.Limits.{noChain, summaryWidth}
+use Rattle.searches.proofs.Lines.{round-alike, round-met}
 use Rattle.relax.proofs.relax_many.Statement.{statement}
 use Rattle.relax.proofs.relax_many.Tie as tie
-
-gather-requires : tie.Need-gather-requires
-gather-requires c κs =
-    let start = c .before .before .before .before .before in
-    (start .pre .0, omega (arith, start .pre .0 .few))
-
-put-met-requires : tie.Need-put-met-requires
-put-met-requires c κs =
-    let start = c .before .before .before .before .before .before .before .before .before .before .before .before .before .before .before .before .before in
-    (start .pre .0, omega (arith, start .pre .0 .few))
 
 returns : tie.Need-returns
 returns c =
@@ -23,7 +12,7 @@ returns c =
     let at-lower-lines = at-put-met .before .before .before .before .before .before .before .before in
     let at-gather = at-lower-lines .before .before .before .before in
     let start = at-gather .before .before .before .before .before .before in
-    round-met _ _ _ _ _ _ _ _ _ (start .pre .0 .few) (λ i h. getD-replicate 8 i noChain 0 h) (at-gather .gather .ensures)
+    round-met _ _ _ _ _ _ _ _ _ _ _ (start .pre .0 .few) (λ i l h. getD-replicate summaryWidth i noChain 0 h) (at-gather .gather .ensures)
     (at-lower-lines .lower-lines .ensures)
     (at-put-met .put-met .ensures .0) (at-put-met .put-met .ensures .1)
 
@@ -33,12 +22,12 @@ returns-2 c =
     let at-lower-lines = at-differ .before .before .before .before in
     let at-gather = at-lower-lines .before .before .before .before in
     let start = at-gather .before .before .before .before .before .before in
-    round-alike _ _ _ _ _ _ _ _ _ (start .pre .0 .few) (λ i h. getD-replicate 8 i noChain 0 h) (at-gather .gather .ensures)
+    round-alike _ _ _ _ _ _ _ _ _ _ _ (start .pre .0 .few) (λ i l h. getD-replicate summaryWidth i noChain 0 h) (at-gather .gather .ensures)
     (at-lower-lines .lower-lines .ensures) _
     (at-differ .differ .ensures) (c .if1 .left)
 
 pub relax-many-spec : {M : Type 1} → statement M
 relax-many-spec =
     tie.close
-    (tie.spec (λ c. search needs) gather-requires (λ c. search needs) (λ c. search needs) (λ c κs. search needs) (λ c. search needs)
-    (λ c. search needs) (λ c κs. search needs) (λ c. search needs) put-met-requires (λ c. search needs) returns (λ c. search needs) returns-2)
+    (tie.spec (λ c. search needs) (λ c κs. search needs) (λ c. search needs) (λ c. search needs) (λ c κs. search needs) (λ c. search needs)
+    (λ c. search needs) (λ c κs. search needs) (λ c. search needs) (λ c κs. search needs) (λ c. search needs) returns (λ c. search needs) returns-2)

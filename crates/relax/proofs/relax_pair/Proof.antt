@@ -2,20 +2,10 @@
 use borrow.Author.Needs.{needs}
 use native.Mathlib.Omega.{arith}
 use mathlib.Core.Path.{refl, _∙_}
-use Rattle.estimates.proofs.Starts.{meets-within}
-use Rattle.relax.proofs.Edges.{mesh-pair}
+use Rattle.searches.proofs.Starts.{meets-within}
+use Rattle.searches.proofs.Edges.{mesh-pair}
 use Rattle.relax.proofs.relax_pair.Statement.{statement}
 use Rattle.relax.proofs.relax_pair.Tie as tie
-
-column-requires : tie.Need-column-requires
-column-requires c κs =
-    let start = c .before .before .before in
-    (start .pre .0 .there, omega arith)
-
-column-requires-2 : tie.Need-column-requires-2
-column-requires-2 c κs =
-    let start = c .before .before .before .before .before in
-    (start .pre .0 .there, omega arith)
 
 improve-requires : tie.Need-improve-requires
 improve-requires c κs =
@@ -54,6 +44,6 @@ returns c =
 pub relax-pair-spec : {M : Type 1} → statement M
 relax-pair-spec =
     tie.close
-    (tie.spec column-requires (λ c κs. search needs) column-requires-2 (λ c κs. search needs) (λ c. search needs) (λ c. search needs)
+    (tie.spec (λ c κs. search needs) (λ c κs. search needs) (λ c κs. search needs) (λ c κs. search needs) (λ c. search needs) (λ c. search needs)
     (λ c. search needs) improve-requires (λ c. search needs) (λ c. search needs) (λ c. search needs) improve-requires-2 (λ c κs. search needs)
     (λ c. search needs) returns)

@@ -1,6 +1,6 @@
 -- `relax::relax_use` meets its contract.
 use borrow.Author.Needs.{needs}
-use Rattle.relax.proofs.Edges.{mesh-loop}
+use Rattle.searches.proofs.Edges.{mesh-loop}
 use Rattle.relax.proofs.relax_use.Statement.{statement}
 use Rattle.relax.proofs.relax_use.Tie as tie
 

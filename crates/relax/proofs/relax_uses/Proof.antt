@@ -4,10 +4,10 @@ use borrow.Author.Needs.{needs}
 use native.Mathlib.Omega.{arith}
 use mathlib.Core.Path.{_≡_}
 use lib.ListN.{length}
-use Rattle.estimates.specs.Rounds.{Round}
+use Rattle.searches.specs.Rounds.{Round}
 use Rattle.blocks.proofs.Loaded.{use-row, used-block}
-use Rattle.relax.proofs.Rounds.{span-begin}
-use Rattle.relax.proofs.Edges.{UseSpan, row-meets, mesh-use, uses-on, uses-done}
+use Rattle.searches.proofs.Rounds.{span-begin}
+use Rattle.searches.proofs.Edges.{UseSpan, row-meets, mesh-use, uses-on, uses-done}
 use Rattle.relax.proofs.relax_uses.Statement.{statement}
 use Rattle.relax.proofs.relax_uses.Tie as tie
 
@@ -21,29 +21,14 @@ abbrev μ-loop : tie.MeasureT-loop
 loop-holds : tie.Need-loop-holds Inv-loop μ-loop
 loop-holds c = (search needs, c .use-rows .ensures .order, search needs, span-begin _ _ _)
 
-used-requires : tie.Need-used-requires Inv-loop μ-loop
-used-requires c κs =
-    let at-use-rows = c .before .before .before in
-    omega (arith, at-use-rows .use-rows .ensures .there)
-
 joins-requires : tie.Need-joins-requires Inv-loop μ-loop
 joins-requires c κs =
     let at-loop = c .before .before .before in
     let at-use-rows = at-loop .before in
     let start = at-use-rows .before .before .before .before in
     let row =
-    use-row (start .pre .0) _ (start .pre .1) (at-loop .loop .r) (at-use-rows .use-rows .ensures) (omega arith) (omega arith) in
-    (start .pre .0, used-block _ row (c .used .ensures .0))
-
-mul-relax-use : tie.Need-mul-relax-use Inv-loop μ-loop
-mul-relax-use c =
-    let at-used = c .before in
-    let at-loop = at-used .before .before .before in
-    let at-use-rows = at-loop .before in
-    let start = at-use-rows .before .before .before .before in
-    let row =
-    use-row (start .pre .0) _ (start .pre .1) (at-loop .loop .r) (at-use-rows .use-rows .ensures) (omega arith) (omega arith) in
-    omega (arith, row .lower, at-used .used .ensures .0)
+    use-row (start .pre .loaded) _ (start .pre .block) (at-loop .loop .r) (at-use-rows .use-rows .ensures) (omega arith) (omega arith) in
+    (start .pre .loaded, used-block _ row (c .used .ensures .0))
 
 relax-use-requires : tie.Need-relax-use-requires Inv-loop μ-loop
 relax-use-requires c κs =
@@ -53,13 +38,9 @@ relax-use-requires c κs =
     let at-use-rows = at-loop .before in
     let start = at-use-rows .before .before .before .before in
     let row =
-    use-row (start .pre .0) _ (start .pre .1) (at-loop .loop .r) (at-use-rows .use-rows .ensures) (omega arith) (omega arith) in
-    (row-meets (start .pre .0) row _ _ (at-used .used .ensures .0) (at-joins .joins .ensures .0) _ (omega arith), omega (arith, row .lower, at-used .used .ensures .0))
-
-add-r : tie.Need-add-r Inv-loop μ-loop
-add-r c =
-    let at-use-rows = c .before .before .before .before .before .before .before .before .before .before in
-    omega (arith, at-use-rows .use-rows .ensures .few)
+    use-row (start .pre .loaded) _ (start .pre .block) (at-loop .loop .r) (at-use-rows .use-rows .ensures) (omega arith) (omega arith) in
+    let named = at-used .used .ensures .0 in
+    (row-meets (start .pre .loaded) row _ _ named (at-joins .joins .ensures .0) _ (omega arith), omega (arith, row .lower, named))
 
 loop-again : tie.Need-loop-again Inv-loop μ-loop
 loop-again c =
@@ -70,12 +51,13 @@ loop-again c =
     let at-use-rows = at-loop .before in
     let start = at-use-rows .before .before .before .before in
     let row =
-    use-row (start .pre .0) _ (start .pre .1) (at-loop .loop .r) (at-use-rows .use-rows .ensures) (omega arith) (omega arith) in (
+    use-row (start .pre .loaded) _ (start .pre .block) (at-loop .loop .r) (at-use-rows .use-rows .ensures) (omega arith) (omega arith) in (
       search needs,
       search needs,
       search needs,
       uses-on _ _ _ _ (at-loop .loop .inv .0) (at-loop .loop .inv .3)
-          (mesh-use (start .pre .0) row _ _ (at-used .used .ensures .0) (at-joins .joins .ensures .0) _ (at-relax-use .relax-use .ensures)) (c .either .ensures),
+          (mesh-use (start .pre .loaded) row _ _ (at-used .used .ensures .0) (at-joins .joins .ensures .0) _ (at-relax-use .relax-use .ensures))
+          (c .either .ensures),
     )
 
 returns : tie.Need-returns Inv-loop μ-loop
@@ -88,5 +70,6 @@ returns c =
 pub relax-uses-spec : {M : Type 1} → statement M
 relax-uses-spec =
     tie.close
-    (tie.spec Inv-loop μ-loop (λ c κs. search needs) loop-holds used-requires joins-requires mul-relax-use relax-use-requires (λ c κs. search needs)
-    add-r (λ c. search needs) loop-again (λ c. search needs) returns)
+    (tie.spec Inv-loop μ-loop (λ c κs. search needs) loop-holds (λ c κs. search needs) joins-requires (λ c. search needs) relax-use-requires
+    (λ c κs. search needs)
+    (λ c. search needs) (λ c. search needs) loop-again (λ c. search needs) returns)

@@ -4,14 +4,15 @@ use borrow.Author.Needs.{needs}
 use mathlib.Core.Path.{_≡_}
 use lib.ListN.{length}
 use Rattle.model.specs.Blocks.{blocksOf}
-use Rattle.estimates.specs.Rounds.{sum, Runs}
-use Rattle.relax.specs.Edges.{BlockEdge}
-use Rattle.relax.proofs.Rounds.{runs-begin, round-again, round-falls, round-last}
+use Rattle.distances.specs.Walks.{each-one}
+use Rattle.searches.specs.Rounds.{sum, Runs}
+use Rattle.searches.specs.Edges.{BlockEdge}
+use Rattle.searches.proofs.Rounds.{runs-begin, round-again, round-falls, round-last}
 use Rattle.relax.proofs.settle.Statement.{statement}
 use Rattle.relax.proofs.settle.Tie as tie
 
 abbrev Inv-loop : tie.InvT-loop
-Inv-loop xs t work k d₀ d = (length d ≡ length d₀) × Runs (BlockEdge (blocksOf xs) work k) d₀ d
+Inv-loop xs t work k d₀ d = (length d ≡ length d₀) × Runs (BlockEdge each-one (blocksOf xs) work k) d₀ d
 
 abbrev μ-loop : tie.MeasureT-loop
 μ-loop xs t work k d₀ d = sum d

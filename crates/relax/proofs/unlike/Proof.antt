@@ -1,7 +1,7 @@
 -- `relax::unlike` meets its contract.
 use mathlib.Core.Path.{refl}
 use borrow.Author.Needs.{needs}
-use Rattle.estimates.proofs.Rounds.{true-not-false}
+use Rattle.searches.proofs.Lowering.{true-not-false}
 use Rattle.relax.proofs.unlike.Statement.{statement}
 use Rattle.relax.proofs.unlike.Tie as tie
 

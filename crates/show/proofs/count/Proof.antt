@@ -2,7 +2,7 @@
 use borrow.Author.Needs.{needs}
 use Rattle.model.specs.Answers.{ofCount}
 use Rattle.model.specs.Questions.{countAsked}
-use Rattle.answers.proofs.Outcomes.{loaded, asked-no}
+use Rattle.loading.proofs.Checked.{loaded, asked-no}
 use Rattle.show.proofs.Counting.{count-yes}
 use Rattle.show.proofs.count.Statement.{statement}
 use Rattle.show.proofs.count.Tie as tie

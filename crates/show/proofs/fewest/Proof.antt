@@ -2,7 +2,7 @@
 use borrow.Author.Needs.{needs}
 use Rattle.model.specs.Answers.{ofFewest}
 use Rattle.model.specs.Questions.{refuse, fewestAsked}
-use Rattle.answers.proofs.Outcomes.{loaded, asked-yes, asked-no}
+use Rattle.loading.proofs.Checked.{loaded, asked-yes, asked-no}
 use Rattle.show.proofs.fewest.Statement.{statement}
 use Rattle.show.proofs.fewest.Tie as tie
 

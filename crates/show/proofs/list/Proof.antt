@@ -3,7 +3,7 @@ use borrow.Author.Needs.{needs}
 use Rattle.model.specs.Answers.{ofList}
 use Rattle.model.specs.Questions.{refuse}
 use Rattle.answers.specs.Asked.{listAsked}
-use Rattle.answers.proofs.Outcomes.{loaded, asked-yes, asked-no}
+use Rattle.loading.proofs.Checked.{loaded, asked-yes, asked-no}
 use Rattle.show.proofs.list.Statement.{statement}
 use Rattle.show.proofs.list.Tie as tie
 

@@ -2,7 +2,7 @@
 use borrow.Author.Needs.{needs}
 use Rattle.model.specs.Answers.{ofLocate}
 use Rattle.model.specs.Questions.{refuse, locateAsked}
-use Rattle.answers.proofs.Outcomes.{loaded, asked-yes, asked-no}
+use Rattle.loading.proofs.Checked.{loaded, asked-yes, asked-no}
 use Rattle.show.proofs.locate.Statement.{statement}
 use Rattle.show.proofs.locate.Tie as tie
 

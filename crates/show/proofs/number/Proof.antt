@@ -2,7 +2,7 @@
 use borrow.Author.Needs.{needs}
 use Rattle.model.specs.Answers.{ofNumber}
 use Rattle.model.specs.Questions.{numberAsked}
-use Rattle.answers.proofs.Outcomes.{loaded, asked-yes, asked-no}
+use Rattle.loading.proofs.Checked.{loaded, asked-yes, asked-no}
 use Rattle.show.proofs.number.Statement.{statement}
 use Rattle.show.proofs.number.Tie as tie
 

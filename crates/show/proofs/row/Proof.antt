@@ -2,7 +2,7 @@
 use borrow.Author.Needs.{needs}
 use Rattle.model.specs.Answers.{ofRow}
 use Rattle.model.specs.Questions.{refuse, rowAsked}
-use Rattle.answers.proofs.Outcomes.{loaded, asked-yes, asked-no}
+use Rattle.loading.proofs.Checked.{loaded, asked-yes, asked-no}
 use Rattle.show.proofs.row.Statement.{statement}
 use Rattle.show.proofs.row.Tie as tie
 

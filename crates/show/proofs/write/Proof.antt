@@ -2,7 +2,7 @@
 use borrow.Author.Needs.{needs}
 use Rattle.model.specs.Answers.{ofWrite}
 use Rattle.model.specs.Questions.{refuse, writeAsked}
-use Rattle.answers.proofs.Outcomes.{said-yes, asked-yes, asked-no}
+use Rattle.loading.proofs.Checked.{said-yes, asked-yes, asked-no}
 use Rattle.show.proofs.write.Statement.{statement}
 use Rattle.show.proofs.write.Tie as tie
 

@@ -1,3 +1,0 @@
--- The laws of estimates.
-pub mod Rounds
-pub mod Starts

@@ -1,3 +1,0 @@
--- What the contracts of this crate are stated with.
-pub mod Rounds
-pub mod Starts

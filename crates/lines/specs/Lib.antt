@@ -1,0 +1,2 @@
+-- What the contracts of lines at a place are stated with.
+pub mod Scanning

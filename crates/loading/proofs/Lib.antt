@@ -1,0 +1,6 @@
+-- The laws of loading.
+pub mod Checked
+pub mod Files
+pub mod DeskRows
+pub mod DeskFiles
+pub mod Outcomes

@@ -1,0 +1,144 @@
+-- Laws of what estimates begin with, and of the estimates of some cues.
+use Prim.Native.Nat.{ℕ, _+_, _≤_, _<_}
+use native.Mathlib.Omega.{arith}
+use native.Mathlib.Decide.{ℕ-discrete}
+use mathlib.Core.Path.{_≡_, refl, _∙_, ap}
+use mathlib.Core.Logic.{_⊎_, inl, inr}
+use mathlib.Core.List.{List}
+use lib.ListN.{length, getD, set}
+use lib.Seq.{getD-set-same, getD-set-other}
+use Rattle.blocks.specs.Loaded.{columnAt}
+use Rattle.searches.specs.Starts.{Beginnings, Nowhere, Cell, Either, EachOf, Meets, MetAt, Started, Merged, Gathered}
+use Rattle.searches.proofs.Lowering.{inside}
+
+-- The first n numbers of a list are f's, and one more.
+pub agree-on : (f : ℕ → ℕ) (d : List ℕ) (n : ℕ) → n < length d → ((a : ℕ) → a < n → getD d a 0 ≡ f a)
+    → (a : ℕ) → a < n + 1 → getD (set d n (f n)) a 0 ≡ f a
+agree-on f d n h below a l = go (ℕ-discrete a n)
+  where
+    go : Dec (a ≡ n) → getD (set d n (f n)) a 0 ≡ f a
+    go (yes e) = rw e (getD-set-same d n (f n) 0 h)
+    go (no m) = getD-set-other d n a (f n) 0 m ∙ below a (omega arith)
+
+pub started-blank : (inf : ℕ) (d : List ℕ) (n c : ℕ) → n < c → ((a : ℕ) → a < c → getD d a 0 ≡ inf) → Started inf n Nowhere d
+started-blank inf d n c h blank =
+    record { fallen = λ a x l b. absurd b; attained = λ a l k. absurd (omega (arith, blank a (omega arith))) }
+
+-- An estimate put in, or not.
+pub merged-put : (v y : ℕ) (d : List ℕ) → y < getD d v 0 → Merged (Cell v y) d (set d v y)
+merged-put v y d h =
+    record { fallen = λ a x b. fallen a x b; lower = λ a. lower a (ℕ-discrete a v); from = λ a. from a (ℕ-discrete a v) }
+  where
+    same : getD (set d v y) v 0 ≡ y
+    same = getD-set-same d v y 0 (inside d v y h)
+
+    fallen : (a x : ℕ) → Cell v y a x → getD (set d v y) a 0 ≤ x
+    fallen a x (p, q) = rw (p, q) (omega (arith, same))
+
+    lower : (a : ℕ) → Dec (a ≡ v) → getD (set d v y) a 0 ≤ getD d a 0
+    lower a (yes p) = rw p (omega (arith, same))
+    lower a (no n) = omega (arith, getD-set-other d v a y 0 n)
+
+    from : (a : ℕ) → Dec (a ≡ v) → (getD (set d v y) a 0 ≡ getD d a 0) ⊎ Cell v y a (getD (set d v y) a 0)
+    from a (yes p) = inr (p, rw p same)
+    from a (no n) = inl (getD-set-other d v a y 0 n)
+
+pub merged-kept : (v y : ℕ) (d : List ℕ) → getD d v 0 ≤ y → Merged (Cell v y) d d
+merged-kept v y d h =
+    record { fallen = λ a x b. omega (arith, b .1, ap (λ (c : ℕ). getD d c 0) (b .0)); lower = λ a. omega arith; from = λ a. inl refl }
+
+-- Nothing put in; and one after the other.
+pub merged-nothing : {S : Beginnings} (d : List ℕ) → ((a x : ℕ) → S a x → ⊥) → Merged S d d
+merged-nothing d h = record { fallen = λ a x b. absurd (h a x b); lower = λ a. omega arith; from = λ a. inl refl }
+
+pub merged-then : {S T X : Beginnings} {d e f : List ℕ} → ((a x : ℕ) → S a x → X a x) → ((a x : ℕ) → T a x → X a x)
+    → ((a x : ℕ) → X a x → S a x ⊎ T a x) → Merged S d e → Merged T e f → Merged X d f
+merged-then {S} {T} {X} {d} {e} {f} l r back s t =
+    record {
+      fallen =
+          λ a x b. fallen a x (back a x b);
+      lower = λ a. omega (arith, s .lower a, t .lower a);
+      from = λ a. from a (t .from a);
+    }
+  where
+    fallen : (a x : ℕ) → S a x ⊎ T a x → getD f a 0 ≤ x
+    fallen a x (inl b) = omega (arith, t .lower a, s .fallen a x b)
+    fallen a x (inr b) = t .fallen a x b
+
+    first : (a : ℕ) → getD f a 0 ≡ getD e a 0 → (getD e a 0 ≡ getD d a 0) ⊎ S a (getD e a 0)
+        → (getD f a 0 ≡ getD d a 0) ⊎ X a (getD f a 0)
+    first a p (inl q) = inl (p ∙ q)
+    first a p (inr b) = inr (rw p (l a (getD e a 0) b))
+
+    from : (a : ℕ) → (getD f a 0 ≡ getD e a 0) ⊎ T a (getD f a 0) → (getD f a 0 ≡ getD d a 0) ⊎ X a (getD f a 0)
+    from a (inl p) = first a p (s .from a)
+    from a (inr b) = inr (r a (getD f a 0) b)
+
+-- Each of some: none yet, and one more.
+pub each-begin : (S : ℕ → Beginnings) (d : List ℕ) → Merged (EachOf S 0) d d
+each-begin S d = merged-nothing d (λ a x b. omega (arith, b .1))
+
+pub each-on : (S : ℕ → Beginnings) (i : ℕ) {d e f : List ℕ} → Merged (EachOf S i) d e → Merged (S i) e f → Merged (EachOf S (i + 1)) d f
+each-on S i s t =
+    merged-then (λ a x b. (b .0, omega (arith, b .1), b .2)) (λ a x b. (i, omega arith, b))
+    (λ a x b. at a x b (ℕ-discrete (b .0) i)) s t
+  where
+    at : (a x : ℕ) (b : EachOf S (i + 1) a x) → Dec (b .0 ≡ i) → EachOf S i a x ⊎ S i a x
+    at a x (j, h, b) (yes e) = inr (rw e at b)
+    at a x (j, h, b) (no n) = inl (j, omega arith, b)
+
+pub met-begin : (xs : List ℕ) (r : ℕ) (kept : List ℕ) (q : ℕ) (d : List ℕ) → Merged (MetAt xs r kept q 0) d d
+unfolding MetAt
+met-begin xs r kept q d = each-begin (λ i. Cell (columnAt xs r i) (getD kept (q + i) 0)) d
+
+pub met-on : (xs : List ℕ) (r : ℕ) (kept : List ℕ) (q i v y : ℕ) {d e f : List ℕ} → Merged (MetAt xs r kept q i) d e
+    → v ≡ columnAt xs r i → y ≡ getD kept (q + i) 0 → Merged (Cell v y) e f → Merged (MetAt xs r kept q (i + 1)) d f
+unfolding MetAt
+met-on xs r kept q i v y s ev ey t = each-on (λ i. Cell (columnAt xs r i) (getD kept (q + i) 0)) i s (rw (ev, ey) at t)
+
+module _ {inf n : ℕ} {begun : Beginnings} where
+  pub started-merged : {S : Beginnings} {d e : List ℕ} → Started inf n begun d → Merged S d e → Started inf n (Either begun S) e
+  started-merged {S} {d} {e} s m =
+      record { fallen = λ a x l b. fallen a x l b; attained = λ a l k. attained a l k (m .from a) }
+    where
+      fallen : (a x : ℕ) → a ≤ n → Either begun S a x → getD e a 0 ≤ x
+      fallen a x l (inl b) = omega (arith, m .lower a, s .fallen a x l b)
+      fallen a x l (inr b) = m .fallen a x b
+
+      attained : (a : ℕ) → a ≤ n → getD e a 0 < inf → (getD e a 0 ≡ getD d a 0) ⊎ S a (getD e a 0) → Either begun S a (getD e a 0)
+      attained a l k (inl p) = inl (rw p (s .attained a l (rw p at k)))
+      attained a l k (inr b) = inr b
+
+  -- What amounts to the same.
+  pub started-same : {other : Beginnings} {d : List ℕ} → ((a x : ℕ) → begun a x → other a x) → ((a x : ℕ) → other a x → begun a x)
+      → Started inf n begun d → Started inf n other d
+  started-same {other} {d} f g s =
+      record { fallen = λ a x l b. s .fallen a x l (g a x b); attained = λ a l k. f a (getD d a 0) (s .attained a l k) }
+
+-- Nothing, and then something.
+pub started-first : {inf n : ℕ} {S : Beginnings} {d e : List ℕ} → Started inf n Nowhere d → Merged S d e → Started inf n S e
+started-first {S = S} s m = started-same (λ a x b. to a x b) (λ a x b. inr b) (started-merged s m)
+  where
+    to : (a x : ℕ) → Either Nowhere S a x → S a x
+    to a x (inl b) = absurd b
+    to a x (inr b) = b
+
+-- A cue that a row names, as read there.
+pub meets-within : {xs : List ℕ} {r m n : ℕ} (i c v : ℕ) → Meets xs r m n → i < m → c ≡ columnAt xs r i → v ≡ c → v < n
+meets-within i c v h l x y = omega (arith, h .within i l)
+
+-- The estimates of some cues, one more.
+pub gathered-begin : (xs : List ℕ) (r : ℕ) (d e : List ℕ) → Gathered xs r d 0 e e
+gathered-begin xs r d e = record { at = λ i h. absurd (omega arith); else = λ i h. refl }
+
+pub gathered-on : (xs : List ℕ) (r : ℕ) (d : List ℕ) (m : ℕ) (e₀ e : List ℕ) (c x : ℕ) → m < length e → Gathered xs r d m e₀ e
+    → c ≡ columnAt xs r m
+    → x ≡ getD d c 0 → Gathered xs r d (m + 1) e₀ (set e m x)
+gathered-on xs r d m e₀ e c x h g ec ex = record { at = λ i l. at i l (ℕ-discrete i m); else = else }
+  where
+    at : (i : ℕ) → i < m + 1 → Dec (i ≡ m) → getD (set e m x) i 0 ≡ getD d (columnAt xs r i) 0
+    at i l (yes q) = rw (q, ← ec) (getD-set-same e m x 0 h ∙ ex)
+    at i l (no n) = getD-set-other e m i x 0 n ∙ g .at i (omega arith)
+
+    else : (i : ℕ) → m + 1 ≤ i → getD (set e m x) i 0 ≡ getD e₀ i 0
+    else i l = getD-set-other e m i x 0 (λ q. omega arith) ∙ g .else i (omega arith)
