@@ -61,3 +61,12 @@ pub enum FewestAnswer {
     None,
     Refused(Refusal),
 }
+
+// The quickest way from one cue to another: the sum of its waits in tenths of a second, or none. A refusal of the wait file has a line in 64 bits as its
+// place, since such a file may have any number of lines.
+pub enum QuickestAnswer {
+    Tenths(u64),
+    None,
+    Unfit(u32, u64),
+    Refused(Refusal),
+}
