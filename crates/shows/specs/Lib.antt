@@ -5,4 +5,5 @@ pub mod Copies
 pub mod Numbering
 pub mod Lists
 pub mod Files
+pub mod Waits
 pub mod Origins
