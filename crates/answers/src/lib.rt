@@ -312,7 +312,7 @@ fn quickest_under(
     let mut waits = [0u32; WAITS];
     match waits::read(file, &mut waits) {
         WaitsRead::Lawful => quickest_with(rows, table, s, t, &waits, work),
-        WaitsRead::Unfit(number, line) => QuickestAnswer::Unfit(number, line),
+        WaitsRead::Unfit(number, line) => QuickestAnswer::Refused(number, line),
     }
 }
 
@@ -330,17 +330,11 @@ pub fn quickest_in(
         ≡ quickestIn (blocksOf (now (rows .entry))) s t (now (file .entry)) (now (work .entry)) ⌝ }
 {
     if work.len() < WORK_SIZE {
-        return QuickestAnswer::Refused(Refusal {
-            number: 11,
-            place: 0,
-        });
+        return QuickestAnswer::Refused(11, 0);
     }
     let known = are_cues(blocks::count(rows, table), s, t);
     if !known {
-        return QuickestAnswer::Refused(Refusal {
-            number: 12,
-            place: 0,
-        });
+        return QuickestAnswer::Refused(12, 0);
     }
     quickest_under(rows, table, s, t, file, work)
 }

@@ -23,7 +23,7 @@ use Rattle.model.specs.declared.RowAnswer.the-variants.{Row, Refused as 
 use Rattle.model.specs.declared.FewestAnswer.{FewestAnswer}
 use Rattle.model.specs.declared.FewestAnswer.the-variants.{Steps, None, Refused as FewestRefused}
 use Rattle.model.specs.declared.QuickestAnswer.{QuickestAnswer}
-use Rattle.model.specs.declared.QuickestAnswer.the-variants.{Tenths, None as NoWay, Unfit as QuickestUnfit, Refused as QuickestRefused}
+use Rattle.model.specs.declared.QuickestAnswer.the-variants.{Tenths, None as NoWay, Refused as QuickestRefused}
 
 pub record Returned : Type 0 where
   pub number : ℕ
@@ -87,9 +87,8 @@ ofFewest (FewestRefused r) = returned r
 unfoldable pub halves : ℕ → List ℕ
 halves n = n % 4294967296 ∷ n / 4294967296 ∷ []
 
--- "The quickest answer" (02, Paper 5): whether there is one, and the sum, 0 where there is none; a refusal of the wait file, with its line.
+-- "The quickest answer" (02, Paper 5): whether there is one, and the sum, 0 where there is none.
 unfoldable pub ofQuickest : QuickestAnswer → Returned
 ofQuickest (Tenths n) = given (1 ∷ halves n)
 ofQuickest NoWay = given (0 ∷ halves 0)
-ofQuickest (QuickestUnfit number line) = returned (refusal number line)
-ofQuickest (QuickestRefused r) = returned r
+ofQuickest (QuickestRefused number place) = returned (refusal number place)

@@ -62,11 +62,10 @@ pub enum FewestAnswer {
     Refused(Refusal),
 }
 
-// The quickest way from one cue to another: the sum of its waits in tenths of a second, or none. A refusal of the wait file has a line in 64 bits as its
-// place, since such a file may have any number of lines.
+// The quickest way from one cue to another: the sum of its waits in tenths of a second, or none. A refusal is a number and a place as everywhere, the place
+// in 64 bits: it may be a line of the wait file, which has any number of lines.
 pub enum QuickestAnswer {
     Tenths(u64),
     None,
-    Unfit(u32, u64),
-    Refused(Refusal),
+    Refused(u32, u64),
 }

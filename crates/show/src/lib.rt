@@ -136,6 +136,13 @@ pub fn fewest(rows: &[u32], s: u32, t: u32, work: &mut [u32]) -> FewestAnswer
     }
 }
 
+// A place of 32 bits in 64.
+fn long(place: u32) -> u64
+    ensures { λ r. ⌜ r ≡ place ⌝ }
+{
+    place as u64
+}
+
 // The quickest way from cue s to cue t under a wait file: the smallest sum of waits over all chains in tenths of a second, or none; notes are not followed.
 // The first numbers of the work area, which has 64 bits, are 0 afterwards.
 pub fn quickest(rows: &[u32], s: u32, t: u32, waits: &[u8], work: &mut [u64]) -> QuickestAnswer
@@ -144,6 +151,6 @@ pub fn quickest(rows: &[u32], s: u32, t: u32, waits: &[u8], work: &mut [u64]) ->
     let mut table = [0u32; INDEX];
     match verdicts::check(rows, &mut table) {
         Verdict::Accepted => answers::quickest_in(rows, &table, s, t, waits, work),
-        Verdict::Refused(refusal) => QuickestAnswer::Refused(refusal),
+        Verdict::Refused(refusal) => QuickestAnswer::Refused(refusal.number, long(refusal.place)),
     }
 }

@@ -326,7 +326,6 @@ pub extern "C" fn show_quickest(
     match show::quickest(rows, s, t, waits, work) {
         QuickestAnswer::Tenths(n) => tell_3(given, 1, low(n), high(n)),
         QuickestAnswer::None => tell_3(given, 0, 0, 0),
-        QuickestAnswer::Unfit(number, line) => refused_at(number, line),
-        QuickestAnswer::Refused(r) => refused(r),
+        QuickestAnswer::Refused(number, place) => refused_at(number, place),
     }
 }
