@@ -55,6 +55,9 @@ pub mod RowBehind
 pub mod WorkArea
 pub mod Shortest
 pub mod Notes
+-- the quickest way: chains with their sums, the answer
+pub mod Sums
+pub mod Quickest
 -- what is printed
 pub mod NumberTexts
 pub mod Triples

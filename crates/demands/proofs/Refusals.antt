@@ -51,7 +51,7 @@ module _ (xs : List ℕ) (n : ℕ) (lent : List ℕ) (o : Outcome) where
   lacks-cue (inl z) = no-cue _ _ _ _ (lt-then _ _ _ _ (omega arith))
   lacks-cue (inr h) = no-cue _ _ _ _ (lt-else _ _ _ _ (omega arith) ∙ lt-then _ _ _ _ h)
 
-  holds-cue : (NoCue xs n → ⊥) → withCue (blocksOf xs) n lent o ≡ o
+  pub holds-cue : (NoCue xs n → ⊥) → withCue (blocksOf xs) n lent o ≡ o
   holds-cue k =
       let a : n ≡ 0 → ⊥ = λ z. k (inl z) in
       let b : count (blocksOf xs) < n → ⊥ = λ h. k (inr h) in
