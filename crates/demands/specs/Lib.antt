@@ -16,3 +16,4 @@ pub mod Fewest
 pub mod WorkArea
 pub mod Notes
 pub mod Desk
+pub mod Waits
