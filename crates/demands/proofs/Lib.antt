@@ -68,3 +68,7 @@ pub mod DeskTable
 pub mod DeskReading
 pub mod DeskExample
 pub mod DeskWork
+-- wait files
+pub mod WaitLines
+pub mod Waits
+pub mod LabelWaits

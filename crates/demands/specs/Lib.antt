@@ -18,3 +18,4 @@ pub mod Notes
 pub mod Waits
 pub mod Quickest
 pub mod Desk
+pub mod Waits
