@@ -55,7 +55,10 @@ pub mod RowBehind
 pub mod WorkArea
 pub mod Shortest
 pub mod Notes
--- the quickest way: chains with their sums, the answer
+-- wait files, the label's wait in each, chains with their sums, the quickest way
+pub mod WaitLines
+pub mod Waits
+pub mod LabelWaits
 pub mod Sums
 pub mod Quickest
 -- what is printed
@@ -68,7 +71,3 @@ pub mod DeskTable
 pub mod DeskReading
 pub mod DeskExample
 pub mod DeskWork
--- wait files
-pub mod WaitLines
-pub mod Waits
-pub mod LabelWaits

@@ -9,12 +9,13 @@ use lib.ListN.{length}
 use Rattle.model.specs.Rules.{isCue}
 use Rattle.model.specs.Blocks.{blocksOf, count}
 use Rattle.model.specs.Behind.{Behind, Stands, Missing, behind}
+use Rattle.model.specs.Waits.{WaitFile, waitFile}
 use Rattle.model.specs.Verdicts.{refusal, verdict}
-use Rattle.model.specs.Answers.{Returned, given, returned, ofWrite, ofCount, ofLocate, ofNumber, ofList, ofRow, ofFewest}
+use Rattle.model.specs.Answers.{Returned, given, returned, ofWrite, ofCount, ofLocate, ofNumber, ofList, ofRow, ofFewest, ofQuickest}
 use Rattle.model.specs.Questions.{Outcome, outcome, refuse, answer, onAccepted, withRoom, withCue, writeInto, writeAsked, countAsked}
 use Rattle.model.specs.Questions.{located, locateIn, locateAsked, numbered, numberAsked}
-use Rattle.model.specs.Questions.{listed, listIn, outAsked, inAsked, rowFound, rowIn, rowAsked, fewestIn, fewestAsked}
-use Rattle.model.specs.Asking.{AsksWrite, AsksCount, AsksLocate, AsksNumber, AsksOut, AsksIn, AsksRow, AsksFewest}
+use Rattle.model.specs.Questions.{listed, listIn, outAsked, inAsked, rowFound, rowIn, rowAsked, fewestIn, fewestAsked, quickestUnder, quickestIn, quickestAsked}
+use Rattle.model.specs.Asking.{AsksWrite, AsksCount, AsksLocate, AsksNumber, AsksOut, AsksIn, AsksRow, AsksFewest, AsksQuickest}
 use Rattle.model.specs.declared.Refusal.{Refusal}
 use Rattle.model.specs.declared.Verdict.{Verdict}
 use Rattle.model.specs.declared.Verdict.the-variants.{Accepted, Refused}
@@ -25,6 +26,7 @@ use Rattle.model.specs.declared.NumberAnswer.{NumberAnswer}
 use Rattle.model.specs.declared.ListAnswer.{ListAnswer}
 use Rattle.model.specs.declared.RowAnswer.{RowAnswer}
 use Rattle.model.specs.declared.FewestAnswer.{FewestAnswer}
+use Rattle.model.specs.declared.QuickestAnswer.{QuickestAnswer}
 use Rattle.basics.proofs.Choices.{lt-then, lt-else, eq-then, eq-else}
 use Rattle.shows.proofs.Outcomes.{has-room, no-room, has-cue, no-cue}
 use Rattle.demands.specs.Acceptance.{Lawful, ChecksRows}
@@ -34,6 +36,7 @@ use Rattle.demands.proofs.Stages.{numbers}
 use Rattle.demands.proofs.Acceptance.{accepted-exactly, refused-is, checks-rows}
 use Rattle.demands.proofs.Padding.{text-is}
 use Rattle.demands.proofs.Writing.{says}
+use Rattle.demands.proofs.Waits.{Outcome as Says, broken, outside, fallen, lawful, wait-file}
 
 -- Whether a cue is one of the show's,
 cue-known : (xs : List ℕ) (n : ℕ) → Dec (NoCue xs n)
@@ -244,3 +247,23 @@ pub fewest-refuses : (xs : List ℕ) (s t : ℕ) (work after : List ℕ) (r : Fe
 unfolding fewestAsked fewestIn
 fewest-refuses xs s t work after r e =
     asked e (λ _. with-room (λ h. h, λ h. h) (λ room. with-cue room (with-cue room (answers _ _ room (none-wrong xs)))))
+
+-- 15, 16 or 17 where the wait file has a fault.
+waits-come : (xs : List ℕ) (s t : ℕ) (f work : List ℕ) (w : WaitFile) → Says f w → (TooShort 16384 work → ⊥)
+    → Comes xs (TooShort 16384 work) [] (15 ∷ 16 ∷ 17 ∷ []) work (quickestUnder w (blocksOf xs) s t work)
+unfolding quickestUnder
+waits-come xs s t f work w (broken n e b) room =
+    rw e (refuses-later 15 n (λ h. omega arith) (omega arith) (List·Memᴰ·head refl) room (none-wrong xs))
+waits-come xs s t f work w (outside n vss e p b) room =
+    rw e (refuses-later 16 n (λ h. omega arith) (omega arith) (List·Memᴰ·tail (List·Memᴰ·head refl)) room (none-wrong xs))
+waits-come xs s t f work w (fallen n vss e p i b) room =
+    rw e (refuses-later 17 n (λ h. omega arith) (omega arith) (List·Memᴰ·tail (List·Memᴰ·tail (List·Memᴰ·head refl))) room (none-wrong xs))
+waits-come xs s t f work w (lawful vss e l) room = rw e (answers _ _ room (none-wrong xs))
+
+pub quickest-refuses : (xs : List ℕ) (s t : ℕ) (f work after : List ℕ) (r : QuickestAnswer) → AsksQuickest xs s t f work r after
+    → Refuses xs (TooShort 16384 work) (s ∷ t ∷ []) (15 ∷ 16 ∷ 17 ∷ []) work (ofQuickest r) after
+unfolding quickestAsked quickestIn
+quickest-refuses xs s t f work after r e =
+    asked e
+    (λ _. with-room (λ h. h, λ h. h)
+    (λ room. with-cue room (with-cue room (waits-come xs s t f work (waitFile f) (wait-file f (waitFile f) .0 refl) room))))

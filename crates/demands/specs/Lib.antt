@@ -18,4 +18,3 @@ pub mod Notes
 pub mod Waits
 pub mod Quickest
 pub mod Desk
-pub mod Waits
