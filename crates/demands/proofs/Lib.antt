@@ -61,6 +61,8 @@ pub mod Waits
 pub mod LabelWaits
 pub mod Sums
 pub mod Quickest
+pub mod QuickestAsked
+pub mod WaitExamples
 -- what is printed
 pub mod NumberTexts
 pub mod Triples

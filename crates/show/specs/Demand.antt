@@ -1,17 +1,17 @@
--- Demands 2 and 3, and what document 02, Paper 4, demands, of the answers that the entry points give, in the words of documents 01 and 02. What an entry
+-- Demands 2 and 3, and what document 02, Papers 4 and 5, demand, of the answers that the entry points give, in the words of documents 01 and 02. What an entry
 -- point is asked and answers is known by its promise (crates/model/specs/Asking), which is what its function ensures; the words are those of
 -- crates/demands/specs, a page for each part; for the text of a file, of crates/shows/specs/Files; for chains and summaries, of
 -- crates/distances/specs/Demand. Other words of the model and its laws are pinned by `Words` and by the statements that they stand in.
 use Prim.Native.Nat.{ℕ, _*_, _≤_, _<_}
 use mathlib.Core.Bool.{Bool}
 use mathlib.Core.List.{List, [], _∷_}
-use lib.ListN.{length, take}
+use lib.ListN.{length, take, replicate}
 use Rattle.model.specs.Limits.{rowSize, maxDepth}
 use Rattle.model.specs.Blocks.{blocksOf, lastBlock, count}
 use Rattle.model.specs.Unfolding.{showLinks}
 use Rattle.model.specs.Summaries.{blockLinks}
-use Rattle.model.specs.Answers.{ofWrite, ofCount, ofLocate, ofNumber, ofList, ofRow, ofFewest}
-use Rattle.model.specs.Ring.{ring, notedRing, opening, paddedFile}
+use Rattle.model.specs.Answers.{ofWrite, ofCount, ofLocate, ofNumber, ofList, ofRow, ofFewest, ofQuickest}
+use Rattle.model.specs.Ring.{ring, notedRing, opening, paddedFile, ringWaits, cutWaits, outsideWaits, twiceWaits}
 use Rattle.model.specs.declared.ReadAnswer.{ReadAnswer}
 use Rattle.model.specs.declared.ReadAnswer.the-variants.{Read}
 use Rattle.model.specs.declared.WriteAnswer.{WriteAnswer}
@@ -22,12 +22,14 @@ use Rattle.model.specs.declared.NumberAnswer.{NumberAnswer}
 use Rattle.model.specs.declared.ListAnswer.{ListAnswer}
 use Rattle.model.specs.declared.RowAnswer.{RowAnswer}
 use Rattle.model.specs.declared.FewestAnswer.{FewestAnswer}
-use Rattle.model.specs.Asking.{AsksRead, AsksDeskRead, AsksWrite, AsksCount, AsksLocate, AsksNumber, AsksOut, AsksIn, AsksRow, AsksFewest}
+use Rattle.model.specs.declared.QuickestAnswer.{QuickestAnswer}
+use Rattle.model.specs.Asking.{AsksRead, AsksDeskRead, AsksWrite, AsksCount, AsksLocate, AsksNumber, AsksOut, AsksIn, AsksRow, AsksFewest, AsksQuickest}
 use Rattle.demands.specs.Acceptance.{nthRow, IsRow, Lawful}
 use Rattle.demands.specs.Words.{Words}
 use Rattle.demands.specs.Blocks.{AreBlocks}
 use Rattle.demands.specs.Refusals.{TooShort, Refuses}
 use Rattle.shows.specs.Files.{SpellsFile}
+use Rattle.shows.specs.SmallFiles.{BreaksAt, FirstOf}
 use Rattle.demands.specs.Files.{IsRead, IsWritten, NoRoomFor, Unpadded}
 use Rattle.demands.specs.RoundTrips.{WritesBack, ReadsBack, ReadsAgain}
 use Rattle.demands.specs.Replacement.{Unfolds}
@@ -38,6 +40,8 @@ use Rattle.demands.specs.RowBehind.{StandsAs, IsRowBehind}
 use Rattle.demands.specs.Fewest.{IsFewest}
 use Rattle.demands.specs.WorkArea.{IsWorkArea}
 use Rattle.demands.specs.Notes.{IsNote, NoNotes, followedLinks, followedInside, ChainLinks, OldFigure}
+use Rattle.demands.specs.Waits.{waitNames, waitEnds, Spells, OutOfRange, NotAbove, LawfulWaits}
+use Rattle.demands.specs.Quickest.{Askable, QuickestExact}
 use Rattle.demands.specs.Desk.{TableFact, DeskLawful, IsDeskRead, OwnLines, WritesWhole, HasDeskSummaries}
 
 -- Demand 2.
@@ -50,7 +54,7 @@ pub record AcceptanceExact : Type 0 where
 
 -- So are the refusals of every question about rows: 4 to 10 by the first sentence that is broken, 11 and 12 behind them; and a refusal leaves the lent list
 -- as it was. A question stands here with the room that it needs, the cues that it is asked about, and what it alone can refuse with: 13 in `IsNumber`, 14 in
--- `IsRowBehind`. Count and number write no lent list.
+-- `IsRowBehind`, 15 to 17 in `QuickestExact`. Count and number write no lent list.
 pub record RefusalsExact : Type 0 where
   pub write : (xs out after : List ℕ) (r : WriteAnswer) → AsksWrite xs out r after → Refuses xs (NoRoomFor xs out) [] [] out (ofWrite r) after
   pub count : (xs : List ℕ) (r : CountAnswer) → AsksCount xs r → Refuses xs ⊥ [] [] [] (ofCount r) []
@@ -65,6 +69,8 @@ pub record RefusalsExact : Type 0 where
       → Refuses xs (TooShort 127 lent) (s ∷ t ∷ []) (14 ∷ []) lent (ofRow r) after
   pub fewest : (xs : List ℕ) (s t : ℕ) (work after : List ℕ) (r : FewestAnswer) → AsksFewest xs s t work r after
       → Refuses xs (TooShort 16384 work) (s ∷ t ∷ []) [] work (ofFewest r) after
+  pub quickest : (xs : List ℕ) (s t : ℕ) (f work after : List ℕ) (r : QuickestAnswer) → AsksQuickest xs s t f work r after
+      → Refuses xs (TooShort 16384 work) (s ∷ t ∷ []) (15 ∷ 16 ∷ 17 ∷ []) work (ofQuickest r) after
 
 -- Round trips are exact, of what the buffers hold: read, then write what was left; write, then read what was left; and read, write and read again
 -- (02, Paper 1).
@@ -150,3 +156,15 @@ pub record Demand4 : Type 0 where
       → (s t : ℕ) (work after′ : List ℕ) (r : FewestAnswer) → 1 ≤ s → s ≤ cues → 1 ≤ t → t ≤ cues → 16384 ≤ length work
       → AsksFewest (take (rows * rowSize) after) s t work r after′ → HasDeskSummaries after′
   pub a-file : (file xs : List ℕ) × SpellsFile file xs × DeskLawful xs
+
+-- Document 02, Paper 5: wait files and the quickest way.
+
+-- Each answer; there is a question that meets none of refusals 4 to 12, a lawful wait file, and one for each of 15, 16 and 17.
+pub record Demand5 : Type 0 where
+  pub exact : (xs : List ℕ) (s t : ℕ) (f work after : List ℕ) (r : QuickestAnswer) → AsksQuickest xs s t f work r after
+      → QuickestExact xs s t f work r after
+  pub a-question : Askable ring 1 2 (replicate 16384 0)
+  pub a-file : LawfulWaits ringWaits ((1 ∷ 10 ∷ []) ∷ (2 ∷ 25 ∷ []) ∷ [])
+  pub a-cut-file : BreaksAt waitNames waitEnds cutWaits 4
+  pub an-outside-file : (vss : List (List ℕ)) × Spells outsideWaits vss × FirstOf (OutOfRange vss) 4
+  pub a-falling-file : (vss : List (List ℕ)) × Spells twiceWaits vss × ((m : ℕ) → OutOfRange vss m → ⊥) × FirstOf (NotAbove vss) 3
