@@ -315,7 +315,7 @@ fn sink_alone(
 // The question.
 
 // How many rows two places have in common: so many levels below the show do they share a copy.
-fn common(a: &[u32], n: usize, b: &[u32], m: usize) -> usize
+pub fn common(a: &[u32], n: usize, b: &[u32], m: usize) -> usize
     requires { ⌜ (n ≤ length (now a)) × (m ≤ length (now b)) ⌝ }
     ensures { λ r. ⌜ Common (now (a .entry)) n (now (b .entry)) m r ⌝ }
 {
