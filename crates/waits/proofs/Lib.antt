@@ -1,0 +1,1 @@
+-- Laws of a wait file in one pass.
