@@ -50,7 +50,10 @@ fn is_outside(label: u32, wait: u32) -> bool
 fn is_low(label: u32, before: u32) -> bool
     ensures { λ r. ⌜ r ≡ isLow before label ⌝ }
 {
-    label <= before
+    if before < label {
+        return false;
+    }
+    true
 }
 
 // The first line of a kind: the one that is known, else this one if it is of the kind.
