@@ -1,6 +1,6 @@
 -- The wait of each label: a file has one list of lines, a lawful one has no label twice, and each label waits as long as the table says that is made of
 -- the lines.
-use Prim.Native.Nat.{ℕ, suc, _+_, _≤_, _<_}
+use Prim.Native.Nat.{ℕ, suc, _≤_, _<_}
 use mathlib.Core.Path.{_≡_, refl, sym, _∙_, ap}
 use mathlib.Core.Logic.{_⊎_, inl, inr}
 use mathlib.Core.List.{List, [], _∷_, List·Memᴰ, List·Memᴰ·head, List·Memᴰ·tail, List·Memᴰ·cases-cons, List·Memᴰ·not-nil}
@@ -9,7 +9,7 @@ use native.Mathlib.Decide.{decLt, ℕ-discrete}
 use lib.ListN.{length, getD, set, replicate, length-set, length-replicate, getD-replicate}
 use lib.Seq.{getD-set-same, getD-set-other}
 use Rattle.model.specs.Tables.{Lines}
-use Rattle.model.specs.Waits.{WaitFile, WaitTable, Unfit, waitsWith, noWaits, waitFile}
+use Rattle.model.specs.Waits.{WaitTable, Unfit, waitsWith, noWaits, waitFile}
 use Rattle.shows.specs.SmallFiles.{this, next}
 use Rattle.demands.specs.Waits.{Spells, NotAbove, LawfulWaits, Waits, lined, unlined}
 use Rattle.demands.proofs.WaitLines.{Pairs, no-pair, pair, spelled-pairs}

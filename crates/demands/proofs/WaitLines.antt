@@ -1,12 +1,12 @@
 -- The lines of a wait file by their numbers, and what the model's two searches over them find: the first line that is bad, or that none is.
 use Prim.Native.Nat.{ℕ, suc, _+_, _≤_, _<_}
-use mathlib.Core.Path.{_≡_, refl, sym, _∙_}
+use mathlib.Core.Path.{_≡_, refl, _∙_}
 use mathlib.Core.Bool.{true, false}
 use mathlib.Core.Logic.{_⊎_, inl, inr}
 use mathlib.Core.List.{List, [], _∷_}
 use native.Mathlib.Omega.{arith}
 use native.Mathlib.Decide.{decLt}
-use lib.ListN.{length, getD}
+use lib.ListN.{length}
 use Rattle.model.specs.Waits.{isOutside, firstOutside, firstNotAbove}
 use Rattle.basics.proofs.Choices.{lt-then, lt-else, true-then, true-else}
 use Rattle.shows.specs.Files.{value-then, no-value}

@@ -1,9 +1,9 @@
 -- What the model says of a wait file is what is demanded of its bytes: it is accepted just where it is lawful, and 15, 16 and 17 are each given just where
 -- their sentence is the first that is broken, with the first line that breaks it.
-use Prim.Native.Nat.{ℕ, _≤_, _<_}
+use Prim.Native.Nat.{ℕ}
 use mathlib.Core.Path.{_≡_, refl, sym, _∙_, ap}
 use mathlib.Core.Logic.{inl, inr, _↔_}
-use mathlib.Core.List.{List, [], _∷_}
+use mathlib.Core.List.{List}
 use native.Mathlib.Omega.{arith}
 use lib.ListN.{take}
 use Rattle.model.specs.Choice.{ifLt}
@@ -19,7 +19,7 @@ use Rattle.shows.specs.SmallFiles.{BreaksAt, FirstOf}
 use Rattle.shows.proofs.Lines.{line-behind}
 use Rattle.shows.proofs.SmallFiles.{table-reads, table-breaks}
 use Rattle.demands.specs.Waits.{waitNames, waitEnds, Spells, OutOfRange, NotAbove, LawfulWaits}
-use Rattle.demands.proofs.WaitLines.{Pairs, spelled-pairs, line-two, first-one, Found, out-found, LowFrom, low-two, low-found, low-is}
+use Rattle.demands.proofs.WaitLines.{spelled-pairs, line-two, first-one, Found, out-found, LowFrom, low-two, low-found, low-is}
 
 -- What a wait file comes to, sentence by sentence.
 pub data Outcome (f : List ℕ) (w : WaitFile) : Type 0 where

@@ -122,8 +122,7 @@ module _ (es : List ℕ) (el : OneLine es) (o : Each Other es) where
           let f : l ∷ linesOf (flatten ls) ≡ l ∷ ls = sym (lines-first (spelled-line el s) (flatten ls)) ∙ ap linesOf (sym whole) ∙ q in
           let g : linesOf (flatten ls) ≡ ls = cc in
           let b = then-breaks vs _ m (sym (table-says es n l ls vs p) ∙ e) in
-          let (many, c, d) = below (flatten ls) g b in
-          (
+          let (many, c, d) = below (flatten ls) g b in (
             suc many,
             omega arith,
             record {
@@ -139,8 +138,7 @@ module _ (es : List ℕ) (el : OneLine es) (o : Each Other es) where
           )
       go below Malformed p =
           let b : Breaks n ≡ Breaks m = sym (table-mute es n l ls p) ∙ e in
-          let c : n ≡ m = cc in
-          (
+          let c : n ≡ m = cc in (
             0,
             omega arith,
             record {
