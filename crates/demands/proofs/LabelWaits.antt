@@ -92,10 +92,10 @@ one-spelling f vss wss s t =
     cc
 
 -- A file that is accepted is lawful, and its table is made of its lines.
-fit : (n l : ℕ) (ws : List ℕ) → WaitTable ws ≡ Unfit n l → ⊥
+pub fit : (n l : ℕ) (ws : List ℕ) → WaitTable ws ≡ Unfit n l → ⊥
 fit n l ws e = let z : _≡_ {A = ℕ} 0 1 = cc in omega arith
 
-table-lines : (f ws : List ℕ) → waitFile f ≡ WaitTable ws → (vss : List (List ℕ)) × LawfulWaits f vss × (ws ≡ waitsWith noWaits vss)
+pub table-lines : (f ws : List ℕ) → waitFile f ≡ WaitTable ws → (vss : List (List ℕ)) × LawfulWaits f vss × (ws ≡ waitsWith noWaits vss)
 table-lines f ws e = go (wait-file f (WaitTable ws) .0 e)
   where
     go : Outcome f (WaitTable ws) → (vss : List (List ℕ)) × LawfulWaits f vss × (ws ≡ waitsWith noWaits vss)

@@ -69,3 +69,4 @@ pub mod DeskWork
 pub mod WaitLines
 pub mod Waits
 pub mod LabelWaits
+pub mod WaitFiles
