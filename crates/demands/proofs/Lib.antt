@@ -70,3 +70,4 @@ pub mod WaitLines
 pub mod Waits
 pub mod LabelWaits
 pub mod WaitFiles
+pub mod WaitCases

@@ -18,9 +18,12 @@ waitEnds = 44 ∷ 10 ∷ []
 abbrev pub Spells : List ℕ → List (List ℕ) → Type 0
 Spells = SpellsSmall waitNames waitEnds
 
--- "A line gives a label from 1 to 254 and its wait of 0 to 6,000 tenths of a second." Line n does not.
+-- "A line gives a label from 1 to 254 and its wait of 0 to 6,000 tenths of a second." These are none, and line n has such.
+abbrev pub OutsideRange : ℕ → ℕ → Type 0
+OutsideRange label wait = (label ≡ 0) ⊎ (254 < label) ⊎ (6000 < wait)
+
 abbrev pub OutOfRange : List (List ℕ) → ℕ → Type 0
-OutOfRange vss n = (label wait : ℕ) × LineIs vss n (label ∷ wait ∷ []) × ((label ≡ 0) ⊎ (254 < label) ⊎ (6000 < wait))
+OutOfRange vss n = (label wait : ℕ) × LineIs vss n (label ∷ wait ∷ []) × OutsideRange label wait
 
 -- "Labels rise from line to line." That of line n is not "above the one before".
 abbrev pub NotAbove : List (List ℕ) → ℕ → Type 0
