@@ -66,6 +66,7 @@ pub mod DeskReading
 pub mod DeskExample
 pub mod DeskWork
 -- wait files
+pub mod WaitTexts
 pub mod WaitLines
 pub mod Waits
 pub mod LabelWaits
