@@ -1,6 +1,5 @@
--- The wait of each label: a file has one list of lines, a lawful one has no label twice, and each label waits as long as the table says that is made of
--- the lines.
-use Prim.Native.Nat.{ℕ, suc, _+_, _≤_, _<_}
+-- The wait of each label: a lawful file has no label twice, and each label waits as long as the table says that is made of the lines.
+use Prim.Native.Nat.{ℕ, suc, _≤_, _<_}
 use mathlib.Core.Path.{_≡_, refl, sym, _∙_, ap}
 use mathlib.Core.Logic.{_⊎_, inl, inr}
 use mathlib.Core.List.{List, [], _∷_, List·Memᴰ, List·Memᴰ·head, List·Memᴰ·tail, List·Memᴰ·cases-cons, List·Memᴰ·not-nil}
@@ -8,12 +7,12 @@ use native.Mathlib.Omega.{arith}
 use native.Mathlib.Decide.{decLt, ℕ-discrete}
 use lib.ListN.{length, getD, set, replicate, length-set, length-replicate, getD-replicate}
 use lib.Seq.{getD-set-same, getD-set-other}
-use Rattle.model.specs.Tables.{Lines}
-use Rattle.model.specs.Waits.{WaitFile, WaitTable, Unfit, waitsWith, noWaits, waitFile}
+use Rattle.model.specs.Waits.{WaitTable, Unfit, waitsWith, noWaits, waitFile}
 use Rattle.shows.specs.SmallFiles.{this, next}
 use Rattle.demands.specs.Waits.{Spells, NotAbove, LawfulWaits, Waits, lined, unlined}
+use Rattle.demands.proofs.WaitTexts.{one-spelling}
 use Rattle.demands.proofs.WaitLines.{Pairs, no-pair, pair, spelled-pairs}
-use Rattle.demands.proofs.Waits.{Outcome, broken, outside, fallen, lawful, wait-file, lines-are}
+use Rattle.demands.proofs.Waits.{Outcome, broken, outside, fallen, lawful, wait-file}
 
 -- A label's place in the table: the wait of a line of it, or what stood there.
 abbrev Line : List (List ℕ) → ℕ → ℕ → Type 0
@@ -85,17 +84,11 @@ one-wait f vss l label u v p q = go p q
     go (unlined none) (lined {wait = b} j) = absurd (none b j)
     go (unlined none) (unlined other) = refl
 
--- A file has one list of lines.
-pub one-spelling : (f : List ℕ) (vss wss : List (List ℕ)) → Spells f vss → Spells f wss → vss ≡ wss
-one-spelling f vss wss s t =
-    let e : Lines vss ≡ Lines wss = sym (lines-are f vss .1 s) ∙ lines-are f wss .1 t in
-    cc
-
 -- A file that is accepted is lawful, and its table is made of its lines.
-fit : (n l : ℕ) (ws : List ℕ) → WaitTable ws ≡ Unfit n l → ⊥
+pub fit : (n l : ℕ) (ws : List ℕ) → WaitTable ws ≡ Unfit n l → ⊥
 fit n l ws e = let z : _≡_ {A = ℕ} 0 1 = cc in omega arith
 
-table-lines : (f ws : List ℕ) → waitFile f ≡ WaitTable ws → (vss : List (List ℕ)) × LawfulWaits f vss × (ws ≡ waitsWith noWaits vss)
+pub table-lines : (f ws : List ℕ) → waitFile f ≡ WaitTable ws → (vss : List (List ℕ)) × LawfulWaits f vss × (ws ≡ waitsWith noWaits vss)
 table-lines f ws e = go (wait-file f (WaitTable ws) .0 e)
   where
     go : Outcome f (WaitTable ws) → (vss : List (List ℕ)) × LawfulWaits f vss × (ws ≡ waitsWith noWaits vss)

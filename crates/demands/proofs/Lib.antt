@@ -56,9 +56,12 @@ pub mod WorkArea
 pub mod Shortest
 pub mod Notes
 -- wait files, the label's wait in each, chains with their sums, the quickest way
+pub mod WaitTexts
 pub mod WaitLines
 pub mod Waits
 pub mod LabelWaits
+pub mod WaitFiles
+pub mod WaitCases
 pub mod Sums
 pub mod Quickest
 pub mod QuickestAsked

@@ -1,17 +1,17 @@
 -- The lines of a wait file by their numbers, and what the model's two searches over them find: the first line that is bad, or that none is.
 use Prim.Native.Nat.{ℕ, suc, _+_, _≤_, _<_}
-use mathlib.Core.Path.{_≡_, refl, sym, _∙_}
+use mathlib.Core.Path.{_≡_, refl, _∙_}
 use mathlib.Core.Bool.{true, false}
 use mathlib.Core.Logic.{_⊎_, inl, inr}
 use mathlib.Core.List.{List, [], _∷_}
 use native.Mathlib.Omega.{arith}
 use native.Mathlib.Decide.{decLt}
-use lib.ListN.{length, getD}
+use lib.ListN.{length}
 use Rattle.model.specs.Waits.{isOutside, firstOutside, firstNotAbove}
 use Rattle.basics.proofs.Choices.{lt-then, lt-else, true-then, true-else}
 use Rattle.shows.specs.Files.{value-then, no-value}
 use Rattle.shows.specs.SmallFiles.{SpellsTable, no-line, line-then, LineIs, this, next, FirstOf}
-use Rattle.demands.specs.Waits.{waitEnds, OutOfRange, NotAbove}
+use Rattle.demands.specs.Waits.{waitEnds, OutsideRange, OutOfRange, NotAbove}
 
 -- Lines of two values each.
 pub data Pairs : List (List ℕ) → Type 0 where
@@ -70,34 +70,31 @@ module _ (P Q : ℕ → Type 0) (Here : Type 0) (cases : (k : ℕ) → P k → (
       at k h (inr (j, q, x)) = f .before j (omega arith) x
 
 -- 16. The test of the ranges, the lines that do not pass it, and the search for the first.
-abbrev Out : ℕ → ℕ → Type 0
-Out label wait = (label ≡ 0) ⊎ (254 < label) ⊎ (6000 < wait)
-
-out-says : (label wait : ℕ) → ((isOutside label wait ≡ true) × Out label wait) ⊎ ((isOutside label wait ≡ false) × (Out label wait → ⊥))
+out-says : (label wait : ℕ) → ((isOutside label wait ≡ true) × OutsideRange label wait) ⊎ ((isOutside label wait ≡ false) × (OutsideRange label wait → ⊥))
 unfolding isOutside
 out-says label wait = go (decLt label 1) (decLt 254 label) (decLt 6000 wait)
   where
     go : Dec (label < 1) → Dec (254 < label) → Dec (6000 < wait)
-        → ((isOutside label wait ≡ true) × Out label wait) ⊎ ((isOutside label wait ≡ false) × (Out label wait → ⊥))
+        → ((isOutside label wait ≡ true) × OutsideRange label wait) ⊎ ((isOutside label wait ≡ false) × (OutsideRange label wait → ⊥))
     go (yes a) b c = inl (lt-then _ _ _ _ a, inl (omega arith))
     go (no a) (yes b) c = inl (lt-else _ _ _ _ (omega arith) ∙ lt-then _ _ _ _ b, inr (inl b))
     go (no a) (no b) (yes c) = inl (lt-else _ _ _ _ (omega arith) ∙ lt-else _ _ _ _ (omega arith) ∙ lt-then _ _ _ _ c, inr (inr c))
     go (no a) (no b) (no c) = inr (lt-else _ _ _ _ (omega arith) ∙ lt-else _ _ _ _ (omega arith) ∙ lt-else _ _ _ _ (omega arith), none)
       where
-        none : Out label wait → ⊥
+        none : OutsideRange label wait → ⊥
         none (inl e) = omega arith
         none (inr (inl e)) = omega arith
         none (inr (inr e)) = omega arith
 
 out-cases : (a b : ℕ) (vss : List (List ℕ)) (k : ℕ) → OutOfRange ((a ∷ b ∷ []) ∷ vss) k
-    → ((k ≡ 2) × Out a b) ⊎ ((j : ℕ) × (k ≡ suc j) × OutOfRange vss j)
+    → ((k ≡ 2) × OutsideRange a b) ⊎ ((j : ℕ) × (k ≡ suc j) × OutOfRange vss j)
 out-cases a b vss k (l, w, i, y) = at (line-cases i)
   where
-    at : Behind (a ∷ b ∷ []) vss k (l ∷ w ∷ []) → ((k ≡ 2) × Out a b) ⊎ ((j : ℕ) × (k ≡ suc j) × OutOfRange vss j)
+    at : Behind (a ∷ b ∷ []) vss k (l ∷ w ∷ []) → ((k ≡ 2) × OutsideRange a b) ⊎ ((j : ℕ) × (k ≡ suc j) × OutOfRange vss j)
     at (inl (e, q)) =
         let u : l ≡ a = cc in
         let v : w ≡ b = cc in
-        let o : Out l w = y in
+        let o : OutsideRange l w = y in
         inl (e, rw (u, v) at o)
     at (inr (j, e, p)) = inr (j, e, (l, w, p, y))
 
@@ -110,7 +107,7 @@ out-found (pair {vss = vss} a b ps) n = go (out-found ps (suc n)) (out-says a b)
     later = omega arith
 
     go : Found (OutOfRange vss) (suc n) (firstOutside (suc n + 2) vss)
-        → ((isOutside a b ≡ true) × Out a b) ⊎ ((isOutside a b ≡ false) × (Out a b → ⊥))
+        → ((isOutside a b ≡ true) × OutsideRange a b) ⊎ ((isOutside a b ≡ false) × (OutsideRange a b → ⊥))
         → Found (OutOfRange ((a ∷ b ∷ []) ∷ vss)) n (firstOutside (n + 2) ((a ∷ b ∷ []) ∷ vss))
     go below (inl (t, x)) =
         found-here _ _ _ (out-cases a b vss) n _ (λ j p. let (l, w, i, y) = p in line-two i .0) (a, b, this, x) (true-then _ _ _ t)

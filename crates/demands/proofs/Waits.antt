@@ -1,25 +1,18 @@
 -- What the model says of a wait file is what is demanded of its bytes: it is accepted just where it is lawful, and 15, 16 and 17 are each given just where
 -- their sentence is the first that is broken, with the first line that breaks it.
-use Prim.Native.Nat.{ℕ, _≤_, _<_}
+use Prim.Native.Nat.{ℕ}
 use mathlib.Core.Path.{_≡_, refl, sym, _∙_, ap}
 use mathlib.Core.Logic.{inl, inr, _↔_}
-use mathlib.Core.List.{List, [], _∷_}
+use mathlib.Core.List.{List}
 use native.Mathlib.Omega.{arith}
-use lib.ListN.{take}
-use Rattle.model.specs.Choice.{ifLt}
-use Rattle.model.specs.Values.{isDigit}
 use Rattle.model.specs.Tables.{Table, Lines, Breaks, tableRead}
 use Rattle.model.specs.Waits as model
 use Rattle.model.specs.Waits.{WaitFile, WaitTable, Unfit, firstOutside, firstNotAbove, waitsWith, noWaits, waitsOr, waitsIn, waitFile}
-use Rattle.basics.specs.Members.{Each}
-use Rattle.basics.specs.Values.{Other}
 use Rattle.basics.proofs.Choices.{eq-then, eq-else}
-use Rattle.shows.specs.Files.{OneLine, ended}
 use Rattle.shows.specs.SmallFiles.{BreaksAt, FirstOf}
-use Rattle.shows.proofs.Lines.{line-behind}
-use Rattle.shows.proofs.SmallFiles.{table-reads, table-breaks}
 use Rattle.demands.specs.Waits.{waitNames, waitEnds, Spells, OutOfRange, NotAbove, LawfulWaits}
-use Rattle.demands.proofs.WaitLines.{Pairs, spelled-pairs, line-two, first-one, Found, out-found, LowFrom, low-two, low-found, low-is}
+use Rattle.demands.proofs.WaitTexts.{lines-are, breaks-are}
+use Rattle.demands.proofs.WaitLines.{spelled-pairs, line-two, first-one, Found, out-found, LowFrom, low-two, low-found, low-is}
 
 -- What a wait file comes to, sentence by sentence.
 pub data Outcome (f : List ℕ) (w : WaitFile) : Type 0 where
@@ -27,26 +20,6 @@ pub data Outcome (f : List ℕ) (w : WaitFile) : Type 0 where
   outside : (n : ℕ) (vss : List (List ℕ)) → w ≡ Unfit 16 n → Spells f vss → FirstOf (OutOfRange vss) n → Outcome f w
   fallen : (n : ℕ) (vss : List (List ℕ)) → w ≡ Unfit 17 n → Spells f vss → ((m : ℕ) → OutOfRange vss m → ⊥) → FirstOf (NotAbove vss) n → Outcome f w
   lawful : (vss : List (List ℕ)) → w ≡ WaitTable (waitsWith noWaits vss) → LawfulWaits f vss → Outcome f w
-
--- The names and the ends are lines, and no end is a digit.
-names-line : OneLine waitNames
-names-line = line-behind (take 10 waitNames) (omega arith) ended
-
-ends-line : OneLine waitEnds
-ends-line = line-behind (take 1 waitEnds) (omega arith) ended
-
-ends-other : Each Other waitEnds
-unfolding isDigit ifLt
-ends-other = (refl, (refl, tt))
-
--- The file's lines, by the model and by its bytes.
-pub lines-are : (f : List ℕ) (vss : List (List ℕ)) → (tableRead model.waitNames model.waitEnds f ≡ Lines vss) ↔ Spells f vss
-unfolding model.waitNames model.waitEnds
-lines-are f vss = table-reads waitNames waitEnds names-line ends-line ends-other f vss
-
-breaks-are : (f : List ℕ) (n : ℕ) → (tableRead model.waitNames model.waitEnds f ≡ Breaks n) ↔ BreaksAt waitNames waitEnds f n
-unfolding model.waitNames model.waitEnds
-breaks-are f n = table-breaks waitNames waitEnds names-line ends-line ends-other f n
 
 -- What is made of lines.
 module _ (f : List ℕ) (vss : List (List ℕ)) (s : Spells f vss) where

@@ -1,9 +1,11 @@
 -- What is demanded of a wait file, said of its bytes and in the document's figures. Document 02, Paper 5, which all quotations are from.
 use Prim.Native.Nat.{ℕ, _+_, _≤_, _<_}
 use mathlib.Core.Path.{_≡_}
-use mathlib.Core.Logic.{_⊎_}
+use mathlib.Core.Logic.{_⊎_, _↔_}
 use mathlib.Core.List.{List, [], _∷_, List·Memᴰ}
-use Rattle.shows.specs.SmallFiles.{SpellsSmall, LineIs}
+use lib.ListN.{getD}
+use Rattle.model.specs.Waits.{WaitFile, WaitTable, Unfit}
+use Rattle.shows.specs.SmallFiles.{SpellsSmall, BreaksAt, LineIs, FirstOf}
 
 -- "the names `label,wait`", in ASCII, and a line feed; the comma and the line feed behind the two values of a line.
 abbrev pub waitNames : List ℕ
@@ -16,9 +18,12 @@ waitEnds = 44 ∷ 10 ∷ []
 abbrev pub Spells : List ℕ → List (List ℕ) → Type 0
 Spells = SpellsSmall waitNames waitEnds
 
--- "A line gives a label from 1 to 254 and its wait of 0 to 6,000 tenths of a second." Line n does not.
+-- "A line gives a label from 1 to 254 and its wait of 0 to 6,000 tenths of a second." These are none, and line n has such.
+abbrev pub OutsideRange : ℕ → ℕ → Type 0
+OutsideRange label wait = (label ≡ 0) ⊎ (254 < label) ⊎ (6000 < wait)
+
 abbrev pub OutOfRange : List (List ℕ) → ℕ → Type 0
-OutOfRange vss n = (label wait : ℕ) × LineIs vss n (label ∷ wait ∷ []) × ((label ≡ 0) ⊎ (254 < label) ⊎ (6000 < wait))
+OutOfRange vss n = (label wait : ℕ) × LineIs vss n (label ∷ wait ∷ []) × OutsideRange label wait
 
 -- "Labels rise from line to line." That of line n is not "above the one before".
 abbrev pub NotAbove : List (List ℕ) → ℕ → Type 0
@@ -35,3 +40,26 @@ pub record LawfulWaits (f : List ℕ) (vss : List (List ℕ)) : Type 0 where
 pub data Waits (vss : List (List ℕ)) (label : ℕ) : ℕ → Type 0 where
   lined : {wait : ℕ} → List·Memᴰ (label ∷ wait ∷ []) vss → Waits vss label wait
   unlined : ((wait : ℕ) → List·Memᴰ (label ∷ wait ∷ []) vss → ⊥) → Waits vss label 0
+
+-- "15 with the first malformed line (line 1 for wrong names)".
+abbrev pub Malformed : List ℕ → ℕ → Type 0
+Malformed = BreaksAt waitNames waitEnds
+
+-- "then 16 with the first line whose label or wait is outside its range".
+abbrev pub Outside : List ℕ → ℕ → Type 0
+Outside f n = (vss : List (List ℕ)) × Spells f vss × FirstOf (OutOfRange vss) n
+
+-- "then 17 with the first line whose label isn't above the one before".
+abbrev pub Fallen : List ℕ → ℕ → Type 0
+Fallen f n = (vss : List (List ℕ)) × Spells f vss × ((m : ℕ) → OutOfRange vss m → ⊥) × FirstOf (NotAbove vss) n
+
+-- All of it, of what is said of a file: each refusal just where its sentence says so, and no other; accepted just where it is lawful; and then each label has
+-- one wait, the one in its place of the table.
+pub record ReadsWaits (f : List ℕ) (w : WaitFile) : Type 0 where
+  pub malformed : (n : ℕ) → (w ≡ Unfit 15 n) ↔ Malformed f n
+  pub out-of-range : (n : ℕ) → (w ≡ Unfit 16 n) ↔ Outside f n
+  pub not-above : (n : ℕ) → (w ≡ Unfit 17 n) ↔ Fallen f n
+  pub no-other : (number n : ℕ) → w ≡ Unfit number n → (number ≡ 15) ⊎ (number ≡ 16) ⊎ (number ≡ 17)
+  pub accepted : ((ws : List ℕ) × (w ≡ WaitTable ws)) ↔ ((vss : List (List ℕ)) × LawfulWaits f vss)
+  pub waits : (ws : List ℕ) (vss : List (List ℕ)) → w ≡ WaitTable ws → Spells f vss → (label wait : ℕ) → 1 ≤ label → label ≤ 254
+      → Waits vss label wait ↔ (wait ≡ getD ws label 0)

@@ -4,7 +4,6 @@ use crate::Line;
 use crate::end_of;
 use values::Field;
 use values::small;
-ghost use mathlib.Core.Path.{_≡_};
 ghost use lib.ListN.{length};
 ghost use Rattle.shows.specs.Files.{endsOf};
 ghost use Rattle.lines.specs.Scanning.{lineAt, LineSays};

@@ -8,7 +8,7 @@ use native.Mathlib.Omega.{arith}
 use lib.ListN.{length}
 use Rattle.model.specs.Text.{linesOf}
 use Rattle.model.specs.Verdicts.{same}
-use Rattle.model.specs.Tables.{Table, Lines, Breaks, tableLines, tableAll, tableRead}
+use Rattle.model.specs.Tables.{Lines, Breaks, tableLines, tableAll, tableRead}
 use Rattle.basics.specs.Members.{Each}
 use Rattle.basics.specs.Values.{Other}
 use Rattle.basics.proofs.Choices.{true-then, true-else}

@@ -5,11 +5,11 @@ use mathlib.Core.Bool.{Bool, true, false, false≢true}
 use mathlib.Core.List.{List, [], _∷_}
 use native.Mathlib.Omega.{arith}
 use native.Mathlib.Decide.{ℕ-discrete}
-use lib.ListN.{length, getD, set, replicate, length-set, length-replicate}
+use lib.ListN.{getD, set, replicate, length-set, length-replicate}
 use lib.Seq.{getD-set-same, getD-set-other}
 use Rattle.model.specs.Limits.{maxFollowed, maxWait}
 use Rattle.model.specs.Tables.{Table, Lines, Breaks, tableRead}
-use Rattle.model.specs.Waits.{WaitFile, WaitTable, Unfit, waitNames, waitEnds, isOutside, firstOutside, firstNotAbove, waitsWith, noWaits, waitsOr, waitsIn, waitFile}
+use Rattle.model.specs.Waits.{WaitTable, Unfit, waitNames, waitEnds, isOutside, firstOutside, firstNotAbove, waitsWith, noWaits, waitsOr, waitsIn, waitFile}
 use Rattle.basics.proofs.Choices.{true-then, true-else, lt-second, eq-first}
 use Rattle.shows.specs.Waits.{AreWaits}
 

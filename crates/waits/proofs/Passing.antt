@@ -2,13 +2,12 @@
 use Prim.Native.Nat.{ℕ, suc, _+_, _-_, _≤_, _<_}
 use mathlib.Core.Path.{_≡_, refl, sym, _∙_, ap}
 use mathlib.Core.Bool.{Bool, true, false}
-use mathlib.Core.List.{List, []}
+use mathlib.Core.List.{List}
 use native.Mathlib.Omega.{arith}
-use native.Mathlib.Numerals.{add-one}
 use lib.ListN.{length, getD, set, drop, take}
 use Rattle.model.specs.Text.{linesOf}
-use Rattle.model.specs.Tables.{Table, Lines, Breaks, lineThen, tableLines, tableRead}
-use Rattle.model.specs.Waits.{WaitFile, Unfit, waitNames, waitEnds, noWaits, waitsIn, waitFile}
+use Rattle.model.specs.Tables.{Breaks, lineThen, tableLines, tableRead}
+use Rattle.model.specs.Waits.{waitNames, waitEnds, noWaits, waitsIn, waitFile}
 use Rattle.shows.specs.Files.{OneLine, ended, endsOf}
 use Rattle.shows.proofs.Lines.{line-behind, endsOf-line, endsOf-other}
 use Rattle.lines.specs.Scanning.{Values, Broken, lineAt, LineSays, startsWith}
@@ -16,7 +15,6 @@ use Rattle.lines.specs.declared.Line.{Line}
 use Rattle.lines.specs.declared.Line.the-variants.{Next, Malformed}
 use Rattle.lines.proofs.LineScan.{said-line, said-none}
 use Rattle.lines.proofs.LineTexts.{line-text}
-use Rattle.lines.proofs.Names.{starts-long}
 use Rattle.lines.proofs.Tables.{table-on, table-off, table-end, table-named, table-unnamed}
 use Rattle.waits.specs.Passing.{withLine, judged, waitsFrom, SaysWaits}
 use Rattle.waits.specs.declared.Seen.{Seen}

@@ -2,15 +2,14 @@
 use Prim.Native.Nat.{ℕ, suc, _+_, _≤_}
 use mathlib.Core.Path.{_≡_, refl, sym, _∙_, ap}
 use mathlib.Core.Bool.{Bool, true, false, cond}
-use mathlib.Core.List.{List, [], _∷_}
+use mathlib.Core.List.{List, []}
 use native.Mathlib.Omega.{arith}
-use native.Mathlib.Numerals.{add-one}
 use native.Mathlib.Decide.{ℕ-discrete}
 use lib.Dec.{ltb}
 use lib.ListN.{getD, set}
 use Rattle.model.specs.Choice.{ifLt, ifEq, ifTrue}
 use Rattle.model.specs.Tables.{Table, Lines, Breaks, lineThen}
-use Rattle.model.specs.Waits.{WaitFile, WaitTable, Unfit, isOutside, firstOutside, firstNotAbove, waitsWith, noWaits, waitsOr, waitsIn}
+use Rattle.model.specs.Waits.{WaitTable, Unfit, isOutside, firstOutside, firstNotAbove, waitsWith, noWaits, waitsOr, waitsIn}
 use Rattle.basics.proofs.Choices.{eq-then, eq-else}
 use Rattle.waits.specs.Passing.{isLow, earliest, withLine, judged, knownOr, waitsFrom, SaysWaits}
 use Rattle.waits.specs.declared.Seen.{Seen}
@@ -64,10 +63,10 @@ turn-on seen label wait ws vs (Lines vss) h a b =
     let low = earliest (seen .low) (isLow (seen .before) label) (seen .line) in
     let n : seen .line + 1 ≡ suc (seen .line) = omega arith in
     let c : knownOr (seen .outside) (ifTrue (isOutside label wait) (seen .line) (firstOutside (suc (seen .line)) vss))
-        ≡ knownOr out (firstOutside (suc (seen .line)) vss) =
+    ≡ knownOr out (firstOutside (suc (seen .line)) vss) =
     first-on (seen .outside) (seen .line) _ out (isOutside label wait) h refl in
     let d : knownOr (seen .low) (ifLt (seen .before) label (firstNotAbove label (suc (seen .line)) vss) (seen .line))
-        ≡ knownOr low (firstNotAbove label (suc (seen .line)) vss) =
+    ≡ knownOr low (firstNotAbove label (suc (seen .line)) vss) =
     ap (knownOr (seen .low)) (low-choice (seen .before) label _ (seen .line)) ∙ first-on (seen .low) (seen .line) _ low (isLow (seen .before) label) h refl in
     rw (← a, ← b, n, c, d)
 
