@@ -138,12 +138,19 @@ fn relax_use(xs: &[u32], work: &[u64], r: usize, q: usize, m: usize, d: &mut [u6
     relax_many(xs, work, r, q, m, d)
 }
 
+// A number, wide enough for sums.
+fn long(x: u32) -> u64
+    ensures { λ r. ⌜ r ≡ x ⌝ }
+{
+    x as u64
+}
+
 // How long the follow-ons of a label wait.
 fn wait(waits: &[u32], label: usize) -> u64
     requires { ⌜ label < length (now waits) ⌝ }
     ensures { λ r. ⌜ r ≡ getD (now (waits .entry)) label 0 ⌝ }
 {
-    waits[label] as u64
+    long(waits[label])
 }
 
 // The link of row r, if it is followed: a note is not.

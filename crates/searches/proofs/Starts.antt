@@ -132,9 +132,9 @@ started-first {S = S} s m = started-same (λ a x b. to a x b) (λ a x b. inr b) 
 pub meets-within : {xs : List ℕ} {r m n : ℕ} (i c v : ℕ) → Meets xs r m n → i < m → c ≡ columnAt xs r i → v ≡ c → v < n
 meets-within i c v h l x y = omega (arith, h .within i l)
 
--- Fewer of the cues that a row names.
-pub meets-fewer : {xs : List ℕ} {r m n : ℕ} (i : ℕ) → Meets xs r m n → i ≤ m → Meets xs r i n
-meets-fewer i h l = record { there = h .there; few = omega (arith, h .few); within = λ j k. h .within j (omega arith) }
+-- Fewer of the cues that a row names, in a list of the same length.
+pub meets-fewer : {xs : List ℕ} {r m n k : ℕ} (i : ℕ) → Meets xs r m n → i ≤ m → k ≡ n → Meets xs r i k
+meets-fewer i h l e = record { there = h .there; few = omega (arith, h .few); within = λ j k. omega (arith, h .within j (omega arith)) }
 
 -- The estimates of some cues, one more.
 pub gathered-begin : (xs : List ℕ) (r : ℕ) (d e : List ℕ) → Gathered xs r d 0 e e

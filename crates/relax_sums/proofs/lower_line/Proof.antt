@@ -1,10 +1,11 @@
--- `relax_sums::lower_line` meets its contract. The invariant: the estimates passed are lowered.
+-- `relax_sums::lower_line` meets its contract. The invariant: the sums passed are lowered.
 use Prim.Native.Nat.{_-_, _≤_}
 use native.Mathlib.Omega.{arith}
 use mathlib.Core.Path.{_≡_, refl}
 use lib.ListN.{length}
 use borrow.Author.Needs.{needs}
 use Rattle.model.specs.Limits.{summaryWidth}
+use Rattle.distances.specs.Quickest.{noSum}
 use Rattle.searches.specs.Lines.{Line}
 use Rattle.searches.proofs.Lines.{line-begin, line-on}
 use Rattle.relax_sums.proofs.lower_line.Statement.{statement}

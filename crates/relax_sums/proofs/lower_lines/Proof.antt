@@ -1,4 +1,4 @@
--- `relax_sums::lower_lines` meets its contract. The invariant: the estimates are lowered by the lines
+-- `relax_sums::lower_lines` meets its contract. The invariant: the sums are lowered by the lines
 -- passed.
 use Prim.Native.Nat.{_-_, _≤_}
 use native.Mathlib.Omega.{arith}
@@ -6,6 +6,7 @@ use mathlib.Core.Path.{_≡_, refl}
 use lib.ListN.{length}
 use borrow.Author.Needs.{needs}
 use Rattle.model.specs.Limits.{summaryWidth}
+use Rattle.distances.specs.Quickest.{noSum}
 use Rattle.searches.specs.Lines.{Lines}
 use Rattle.searches.proofs.Lines.{lines-begin, lines-on}
 use Rattle.relax_sums.proofs.lower_lines.Statement.{statement}

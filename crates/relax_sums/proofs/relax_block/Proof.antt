@@ -9,4 +9,6 @@ returns : tie.Need-returns
 returns c = search (block-round, needs)
 
 pub relax-block-spec : {M : Type 1} → statement M
-relax-block-spec = tie.close (tie.spec (λ c κs. search needs) (λ c κs. search needs) (λ c κs. search needs) (λ c. search needs) returns)
+relax-block-spec =
+    tie.close
+    (tie.spec (λ c κs. search needs) (λ c κs. search needs) (λ c κs. search needs) (λ c. search needs) returns)

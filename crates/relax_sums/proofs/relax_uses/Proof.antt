@@ -71,5 +71,4 @@ pub relax-uses-spec : {M : Type 1} → statement M
 relax-uses-spec =
     tie.close
     (tie.spec Inv-loop μ-loop (λ c κs. search needs) loop-holds (λ c κs. search needs) joins-requires (λ c. search needs) relax-use-requires
-    (λ c κs. search needs)
-    (λ c. search needs) (λ c. search needs) loop-again (λ c. search needs) returns)
+    (λ c κs. search needs) (λ c. search needs) (λ c. search needs) loop-again (λ c. search needs) returns)
