@@ -219,7 +219,7 @@ fn enter(xs: &[u32], t: &[u32; blocks::INDEX], rows: &[u32], l: usize, d: &mut [
     let own = wide(blocks::own(xs, t, k));
     let m = blocks::joins(xs, t, k);
     let mut e = [0u64; SUMMARY_WIDTH];
-    gather(xs, r, d, m, &mut e);
+    gather(xs, r, d, m, 0, &mut e);
     clear(d, own + m);
     put_joins(own + 1, &e, m, d);
 }

@@ -4,7 +4,7 @@
 // it, so that links that wait 0 do no harm.
 //
 // Others call `clear_block`, `settle` and `from_cue`. Up to `relax_use` this is about one use: two
-// or three cues edge by edge, more of them all from the sums before.
+// or three cues edge by edge, more of them eight sums at a time.
 use estimates::either;
 use model::limits::MAX_FOLLOWED;
 use model::limits::SUMMARY_SIZE;
@@ -39,54 +39,54 @@ fn lowered(y: u64, x: u64, w: u64) -> u64
     lesser(sum_of(x, w), y)
 }
 
-// The first m of some sums, lowered by a sum x and the m weights from place q on.
-fn lower_line(work: &[u64], q: usize, x: u64, m: usize, e: &mut [u64])
-    requires { ⌜ (q + m ≤ length (now work)) × (m ≤ length (now e)) ⌝ }
-    ensures { λ _. ⌜ Line noSum (now (work .entry)) q x (now (e .entry)) m (now (e .exit)) ⌝ }
+// Eight sums, lowered by a sum x and the eight weights from place q on.
+fn lower_line(work: &[u64], q: usize, x: u64, e: &mut [u64])
+    requires { ⌜ (q + summaryWidth ≤ length (now work)) × (length (now e) ≡ summaryWidth) ⌝ }
+    ensures { λ _. ⌜ Line noSum (now (work .entry)) q x (now (e .entry)) summaryWidth (now (e .exit)) ⌝ }
 {
     let mut j = 0;
-    while j < m {
+    while j < SUMMARY_WIDTH {
         e[j] = lowered(e[j], x, work[q + j]);
         j += 1;
     }
 }
 
 // The same, where x is a sum at all.
-fn lower_by(work: &[u64], q: usize, x: u64, m: usize, e: &mut [u64])
-    requires { ⌜ (q + m ≤ length (now work)) × (m ≤ length (now e)) ⌝ }
-    ensures { λ _. ⌜ Line noSum (now (work .entry)) q x (now (e .entry)) m (now (e .exit)) ⌝ }
+fn lower_by(work: &[u64], q: usize, x: u64, e: &mut [u64])
+    requires { ⌜ (q + summaryWidth ≤ length (now work)) × (length (now e) ≡ summaryWidth) ⌝ }
+    ensures { λ _. ⌜ Line noSum (now (work .entry)) q x (now (e .entry)) summaryWidth (now (e .exit)) ⌝ }
 {
     if x < NO_SUM {
-        lower_line(work, q, x, m, e);
+        lower_line(work, q, x, e);
     }
 }
 
-// The first m of some sums, lowered by the first m of the sums g and m rows of weights, which stand
-// in eights from place q on.
-fn lower_lines(work: &[u64], q: usize, g: &[u64], m: usize, e: &mut [u64])
-    requires { ⌜ (q + summarySize ≤ length (now work)) × (m ≤ summaryWidth) × (m ≤ length (now g)) × (m ≤ length (now e)) ⌝ }
-    ensures { λ _. ⌜ Lines noSum m (now (work .entry)) q (now (g .entry)) (now (e .entry)) m (now (e .exit)) ⌝ }
+// Eight sums, lowered by the sums g and the 64 weights from place q on.
+fn lower_lines(work: &[u64], q: usize, g: &[u64], e: &mut [u64])
+    requires { ⌜ (q + summarySize ≤ length (now work)) × (length (now g) ≡ summaryWidth) × (length (now e) ≡ summaryWidth) ⌝ }
+    ensures { λ _. ⌜ Lines noSum summaryWidth (now (work .entry)) q (now (g .entry)) (now (e .entry)) summaryWidth (now (e .exit)) ⌝ }
 {
     let mut i = 0;
-    while i < m {
-        lower_by(work, q + SUMMARY_WIDTH * i, g[i], m, e);
+    while i < SUMMARY_WIDTH {
+        lower_by(work, q + SUMMARY_WIDTH * i, g[i], e);
         i += 1;
     }
 }
 
-// The edges of a use whose row r names m cues, all from the sums before. The weights stand from
-// place q on. Most uses meet no cue that is reached yet.
+// The edges of a use whose row r names m cues, all from the sums before: eight at a time. The
+// weights stand from place q on; what stands there beyond the m first of a line is of no account.
+// Where the cues have all the same sum, or none yet, there is nothing to do, which one test says.
 fn relax_many(xs: &[u32], work: &[u64], r: usize, q: usize, m: usize, d: &mut [u64]) -> bool
-    requires { ⌜ Meets (now xs) r m (length (now d)) × (q + summarySize ≤ length (now work)) ⌝ }
+    requires { ⌜ Meets (now xs) r m (length (now d)) × (0 < m) × (q + summarySize ≤ length (now work)) ⌝ }
     ensures { λ c. ⌜ Round (Mesh (now (xs .entry)) (now (work .entry)) r q m) (now (d .entry)) c (now (d .exit)) ⌝ }
 {
-    let mut old = [0u64; SUMMARY_WIDTH];
-    let least = gather(xs, r, d, m, &mut old);
-    if least == NO_SUM {
+    let mut old = [NO_SUM; SUMMARY_WIDTH];
+    let first = d[blocks::wide(blocks::column(xs, r, 0))];
+    if gather(xs, r, d, m, first, &mut old) {} else {
         return false;
     }
     let mut new = old;
-    lower_lines(work, q, &old, m, &mut new);
+    lower_lines(work, q, &old, &mut new);
     put_met(xs, r, &new, 0, m, d)
 }
 
@@ -138,12 +138,19 @@ fn relax_use(xs: &[u32], work: &[u64], r: usize, q: usize, m: usize, d: &mut [u6
     relax_many(xs, work, r, q, m, d)
 }
 
+// A number, wide enough for sums.
+fn long(x: u32) -> u64
+    ensures { λ r. ⌜ r ≡ x ⌝ }
+{
+    x as u64
+}
+
 // How long the follow-ons of a label wait.
 fn wait(waits: &[u32], label: usize) -> u64
     requires { ⌜ label < length (now waits) ⌝ }
     ensures { λ r. ⌜ r ≡ getD (now (waits .entry)) label 0 ⌝ }
 {
-    waits[label] as u64
+    long(waits[label])
 }
 
 // The link of row r, if it is followed: a note is not.

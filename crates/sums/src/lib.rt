@@ -12,8 +12,8 @@ ghost use mathlib.Core.Bool.{true, false};
 ghost use lib.ListN.{length};
 ghost use Rattle.distances.specs.Quickest.{noSum};
 ghost use Rattle.searches.specs.Rounds.{One, Round, Fell};
-ghost use Rattle.searches.specs.Starts.{Nowhere, Cell, Meets, MetAt, Started, Merged, Gathered, Bounds};
-ghost use Rattle.searches.specs.Lines.{Capped};
+ghost use Rattle.searches.specs.Starts.{Nowhere, Cell, Meets, MetAt, Started, Merged, Gathered};
+ghost use Rattle.searches.specs.Lines.{Capped, Level};
 
 // No sum: no chain is known.
 pub const NO_SUM: u64 = 18446744073709551615;
@@ -90,21 +90,32 @@ pub fn put_met(xs: &[u32], r: usize, kept: &[u64], q: usize, m: usize, d: &mut [
     fell
 }
 
-// The sums of the first m cues that row r names, into the first m of e. What is returned is a number
-// that none of them is below.
-pub fn gather(xs: &[u32], r: usize, d: &[u64], m: usize, e: &mut [u64]) -> u64
-    requires { ⌜ Meets (now xs) r m (length (now d)) × (m ≤ length (now e)) ⌝ }
-    ensures { λ least. ⌜ Gathered (now (xs .entry)) r (now (d .entry)) m (now (e .entry)) (now (e .exit)) × Bounds least (now (e .exit)) m ⌝ }
+// Whether two sums differ.
+fn unlike(a: u64, b: u64) -> bool
+    ensures { λ r. ⌜ (r ≡ false → a ≡ b) ⌝ }
 {
-    let mut least = NO_SUM;
+    if a == b {
+        return false;
+    }
+    true
+}
+
+// The sums of the first m cues that row r names, into the first m of e: says whether one of them is
+// not x.
+pub fn gather(xs: &[u32], r: usize, d: &[u64], m: usize, x: u64, e: &mut [u64]) -> bool
+    requires { ⌜ Meets (now xs) r m (length (now d)) × (m ≤ length (now e)) ⌝ }
+    ensures { λ c. ⌜ Gathered (now (xs .entry)) r (now (d .entry)) m (now (e .entry)) (now (e .exit)) × Level c x (now (e .exit)) m ⌝ }
+{
+    let mut uneven = false;
     let mut i = 0;
     while i < m {
-        let x = d[blocks::wide(blocks::column(xs, r, i))];
-        e[i] = x;
-        least = lesser(x, least);
+        let y = d[blocks::wide(blocks::column(xs, r, i))];
+        e[i] = y;
+        let u = unlike(y, x);
+        uneven = either(uneven, u);
         i += 1;
     }
-    least
+    uneven
 }
 
 // No sum yet at the cues up to n.
