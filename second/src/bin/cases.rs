@@ -39,6 +39,7 @@ fn asked(question: &Question) -> (&str, Vec<u32>) {
         Question::List { v, n, .. } => ("in", vec![v, n]),
         Question::Fewest { s, t, .. } => ("fewest", vec![s, t]),
         Question::Row { s, t, .. } => ("behind", vec![s, t]),
+        Question::Quickest { s, t, .. } => ("quickest", vec![s, t]),
     }
 }
 
