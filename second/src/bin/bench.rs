@@ -53,7 +53,7 @@ struct Worst {
 
 fn print_line(question: &str, input: &str, library: f64, plain: f64) -> f64 {
     let ratio = library / plain;
-    println!("{question:<10} {input:<38} {library:>12.0} {plain:>12.0} {ratio:>7.2}");
+    println!("{question:<10} {input:<44} {library:>12.0} {plain:>12.0} {ratio:>7.2}");
     ratio
 }
 
@@ -106,7 +106,7 @@ fn time_unfolding(library: &Subject) {
 fn main() {
     let library = library::subject();
     let mut worst = Worst::default();
-    println!("{:<10} {:<38} {:>12} {:>12} {:>7}", "question", "input", "library", "plain", "ratio");
+    println!("{:<10} {:<44} {:>12} {:>12} {:>7}", "question", "input", "library", "plain", "ratio");
     for entry in entries() {
         time(&entry, &library, &mut worst);
     }
