@@ -83,8 +83,8 @@ const ANSWERS: &[(&[&str], &str)] = &[
     (&["picture", RING], BLOCKS),
     (&["picture", "--unfolded", RING], UNFOLDED),
     (&["picture", RING, "--unfolded"], UNFOLDED),
-    (&["--version"], "show 0.5.0\n"),
-    (&["-V"], "show 0.5.0\n"),
+    (&["--version"], "show 0.6.0\n"),
+    (&["-V"], "show 0.6.0\n"),
 ];
 
 #[test]
