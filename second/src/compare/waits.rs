@@ -35,6 +35,9 @@ pub const CASES: &[Case] = &[
     ("work areas of 64-bit numbers", areas),
 ];
 
+/// The sum from cue 1 to cue 2, or the number and the line of a refusal.
+type Known = Result<u64, (u32, usize)>;
+
 /// Waits of the ring that are used throughout.
 fn ring_waits() -> Vec<u8> {
     of(&[(1, 10), (2, 25)])
@@ -63,7 +66,7 @@ fn refused(waits: &[u8], refusal: (u32, usize)) -> [Asked; 3] {
 }
 
 /// Wait files on a show of two cues and a link with label 1, each with its refusal or with the sum from 1 to 2.
-fn on_two_cues(checker: &mut Checker, files: Vec<(Vec<u8>, Result<u64, (u32, usize)>)>) {
+fn on_two_cues(checker: &mut Checker, files: Vec<(Vec<u8>, Known)>) {
     let rows = two_cues(1);
     let input = Input::Rows(rows);
     for (file, result) in files {
@@ -258,7 +261,7 @@ fn lines(checker: &mut Checker) {
 
 /// Each of 15, 16 and 17 looks at the whole file before the next does.
 fn several(checker: &mut Checker) {
-    let mut files: Vec<(Vec<u8>, Result<u64, (u32, usize)>)> = Vec::new();
+    let mut files: Vec<(Vec<u8>, Known)> = Vec::new();
     for (file, refusal) in mixed() {
         let place = |refusal: Refusal| (refusal.number, refusal.place as usize);
         files.push((file, refusal.map_or(Ok(u64::from(WAIT)), |refusal| Err(place(refusal)))));
@@ -303,7 +306,7 @@ fn names(checker: &mut Checker) {
 
 /// A last line without its line feed, an empty line, a carriage return, a byte behind the end.
 fn ends(checker: &mut Checker) {
-    let texts: [(&[u8], Result<u64, (u32, usize)>); 12] = [
+    let texts: [(&[u8], Known); 12] = [
         (b"1,10\n", Ok(10)),
         (b"1,10", Err((15, 2))),
         (b"1,1", Err((15, 2))),

@@ -48,7 +48,7 @@ fn well_formed(file: &[u8]) -> Result<(), Refusal> {
 /// Refusal 16: a label is not 1 to 254, or a wait is over 6,000.
 fn in_range(file: &[u8]) -> Result<(), Refusal> {
     for (number, line) in lines(file) {
-        if line.is_some_and(|[label, wait]| label < 1 || label > FOLLOWED || wait > WAIT) {
+        if line.is_some_and(|[label, wait]| !(1..=FOLLOWED).contains(&label) || wait > WAIT) {
             return Err(Refusal::at_line(16, number));
         }
     }
