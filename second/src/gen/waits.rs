@@ -129,6 +129,17 @@ pub fn lawful(prng: &mut Prng) -> Vec<u8> {
     file_of(&written(prng, &lines))
 }
 
+/// A lawful file of few lines: for the labels that most random shows have, and some others.
+pub fn short(prng: &mut Prng) -> Vec<u8> {
+    let mut lines: Vec<(u32, u32)> = Vec::new();
+    for label in [1, 2, prng.within(3, 99), prng.within(100, FOLLOWED)] {
+        if prng.one_in(2) || label < 3 {
+            lines.push((label, *prng.pick(&WAITS)));
+        }
+    }
+    of(&lines)
+}
+
 /// A file with one to three faults in its lines, in its bytes, or in both. Some are lawful all the same.
 pub fn damaged(prng: &mut Prng) -> Vec<u8> {
     let lines = lines(prng);
