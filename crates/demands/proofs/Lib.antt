@@ -65,7 +65,7 @@ pub mod WaitCases
 pub mod Sums
 pub mod Quickest
 pub mod QuickestAsked
-pub mod WaitExamples
+pub mod Askable
 -- what is printed
 pub mod NumberTexts
 pub mod Triples

@@ -4,7 +4,7 @@ use Prim.Native.Nat.{ℕ, _-_, _≤_, _<_}
 use native.Mathlib.Omega.{arith}
 use native.Mathlib.Decide.{decLt}
 use mathlib.Core.Path.{_≡_, refl, sym, _∙_, ap}
-use mathlib.Core.Logic.{_⊎_, inl, inr, ⊎-elim}
+use mathlib.Core.Logic.{_⊎_, inl, inr, ⊎-elim, _↔_}
 use mathlib.Core.List.{List, [], _∷_, List·Memᴰ, List·Memᴰ·head, List·Memᴰ·tail}
 use lib.ListN.{length, getD, replicate, length-replicate, getD-replicate}
 use Rattle.model.specs.Blocks.{blocksOf, count}
@@ -12,25 +12,23 @@ use Rattle.model.specs.Unfolding.{showLinks}
 use Rattle.model.specs.Chains.{Distance, Far, Unreachable}
 use Rattle.model.specs.Verdicts.{refusal, verdict}
 use Rattle.model.specs.Lists.{overwrite}
-use Rattle.model.specs.Waits.{WaitFile, WaitTable, Unfit, waitsWith, noWaits, waitFile}
+use Rattle.model.specs.Waits.{WaitFile, WaitTable, Unfit, waitFile}
 use Rattle.model.specs.Quickest.{quickest}
 use Rattle.model.specs.Answers.{given, returned, ofQuickest}
 use Rattle.model.specs.Questions.{Outcome, outcome, answer, refuse, cleared, quickestUnder, quickestIn, quickestAsked}
 use Rattle.model.specs.Asking.{AsksQuickest}
 use Rattle.model.specs.declared.QuickestAnswer.{QuickestAnswer}
 use Rattle.model.specs.declared.QuickestAnswer.the-variants.{Tenths, None, Refused}
-use Rattle.shows.specs.SmallFiles.{BreaksAt, FirstOf}
 use Rattle.shows.proofs.Waits.{waits-fit}
 use Rattle.shows.proofs.Outcomes.{on-yes, has-room}
 use Rattle.demands.specs.Acceptance.{Lawful}
 use Rattle.demands.specs.Refusals.{TooShort, NoCue, Refuses}
-use Rattle.demands.specs.Waits.{waitNames, waitEnds, Spells, OutOfRange, NotAbove, LawfulWaits}
-use Rattle.demands.specs.Quickest.{Askable, IsCleared, QuickestExact}
+use Rattle.demands.specs.Waits.{Spells, LawfulWaits}
+use Rattle.demands.specs.Quickest.{Askable, IsQuickest, IsCleared, QuickestExact}
 use Rattle.demands.proofs.Acceptance.{accepted-exactly}
 use Rattle.demands.proofs.Buffers.{leaves, over-first, over-beyond}
 use Rattle.demands.proofs.Refusals.{holds-cue, quickest-refuses}
-use Rattle.demands.proofs.Waits.{Outcome as Says, broken, outside, fallen, lawful, wait-file}
-use Rattle.demands.proofs.LabelWaits.{table-waits, waits-are}
+use Rattle.demands.proofs.WaitFiles.{reads-waits}
 use Rattle.demands.proofs.Sums.{Agree}
 use Rattle.demands.proofs.Quickest.{answerOf, same-answer, refused-alike, is-quickest}
 
@@ -144,54 +142,13 @@ module _ (xs : List ℕ) (s t : ℕ) (f work after : List ℕ) (r : QuickestAnsw
           refused (inl (n, p)) = let no = unfit a m l w in let z : _≡_ {A = ℕ} 0 1 = cc in omega arith
           refused (inr p) = let no = unfit a m l w in let z : _≡_ {A = ℕ} 0 1 = cc in omega arith
 
--- The kinds of file, one by one.
-module _ (f : List ℕ) (n : ℕ) where
-  differ : {A : Type 0} (a b m k : ℕ) → Unfit a m ≡ Unfit b k → (a ≡ b → ⊥) → A
-  differ a b m k e h = let x : a ≡ b = cc in absurd (h x)
-
-  pub broken-at : waitFile f ≡ Unfit 15 n → BreaksAt waitNames waitEnds f n
-  broken-at w = go (wait-file f _ .0 w)
-    where
-      go : Says f (Unfit 15 n) → BreaksAt waitNames waitEnds f n
-      go (broken m e b) = let x : m ≡ n = cc in rw x at b
-      go (outside m vss e p b) = differ 15 16 n m e (λ x. omega arith)
-      go (fallen m vss e p i b) = differ 15 17 n m e (λ x. omega arith)
-      go (lawful vss e l) = let z : _≡_ {A = ℕ} 0 1 = cc in absurd (omega arith)
-
-  pub outside-at : waitFile f ≡ Unfit 16 n → (vss : List (List ℕ)) × Spells f vss × FirstOf (OutOfRange vss) n
-  outside-at w = go (wait-file f _ .0 w)
-    where
-      go : Says f (Unfit 16 n) → (vss : List (List ℕ)) × Spells f vss × FirstOf (OutOfRange vss) n
-      go (broken m e b) = differ 16 15 n m e (λ x. omega arith)
-      go (outside m vss e p b) = let x : m ≡ n = cc in (vss, p, (rw x at b))
-      go (fallen m vss e p i b) = differ 16 17 n m e (λ x. omega arith)
-      go (lawful vss e l) = let z : _≡_ {A = ℕ} 0 1 = cc in absurd (omega arith)
-
-  pub fallen-at : waitFile f ≡ Unfit 17 n → (vss : List (List ℕ)) × Spells f vss × ((m : ℕ) → OutOfRange vss m → ⊥) × FirstOf (NotAbove vss) n
-  fallen-at w = go (wait-file f _ .0 w)
-    where
-      go : Says f (Unfit 17 n) → (vss : List (List ℕ)) × Spells f vss × ((m : ℕ) → OutOfRange vss m → ⊥) × FirstOf (NotAbove vss) n
-      go (broken m e b) = differ 17 15 n m e (λ x. omega arith)
-      go (outside m vss e p b) = differ 17 16 n m e (λ x. omega arith)
-      go (fallen m vss e p i b) = let x : m ≡ n = cc in (vss, p, i, (rw x at b))
-      go (lawful vss e l) = let z : _≡_ {A = ℕ} 0 1 = cc in absurd (omega arith)
-
-lawful-file : (f ws : List ℕ) → waitFile f ≡ WaitTable ws → (vss : List (List ℕ)) × LawfulWaits f vss
-lawful-file f ws w = go (wait-file f _ .0 w)
-  where
-    go : Says f (WaitTable ws) → (vss : List (List ℕ)) × LawfulWaits f vss
-    go (broken m e b) = let z : _≡_ {A = ℕ} 0 1 = cc in absurd (omega arith)
-    go (outside m vss e p b) = let z : _≡_ {A = ℕ} 0 1 = cc in absurd (omega arith)
-    go (fallen m vss e p i b) = let z : _≡_ {A = ℕ} 0 1 = cc in absurd (omega arith)
-    go (lawful vss e l) = (vss, l)
-
 -- The lines of a lawful file, and the table that they make.
-agree : (f : List ℕ) (vss : List (List ℕ)) → LawfulWaits f vss → Agree vss (waitsWith noWaits vss)
-agree f vss l =
-    let w = wait-file f _ .1 (lawful vss refl l) in
+agree : (f ws : List ℕ) (vss : List (List ℕ)) → waitFile f ≡ WaitTable ws → Spells f vss → Agree vss ws
+agree f ws vss w p =
+    let waits = reads-waits f .waits ws vss w p in
     record {
-      only = λ label wait low high p. waits-are f _ vss w (l .spells) label wait high p;
-      has = λ label low high. table-waits f _ vss w (l .spells) label high;
+      only = λ label wait low high. waits label wait low high .0;
+      has = λ label low high. waits label _ low high .1 refl;
     }
 
 either : (d : Distance) (r : QuickestAnswer) → r ≡ answerOf d → ((n : ℕ) × (r ≡ Tenths n)) ⊎ (r ≡ None)
@@ -204,30 +161,38 @@ cue-bounds : (xs : List ℕ) (n : ℕ) → (NoCue xs n → ⊥) → (1 ≤ n) ×
 cue-bounds xs n k = let a : n ≡ 0 → ⊥ = λ z. k (inl z) in let b : count (blocksOf xs) < n → ⊥ = λ h. k (inr h) in (omega arith, omega arith)
 
 -- All that is demanded of an answer.
-pub quickest-exact : (xs : List ℕ) (s t : ℕ) (f work after : List ℕ) (r : QuickestAnswer) → AsksQuickest xs s t f work r after
-    → QuickestExact xs s t f work r after
-quickest-exact xs s t f work after r e =
-    record {
-      malformed = λ n. (
-        λ q. let (a, w) = file-unfit xs s t f work after r e 15 n (omega arith) q in (a, broken-at f n w),
-        λ (a, b). unfit xs s t f work after r e a 15 n (wait-file f _ .1 (broken n refl b)),
-      );
-      out-of-range = λ n. (
-        λ q. let (a, w) = file-unfit xs s t f work after r e 16 n (omega arith) q in (a, outside-at f n w),
-        λ (a, (vss, p, b)). unfit xs s t f work after r e a 16 n (wait-file f _ .1 (outside n vss refl p b)),
-      );
-      not-above = λ n. (
-        λ q. let (a, w) = file-unfit xs s t f work after r e 17 n (omega arith) q in (a, fallen-at f n w),
-        λ (a, (vss, p, i, b)). unfit xs s t f work after r e a 17 n (wait-file f _ .1 (fallen n vss refl p i b)),
-      );
-      answered = (
-        λ q. let (a, (ws, w)) = file-fit xs s t f work after r e q in (a, lawful-file f ws w),
-        λ (a, (vss, l)). either _ r (under xs s t f work after r e a _ (wait-file f _ .1 (lawful vss refl l)) .0),
-      );
-      quickest = λ a vss l.
-          let w = wait-file f _ .1 (lawful vss refl l) in
-          let (low, high) = cue-bounds xs s (a .start) in
-          let (low′, high′) = cue-bounds xs t (a .end) in
-          is-quickest xs (accepted-exactly xs .1 (a .lawful)) s t low high low′ high′ vss _ (agree f vss l) (waits-fit f _ w) r (under xs s t f work after r e a _ w .0);
-      leaves = λ a vss l. rw (under xs s t f work after r e a _ (wait-file f _ .1 (lawful vss refl l)) .1) (is-cleared work (a .room));
-    }
+module _ (xs : List ℕ) (s t : ℕ) (f work after : List ℕ) (r : QuickestAnswer) (e : AsksQuickest xs s t f work r after) where
+  abbrev Asked : Type 0
+  Asked = Askable xs s t work
+
+  -- A refusal of the wait file, from what is said of the file.
+  refuses-file : (n p : ℕ) → 12 < n → {P : Type 0} → (waitFile f ≡ Unfit n p) ↔ P → (r ≡ Refused n p) ↔ (Asked × P)
+  refuses-file n p h says = (
+    λ q. let (a, w) = file-unfit xs s t f work after r e n p h q in (a, says .0 w),
+    λ (a, b). unfit xs s t f work after r e a n p (says .1 b),
+  )
+
+  -- What is answered under a lawful file.
+  answers : Asked → (vss : List (List ℕ)) → LawfulWaits f vss → IsQuickest xs vss (showLinks (blocksOf xs)) s t r × IsCleared work after
+  answers a vss l =
+      let (ws, w) = reads-waits f .accepted .1 (vss, l) in
+      let (low, high) = cue-bounds xs s (a .start) in
+      let (low′, high′) = cue-bounds xs t (a .end) in
+      let (q, c) = under xs s t f work after r e a ws w in (
+        is-quickest xs (accepted-exactly xs .1 (a .lawful)) s t low high low′ high′ vss ws (agree f ws vss w (l .spells)) (waits-fit f ws w) r q,
+        rw c (is-cleared work (a .room)),
+      )
+
+  pub quickest-exact : QuickestExact xs s t f work r after
+  quickest-exact =
+      record {
+        malformed = λ n. refuses-file 15 n (omega arith) (reads-waits f .malformed n);
+        out-of-range = λ n. refuses-file 16 n (omega arith) (reads-waits f .out-of-range n);
+        not-above = λ n. refuses-file 17 n (omega arith) (reads-waits f .not-above n);
+        answered = (
+          λ q. let (a, w) = file-fit xs s t f work after r e q in (a, reads-waits f .accepted .0 w),
+          λ (a, l). let (ws, w) = reads-waits f .accepted .1 l in either _ r (under xs s t f work after r e a ws w .0),
+        );
+        quickest = λ a vss l. answers a vss l .0;
+        leaves = λ a vss l. answers a vss l .1;
+      }

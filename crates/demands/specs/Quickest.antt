@@ -12,10 +12,9 @@ use Rattle.model.specs.declared.FewestAnswer.{FewestAnswer}
 use Rattle.model.specs.declared.FewestAnswer.the-variants.{None as NoSteps}
 use Rattle.model.specs.declared.QuickestAnswer.{QuickestAnswer}
 use Rattle.model.specs.declared.QuickestAnswer.the-variants.{Tenths, None, Refused}
-use Rattle.shows.specs.SmallFiles.{BreaksAt, FirstOf}
 use Rattle.demands.specs.Acceptance.{Lawful}
 use Rattle.demands.specs.Refusals.{NoCue}
-use Rattle.demands.specs.Waits.{waitNames, waitEnds, Spells, OutOfRange, NotAbove, LawfulWaits, Waits}
+use Rattle.demands.specs.Waits.{LawfulWaits, Waits, Malformed, Outside, Fallen}
 
 -- Lasts vss E t s sum is a chain from s to t of the links E, with the sum of its waits: every link of the list waits as its label does, however often it is
 -- taken. vss are the lines of the wait file. "a chain has only links with labels 1 to 254" (Paper 3).
@@ -55,12 +54,11 @@ pub record IsCleared (work after : List ℕ) : Type 0 where
 -- `Refusals.Refuses`.)
 pub record QuickestExact (xs : List ℕ) (s t : ℕ) (f work : List ℕ) (r : QuickestAnswer) (after : List ℕ) : Type 0 where
   -- "15 with the first malformed line (line 1 for wrong names)",
-  pub malformed : (n : ℕ) → (r ≡ Refused 15 n) ↔ (Askable xs s t work × BreaksAt waitNames waitEnds f n)
+  pub malformed : (n : ℕ) → (r ≡ Refused 15 n) ↔ (Askable xs s t work × Malformed f n)
   -- "then 16 with the first line whose label or wait is outside its range",
-  pub out-of-range : (n : ℕ) → (r ≡ Refused 16 n) ↔ (Askable xs s t work × ((vss : List (List ℕ)) × Spells f vss × FirstOf (OutOfRange vss) n))
+  pub out-of-range : (n : ℕ) → (r ≡ Refused 16 n) ↔ (Askable xs s t work × Outside f n)
   -- "then 17 with the first line whose label isn't above the one before, all after 12".
-  pub not-above : (n : ℕ) → (r ≡ Refused 17 n)
-      ↔ (Askable xs s t work × ((vss : List (List ℕ)) × Spells f vss × ((m : ℕ) → OutOfRange vss m → ⊥) × FirstOf (NotAbove vss) n))
+  pub not-above : (n : ℕ) → (r ≡ Refused 17 n) ↔ (Askable xs s t work × Fallen f n)
   -- It is answered exactly if nothing is refused, and then by the smallest sum.
   pub answered : (((n : ℕ) × (r ≡ Tenths n)) ⊎ (r ≡ None)) ↔ (Askable xs s t work × ((vss : List (List ℕ)) × LawfulWaits f vss))
   pub quickest : Askable xs s t work → (vss : List (List ℕ)) → LawfulWaits f vss → IsQuickest xs vss (showLinks (blocksOf xs)) s t r

@@ -26,7 +26,8 @@ use Rattle.demands.proofs.RowBehind.{is-row-behind}
 use Rattle.demands.proofs.Shortest.{is-fewest, leaves-summaries}
 use Rattle.demands.proofs.Notes.{chain-links, old-figure, ring-unnoted, ring-noted}
 use Rattle.demands.proofs.QuickestAsked.{quickest-exact}
-use Rattle.demands.proofs.WaitExamples.{ring-askable, examples}
+use Rattle.demands.proofs.Askable.{ring-askable}
+use Rattle.demands.proofs.WaitCases.{some-lawful, some-malformed, some-outside, some-fallen}
 use Rattle.demands.proofs.DeskTable.{table-fact}
 use Rattle.demands.proofs.DeskReading.{is-desk-read, own-lines, desk-lawful, writes-whole}
 use Rattle.demands.proofs.DeskExample.{desk-file}
@@ -118,8 +119,8 @@ demand-5 =
     record {
       exact = quickest-exact;
       a-question = ring-askable;
-      a-file = examples .lawful;
-      a-cut-file = examples .cut;
-      an-outside-file = examples .outside;
-      a-falling-file = examples .twice;
+      a-file = (_, some-lawful);
+      a-malformed-file = (_, _, some-malformed);
+      an-outside-file = (_, _, some-outside);
+      a-fallen-file = (_, _, some-fallen);
     }

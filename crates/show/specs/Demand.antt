@@ -11,7 +11,7 @@ use Rattle.model.specs.Blocks.{blocksOf, lastBlock, count}
 use Rattle.model.specs.Unfolding.{showLinks}
 use Rattle.model.specs.Summaries.{blockLinks}
 use Rattle.model.specs.Answers.{ofWrite, ofCount, ofLocate, ofNumber, ofList, ofRow, ofFewest, ofQuickest}
-use Rattle.model.specs.Ring.{ring, notedRing, opening, paddedFile, ringWaits, cutWaits, outsideWaits, twiceWaits}
+use Rattle.model.specs.Ring.{ring, notedRing, opening, paddedFile}
 use Rattle.model.specs.declared.ReadAnswer.{ReadAnswer}
 use Rattle.model.specs.declared.ReadAnswer.the-variants.{Read}
 use Rattle.model.specs.declared.WriteAnswer.{WriteAnswer}
@@ -29,7 +29,6 @@ use Rattle.demands.specs.Words.{Words}
 use Rattle.demands.specs.Blocks.{AreBlocks}
 use Rattle.demands.specs.Refusals.{TooShort, Refuses}
 use Rattle.shows.specs.Files.{SpellsFile}
-use Rattle.shows.specs.SmallFiles.{BreaksAt, FirstOf}
 use Rattle.demands.specs.Files.{IsRead, IsWritten, NoRoomFor, Unpadded}
 use Rattle.demands.specs.RoundTrips.{WritesBack, ReadsBack, ReadsAgain}
 use Rattle.demands.specs.Replacement.{Unfolds}
@@ -40,7 +39,7 @@ use Rattle.demands.specs.RowBehind.{StandsAs, IsRowBehind}
 use Rattle.demands.specs.Fewest.{IsFewest}
 use Rattle.demands.specs.WorkArea.{IsWorkArea}
 use Rattle.demands.specs.Notes.{IsNote, NoNotes, followedLinks, followedInside, ChainLinks, OldFigure}
-use Rattle.demands.specs.Waits.{waitNames, waitEnds, Spells, OutOfRange, NotAbove, LawfulWaits}
+use Rattle.demands.specs.Waits.{LawfulWaits, Malformed, Outside, Fallen}
 use Rattle.demands.specs.Quickest.{Askable, QuickestExact}
 use Rattle.demands.specs.Desk.{TableFact, DeskLawful, IsDeskRead, OwnLines, WritesWhole, HasDeskSummaries}
 
@@ -164,7 +163,7 @@ pub record Demand5 : Type 0 where
   pub exact : (xs : List ℕ) (s t : ℕ) (f work after : List ℕ) (r : QuickestAnswer) → AsksQuickest xs s t f work r after
       → QuickestExact xs s t f work r after
   pub a-question : Askable ring 1 2 (replicate 16384 0)
-  pub a-file : LawfulWaits ringWaits ((1 ∷ 10 ∷ []) ∷ (2 ∷ 25 ∷ []) ∷ [])
-  pub a-cut-file : BreaksAt waitNames waitEnds cutWaits 4
-  pub an-outside-file : (vss : List (List ℕ)) × Spells outsideWaits vss × FirstOf (OutOfRange vss) 4
-  pub a-falling-file : (vss : List (List ℕ)) × Spells twiceWaits vss × ((m : ℕ) → OutOfRange vss m → ⊥) × FirstOf (NotAbove vss) 3
+  pub a-file : (f : List ℕ) (vss : List (List ℕ)) × LawfulWaits f vss
+  pub a-malformed-file : (f : List ℕ) (n : ℕ) × Malformed f n
+  pub an-outside-file : (f : List ℕ) (n : ℕ) × Outside f n
+  pub a-fallen-file : (f : List ℕ) (n : ℕ) × Fallen f n
