@@ -163,7 +163,7 @@ pub record Demand5 : Type 0 where
   pub exact : (xs : List ℕ) (s t : ℕ) (f work after : List ℕ) (r : QuickestAnswer) → AsksQuickest xs s t f work r after
       → QuickestExact xs s t f work r after
   pub a-question : Askable ring 1 2 (replicate 16384 0)
-  pub a-file : (f : List ℕ) (vss : List (List ℕ)) × LawfulWaits f vss
-  pub a-malformed-file : (f : List ℕ) (n : ℕ) × Malformed f n
-  pub an-outside-file : (f : List ℕ) (n : ℕ) × Outside f n
-  pub a-fallen-file : (f : List ℕ) (n : ℕ) × Fallen f n
+  pub a-file : (f : List ℕ) × ((vss : List (List ℕ)) × LawfulWaits f vss)
+  pub a-malformed-file : (f : List ℕ) × ((n : ℕ) × Malformed f n)
+  pub an-outside-file : (f : List ℕ) × ((n : ℕ) × Outside f n)
+  pub a-fallen-file : (f : List ℕ) × ((n : ℕ) × Fallen f n)
