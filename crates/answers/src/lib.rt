@@ -329,7 +329,8 @@ pub fn quickest_in(
     ensures { λ r. ⌜ outcome (ofQuickest r) (now (work .exit))
         ≡ quickestIn (blocksOf (now (rows .entry))) s t (now (file .entry)) (now (work .entry)) ⌝ }
 {
-    if work.len() < WORK_SIZE {
+    let room = work.len();
+    if room < WORK_SIZE {
         return QuickestAnswer::Refused(11, 0);
     }
     let known = are_cues(blocks::count(rows, table), s, t);
