@@ -68,7 +68,7 @@ fn earliest(known: usize, is: bool, line: usize) -> usize
     known
 }
 
-// What is known behind one line more.
+// What is known behind one line more. The number of lines has 64 bits.
 fn with_line(seen: Seen, label: u32, wait: u32) -> Seen
     requires { ⌜ seen .line < 18446744073709551615 ⌝ }
     ensures { λ r. ⌜ r ≡ withLine seen label wait ⌝ }
