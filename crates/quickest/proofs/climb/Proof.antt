@@ -26,8 +26,7 @@ abbrev μ-loop : tie.MeasureT-loop
 from-cue-requires : tie.Need-from-cue-requires Inv-loop μ-loop
 from-cue-requires c κs =
     let at-wide = c .before in
-    let start = at-wide .before .before .before .before .before .before .before in
-    (
+    let start = at-wide .before .before .before .before .before .before .before in (
       may-settle (start .pre .0 .sums) (place-block (start .pre .0 .sums .loaded) (start .pre .0 .found)) (search needs),
       start .pre .0 .sums .waited,
       omega (arith, at-wide .wide .ensures .0, own-known (start .pre .0 .sums .loaded) (start .pre .0 .found)),
@@ -44,8 +43,7 @@ loop-holds c = (search needs, search needs, search needs, λ q f h r. r)
 
 rise-one-requires : tie.Need-rise-one-requires Inv-loop μ-loop
 rise-one-requires c κs =
-    let start = c .before .before .before .before .before .before .before .before .before .before .before .before .before .before .before .before .before .before .before .before in
-    (
+    let start = c .before .before .before .before .before .before .before .before .before .before .before .before .before .before .before .before .before .before .before .before in (
       start .pre .0 .sums,
       rows-to (start .pre .0 .sums .loaded) (start .pre .0 .found) _ (omega arith),
       omega (arith, start .pre .0 .found .deep),

@@ -22,8 +22,7 @@ loop-holds c = (search needs, search needs, row-begin _ _ _ _)
 loop-again : tie.Need-loop-again Inv-loop μ-loop
 loop-again c =
     let at-loop = c .before .before in
-    let start = at-loop .before in
-    (
+    let start = at-loop .before in (
       search needs,
       search needs,
       row-on (start .args .v .now) (at-loop .loop .v) (start .args .i) (start .args .d .now) (start .args .p) (at-loop .loop .j)

@@ -23,8 +23,7 @@ put-met-requires c κs =
     let at-joins = c .before in
     let at-used = at-joins .before in
     let at-wide = at-used .before in
-    let start = at-wide .before .before .before .before .before .before in
-    (
+    let start = at-wide .before .before .before .before .before .before in (
       row-meets (start .pre .0) (use-row-on _ (start .pre .1) _ (at-wide .wide .ensures .0)) _ _ (at-used .used .ensures .0)
           (at-joins .joins .ensures .0) _ (search needs),
       omega (arith, at-joins .joins .ensures .1),

@@ -21,8 +21,7 @@ returns c =
     let at-clear-work = c .before .before in
     let at-search = at-clear-work .before .before .before in
     let at-sum-blocks = at-search .before .before .before .before .before .before in
-    let start = at-sum-blocks .before .before .before .before .before .before .before .before in
-    (
+    let start = at-sum-blocks .before .before .before .before .before .before .before .before in (
       at-search .search .ensures,
       area-zeros (at-sum-blocks .sum-blocks .last .1 .1 .1 .1 .0) _ (at-clear-work .clear-work .ensures) (at-sum-blocks .sum-blocks .kept .1 .1 .1 .1 .0 ∙ start .pre .4),
     )

@@ -42,8 +42,7 @@ loop-again c =
     let at-block-on = at-settle .before .before in
     let at-enter = at-block-on .before .before .before in
     let at-loop = at-enter .before .before .before .before in
-    let start = at-loop .before .before .before .before .before .before in
-    (
+    let start = at-loop .before .before .before .before .before .before in (
       search needs,
       search needs,
       search needs,

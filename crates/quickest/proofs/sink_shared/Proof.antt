@@ -53,8 +53,7 @@ loop-again c =
     let at-put-source = at-block-on .before .before .before in
     let at-enter = at-put-source .before .before .before .before in
     let at-loop = at-enter .before .before .before in
-    let start = at-loop .before .before .before .before .before .before .before in
-    (
+    let start = at-loop .before .before .before .before .before .before .before in (
       search needs,
       search needs,
       shared-on (sums-known (start .pre .0 .sums)) (start .pre .0 .found) (at-loop .loop .l) (start .args .kept .now)

@@ -26,8 +26,7 @@ sum-join-requires : tie.Need-sum-join-requires Inv-loop μ-loop
 sum-join-requires c κs =
     let at-loop = c .before .before .before in
     let at-joins = at-loop .before in
-    let start = at-joins .before .before .before .before .before in
-    (
+    let start = at-joins .before .before .before .before .before in (
       record {
         loaded = start .pre .0 .loaded;
         waited = start .pre .0 .waited;

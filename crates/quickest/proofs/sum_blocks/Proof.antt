@@ -33,8 +33,7 @@ sum-block-requires : tie.Need-sum-block-requires Inv-loop μ-loop
 sum-block-requires c κs =
     let at-loop = c .before .before .before in
     let at-last = at-loop .before in
-    let start = at-last .before .before .before .before .before in
-    (
+    let start = at-last .before .before .before .before .before in (
       record {
         loaded = start .pre .0;
         waited = start .pre .1;

@@ -26,9 +26,10 @@ relax-link-requires : tie.Need-relax-link-requires Inv-loop μ-loop
 relax-link-requires c κs =
     let at-loop = c .before .before .before in
     let at-link-rows = at-loop .before in
-    let start = at-link-rows .before .before .before .before in
-    (start .pre .1,
-    link-ends (start .pre .0) (link-row (start .pre .0) _ (start .pre .2) (at-loop .loop .r) (at-link-rows .link-rows .ensures) (omega arith) (omega arith)) (search needs))
+    let start = at-link-rows .before .before .before .before in (
+      start .pre .1,
+      link-ends (start .pre .0) (link-row (start .pre .0) _ (start .pre .2) (at-loop .loop .r) (at-link-rows .link-rows .ensures) (omega arith) (omega arith)) (search needs),
+    )
 
 loop-again : tie.Need-loop-again Inv-loop μ-loop
 loop-again c =
