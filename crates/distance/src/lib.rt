@@ -37,7 +37,8 @@ ghost use Rattle.blocks.specs.Places.{blockOn, UsesTo, Found};
 ghost use Rattle.searches.specs.Starts.{Started, Merged, estimatesSize};
 ghost use Rattle.searches.specs.Edges.{cueCount, SpreadIn};
 ghost use Rattle.searches.specs.Joins.{JoinsAt, RowKept, JoinsKept};
-ghost use Rattle.distance.specs.Summaries.{partOf, RowsFilled, Below, PartFilled, HasSummaries, MaySearch};
+ghost use Rattle.searches.specs.Parts.{partOf};
+ghost use Rattle.distance.specs.Summaries.{RowsFilled, Below, PartFilled, HasSummaries, MaySearch};
 ghost use Rattle.copies.specs.ByRows.{copyOn};
 ghost use Rattle.searches.specs.Copies.{FromKept, FromAbove, TellsWhole, keptSize, Risen, Source, Common, Sunk};
 
