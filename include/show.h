@@ -228,7 +228,7 @@ SHOW_NODISCARD uint64_t show_fewest(const uint32_t *rows, size_t rows_len, uint3
  *              whose label or wait is out of its range, 17 with the first line whose label is not above that of the line before.
  *              Each of these goes over the whole file before the next. Lines are counted from 1; one from 4294967295 on is told
  *              as 4294967295.
- *   Cost       as show_fewest or twice that, and 1 to 2 ns a byte of the wait file. Stack: 27 kB. */
+ *   Cost       as show_fewest or twice that, and some 1 ns a byte of the wait file. Stack: 27 kB. */
 SHOW_NODISCARD uint64_t show_quickest(const uint32_t *rows, size_t rows_len, uint32_t s, uint32_t t, const uint8_t *waits,
                                       size_t waits_len, uint64_t *work, size_t work_len, uint32_t *given, size_t given_len);
 
