@@ -120,7 +120,7 @@ demand-5 =
       exact = quickest-exact;
       a-question = ring-askable;
       a-file = (_, some-lawful);
-      a-malformed-file = (_, _, some-malformed);
-      an-outside-file = (_, _, some-outside);
-      a-fallen-file = (_, _, some-fallen);
+      a-malformed-file = (_, (_, some-malformed));
+      an-outside-file = (_, (_, some-outside));
+      a-fallen-file = (_, (_, some-fallen));
     }

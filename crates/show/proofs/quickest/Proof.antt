@@ -19,4 +19,5 @@ returns-2 c = search (quickest-no, needs)
 pub quickest-spec : {M : Type 1} → statement M
 quickest-spec =
     tie.close
-    (tie.spec (λ c κs. search needs) (λ c. search needs) quickest-in-requires (λ c. search needs) (λ c. search needs) returns returns-2)
+    (tie.spec (λ c κs. search needs) (λ c. search needs) quickest-in-requires (λ c. search needs) (λ c κs. search needs) (λ c. search needs)
+    returns returns-2)
