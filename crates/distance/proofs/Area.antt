@@ -7,17 +7,15 @@ use mathlib.Core.Path.{_≡_, refl, sym, _∙_, ap}
 use mathlib.Core.List.{List, _++_, flatMap, append-assoc}
 use lib.ListN.{length, getD, take, drop, replicate, length-append, length-drop, length-replicate}
 use lib.Seq.{take-at, drop-at, drop-drop, getD-take, length-take-le}
-use Rattle.model.specs.Limits.{noChain, maxBlocks, maxJoins, summarySize, workSize}
+use Rattle.model.specs.Limits.{noChain, maxJoins, summarySize, workSize}
 use Rattle.model.specs.Lists.{range, overwrite}
-use Rattle.model.specs.Blocks.{Block, joinsOf, blocksOf, lastBlock}
+use Rattle.model.specs.Blocks.{Block, joinsOf}
 use Rattle.model.specs.Chains.{fewest}
 use Rattle.model.specs.Summaries.{summaryOf, summaries, workBy, workAfter}
 use Rattle.shows.specs.WellFormed.{Small}
 use Rattle.shows.proofs.AtBlock.{joins-small}
 use Rattle.distances.specs.Tells.{summaryPlace, summariesTo, summariesToBy}
 use Rattle.distances.proofs.Places.{summariesTo-next, summariesTo-length, summariesTo-at, summaries-all, summaries-length}
-use Rattle.blocks.specs.Loaded.{Loaded}
-use Rattle.blocks.proofs.Loaded.{loaded-show}
 use Rattle.searches.specs.Parts.{partOf, withPart}
 use Rattle.searches.proofs.Parts.{part-length, part-put, with-before, part-with, with-with}
 use Rattle.distance.specs.Summaries.{RowsFilled, PartFilled, Below}

@@ -4,8 +4,8 @@
 // names. From s the way goes up the derivation tree, copy by copy to the show, and from there down
 // to the copy of t.
 //
-// Others call `summarise`, which fills the work area with the summaries of all blocks, and
-// `fewest`, which answers the question.
+// Others call `summarise`, which fills the work area with the summaries of all blocks, `fewest`,
+// which answers the question, and `common`, which says how far two places have the same rows.
 use blocks::Place;
 use blocks::wide;
 use estimates::ESTIMATES;

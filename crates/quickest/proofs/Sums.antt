@@ -1,15 +1,14 @@
 -- Waits are summed: each followed link weighs its label's wait, at most 6,000. The work area tells the smallest sums between joins, row by row and block by
 -- block, and what is told for the cues of two places is the quickest answer.
-use Prim.Native.Nat.{ℕ, suc, _+_, _*_, _-_, _≤_, _<_}
+use Prim.Native.Nat.{ℕ, _+_, _*_, _-_, _≤_, _<_}
 use native.Mathlib.Omega.{arith}
 use native.Mathlib.Decide.{ℕ-discrete}
-use native.Mathlib.Numerals.{add-one}
-use mathlib.Core.Path.{_≡_, refl, sym, _∙_, ap}
-use mathlib.Core.Logic.{inl, inr}
+use mathlib.Core.Path.{_≡_, sym, _∙_, ap}
+use mathlib.Core.Logic.{inl}
 use mathlib.Core.List.{List, _++_}
 use lib.ListN.{length, getD, take, drop, replicate, length-replicate}
 use lib.Seq.{length-take-le}
-use Rattle.model.specs.Limits.{maxWait, maxBlocks, maxJoins, summarySize, summaryWidth, workSize}
+use Rattle.model.specs.Limits.{maxWait, maxJoins, summarySize, summaryWidth, workSize}
 use Rattle.model.specs.Lists.{overwrite}
 use Rattle.model.specs.Blocks.{Block, blockAt, joinsOf, ownOf, total, lastBlock, count, blocksOf}
 use Rattle.model.specs.Unfolding.{showLinks}
@@ -38,7 +37,7 @@ use Rattle.searches.specs.Joins.{RowKept}
 use Rattle.searches.proofs.Settled.{spread-estimates}
 use Rattle.searches.proofs.Telling.{Known}
 use Rattle.searches.proofs.Answering.{cue-counted}
-use Rattle.quickest.specs.Sums.{MaySum, SumsTo, HasSums, MaySearch}
+use Rattle.quickest.specs.Sums.{MaySum, SumsTo, HasSums}
 
 module _ {xs t waits : List ℕ} (g : Loaded xs t) (w : AreWaits waits) where
   abbrev bs : List Block

@@ -22,7 +22,7 @@ use sums::put_met;
 ghost use mathlib.Core.Path.{_≡_};
 ghost use Prim.Native.Nat.{_+_, _*_, _≤_, _<_};
 ghost use lib.ListN.{length, replicate};
-ghost use Rattle.model.specs.Limits.{maxDepth, workSize, summarySize, summaryWidth};
+ghost use Rattle.model.specs.Limits.{maxDepth, workSize, summaryWidth};
 ghost use Rattle.model.specs.Blocks.{joinsOf, blocksOf, count};
 ghost use Rattle.model.specs.Unfolding.{showLinks};
 ghost use Rattle.model.specs.Quickest.{quickest};

@@ -1,7 +1,7 @@
 -- `relax_sums::relax_link` meets its contract.
 use borrow.Author.Needs.{needs}
 use native.Mathlib.Omega.{arith}
-use mathlib.Core.Path.{refl, _∙_}
+use mathlib.Core.Path.{_∙_}
 use Rattle.searches.proofs.Edges.{link-unpriced, link-waits}
 use Rattle.relax_sums.proofs.relax_link.Statement.{statement}
 use Rattle.relax_sums.proofs.relax_link.Tie as tie

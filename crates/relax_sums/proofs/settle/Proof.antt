@@ -1,6 +1,5 @@
 -- `relax_sums::settle` meets its contract. The invariant: every change so far was by an edge that
--- improved a sum. The measure: the sums added up, which falls by 0 or more with a link and by 1 or
--- more with each change.
+-- improved a sum. The measure: all sums added up, which falls with each change, whatever links wait.
 use borrow.Author.Needs.{needs}
 use mathlib.Core.Path.{_≡_}
 use lib.ListN.{length}
