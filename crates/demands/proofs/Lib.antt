@@ -36,6 +36,7 @@ pub mod Standing
 pub mod Replacement
 pub mod RingSteps
 pub mod Apart
+pub mod SumsApart
 pub mod Ring
 -- numbers and paths
 pub mod NumberOrder
