@@ -66,6 +66,7 @@ pub mod WaitCases
 pub mod Sums
 pub mod Quickest
 pub mod QuickestAsked
+pub mod QuickestAnswered
 pub mod Askable
 -- what is printed
 pub mod NumberTexts
