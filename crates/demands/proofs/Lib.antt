@@ -36,6 +36,7 @@ pub mod Standing
 pub mod Replacement
 pub mod RingSteps
 pub mod Apart
+pub mod SumsApart
 pub mod Ring
 -- numbers and paths
 pub mod NumberOrder
@@ -65,6 +66,7 @@ pub mod WaitCases
 pub mod Sums
 pub mod Quickest
 pub mod QuickestAsked
+pub mod QuickestAnswered
 pub mod Askable
 -- what is printed
 pub mod NumberTexts

@@ -8,10 +8,12 @@ use Rattle.model.specs.Choice.{ifLt, ifEq, ifTrue}
 use Rattle.model.specs.Values.{isDigit, run, afterRun, decimal, isValue}
 use Rattle.model.specs.Text.{valueThen, endedBy, valuesOf, intoFirst, linesOf}
 use Rattle.model.specs.Verdicts.{same}
-use Rattle.model.specs.Tables.{lineThen, tableLines, tableAll, tableRead}
+use Rattle.model.specs.Tables.{Lines, lineThen, tableLines, tableAll, tableRead}
 use Rattle.model.specs.Waits.{WaitTable, Unfit, isOutside, firstOutside, firstNotAbove, waitsWith, noWaits, waitsOr, waitsIn, waitFile}
 use Rattle.model.specs.Waits as model
+use Rattle.model.specs.Ring.{ringWaits, cutWaits, outsideWaits, twiceWaits}
 use Rattle.demands.specs.Waits.{waitNames, LawfulWaits, Malformed, Outside, Fallen}
+use Rattle.demands.proofs.WaitTexts.{lines-are, one-spelling}
 use Rattle.demands.proofs.WaitFiles.{reads-waits}
 
 -- `254,6000`, and `254,06000` with a zero in front; label 255, label 0, a wait of 6,001; `1,0` twice; `1,0` without its line feed; names alone, other names.
@@ -45,15 +47,32 @@ edges = record {
   nothing = refl;
 }
 
--- So there is a lawful file, one malformed at line 2, one outside and one fallen.
-pub some-lawful : (vss : List (List ℕ)) × LawfulWaits largest vss
-some-lawful = reads-waits largest .accepted .0 (_, edges .largest-taken)
+-- So there is a lawful file, with its lines; one whose first malformed line is behind one of 16 and 17; one of 16 behind one of 17; and one of 17.
+abbrev lines : List (List ℕ)
+lines = (1 ∷ 10 ∷ []) ∷ (2 ∷ 25 ∷ []) ∷ []
 
-pub some-malformed : Malformed (waitNames ++ (49 ∷ 44 ∷ 48 ∷ [])) 2
-some-malformed = reads-waits _ .malformed 2 .0 (edges .cut)
+pub record Files : Type 0 where
+  pub read : tableRead model.waitNames model.waitEnds ringWaits ≡ Lines lines
+  pub taken : waitFile ringWaits ≡ WaitTable (set (set noWaits 1 10) 2 25)
+  pub cut : waitFile cutWaits ≡ Unfit 15 4
+  pub outside : waitFile outsideWaits ≡ Unfit 16 4
+  pub twice : waitFile twiceWaits ≡ Unfit 17 3
 
-pub some-outside : Outside (waitNames ++ (48 ∷ 44 ∷ 48 ∷ 10 ∷ [])) 2
-some-outside = reads-waits _ .out-of-range 2 .0 (edges .label-0)
+files : Files
+unfolding ifLt ifEq ifTrue isDigit run afterRun decimal isValue valueThen endedBy valuesOf intoFirst linesOf same lineThen tableLines tableAll tableRead model.waitNames model.waitEnds isOutside firstOutside firstNotAbove waitsWith noWaits waitsOr waitsIn waitFile
+files = record { read = refl; taken = refl; cut = refl; outside = refl; twice = refl }
 
-pub some-fallen : Fallen (waitNames ++ (49 ∷ 44 ∷ 48 ∷ 10 ∷ 49 ∷ 44 ∷ 48 ∷ 10 ∷ [])) 3
-some-fallen = reads-waits _ .not-above 3 .0 (edges .twice)
+pub some-lawful : LawfulWaits ringWaits lines
+some-lawful =
+    let (vss, l) = reads-waits ringWaits .accepted .0 (_, files .taken) in
+    let e : vss ≡ lines = one-spelling ringWaits vss lines (l .spells) (lines-are ringWaits lines .0 (files .read)) in
+    rw e at l
+
+pub some-malformed : Malformed cutWaits 4
+some-malformed = reads-waits _ .malformed 4 .0 (files .cut)
+
+pub some-outside : Outside outsideWaits 4
+some-outside = reads-waits _ .out-of-range 4 .0 (files .outside)
+
+pub some-fallen : Fallen twiceWaits 3
+some-fallen = reads-waits _ .not-above 3 .0 (files .twice)

@@ -1,13 +1,25 @@
 -- The model says of each wait file what is demanded.
-use Prim.Native.Nat.{ℕ}
+use Prim.Native.Nat.{ℕ, _≤_}
 use mathlib.Core.Path.{_≡_, refl, sym}
-use mathlib.Core.Logic.{_⊎_, inl, inr}
+use mathlib.Core.Logic.{_⊎_, inl, inr, _↔_}
 use mathlib.Core.List.{List}
 use native.Mathlib.Omega.{arith}
-use Rattle.model.specs.Waits.{Unfit, waitsWith, noWaits, waitFile}
-use Rattle.demands.specs.Waits.{Malformed, Outside, Fallen, ReadsWaits}
+use lib.ListN.{getD}
+use Rattle.model.specs.Waits.{WaitFile, WaitTable, Unfit, waitsWith, noWaits, waitFile}
+use Rattle.demands.specs.Waits.{Spells, LawfulWaits, Waits, Malformed, Outside, Fallen}
 use Rattle.demands.proofs.Waits.{Outcome, broken, outside, fallen, lawful, wait-file}
 use Rattle.demands.proofs.LabelWaits.{fit, table-lines, table-waits, waits-are}
+
+-- What is said of a file: each refusal just where its sentence says so, and no other; accepted just where it is lawful; and then each label has one wait,
+-- the one in its place of the table.
+pub record ReadsWaits (f : List ℕ) (w : WaitFile) : Type 0 where
+  pub malformed : (n : ℕ) → (w ≡ Unfit 15 n) ↔ Malformed f n
+  pub out-of-range : (n : ℕ) → (w ≡ Unfit 16 n) ↔ Outside f n
+  pub not-above : (n : ℕ) → (w ≡ Unfit 17 n) ↔ Fallen f n
+  pub no-other : (number n : ℕ) → w ≡ Unfit number n → (number ≡ 15) ⊎ (number ≡ 16) ⊎ (number ≡ 17)
+  pub accepted : ((ws : List ℕ) × (w ≡ WaitTable ws)) ↔ ((vss : List (List ℕ)) × LawfulWaits f vss)
+  pub waits : (ws : List ℕ) (vss : List (List ℕ)) → w ≡ WaitTable ws → Spells f vss → (label wait : ℕ) → 1 ≤ label → label ≤ 254
+      → Waits vss label wait ↔ (wait ≡ getD ws label 0)
 
 pub reads-waits : (f : List ℕ) → ReadsWaits f (waitFile f)
 reads-waits f = record {

@@ -22,7 +22,7 @@ abbrev pub SomeNoCue : List ℕ → List ℕ → Type 0
 SomeNoCue xs cues = (n : ℕ) × List·Memᴰ n cues × NoCue xs n
 
 -- A question about rows xs, asked about some cues, returned a; Short says that the lent list is too short; it held lent, and holds after. later has the
--- numbers above 12 that the question can return (13: `Numbers.IsNumber`; 14: `RowBehind.IsRowBehind`; 15 to 17: `Quickest.IsQuickest`).
+-- numbers above 12 that the question can return (13: `Numbers.IsNumber`; 14: `RowBehind.IsRowBehind`; 15 to 17: `Quickest.QuickestExact`).
 pub record Refuses (xs : List ℕ) (Short : Type 0) (cues later lent : List ℕ) (a : Returned) (after : List ℕ) : Type 0 where
   -- "Checks run in this order": 4 to 10 are of the rows,
   pub rows : ChecksRows xs a

@@ -1,10 +1,8 @@
 -- What is demanded of a wait file, said of its bytes and in the document's figures. Document 02, Paper 5, which all quotations are from.
 use Prim.Native.Nat.{ℕ, _+_, _≤_, _<_}
 use mathlib.Core.Path.{_≡_}
-use mathlib.Core.Logic.{_⊎_, _↔_}
+use mathlib.Core.Logic.{_⊎_}
 use mathlib.Core.List.{List, [], _∷_, List·Memᴰ}
-use lib.ListN.{getD}
-use Rattle.model.specs.Waits.{WaitFile, WaitTable, Unfit}
 use Rattle.shows.specs.SmallFiles.{SpellsSmall, BreaksAt, LineIs, FirstOf}
 
 -- "the names `label,wait`", in ASCII, and a line feed; the comma and the line feed behind the two values of a line.
@@ -52,14 +50,3 @@ Outside f n = (vss : List (List ℕ)) × Spells f vss × FirstOf (OutOfRange vss
 -- "then 17 with the first line whose label isn't above the one before".
 abbrev pub Fallen : List ℕ → ℕ → Type 0
 Fallen f n = (vss : List (List ℕ)) × Spells f vss × ((m : ℕ) → OutOfRange vss m → ⊥) × FirstOf (NotAbove vss) n
-
--- All of it, of what is said of a file: each refusal just where its sentence says so, and no other; accepted just where it is lawful; and then each label has
--- one wait, the one in its place of the table.
-pub record ReadsWaits (f : List ℕ) (w : WaitFile) : Type 0 where
-  pub malformed : (n : ℕ) → (w ≡ Unfit 15 n) ↔ Malformed f n
-  pub out-of-range : (n : ℕ) → (w ≡ Unfit 16 n) ↔ Outside f n
-  pub not-above : (n : ℕ) → (w ≡ Unfit 17 n) ↔ Fallen f n
-  pub no-other : (number n : ℕ) → w ≡ Unfit number n → (number ≡ 15) ⊎ (number ≡ 16) ⊎ (number ≡ 17)
-  pub accepted : ((ws : List ℕ) × (w ≡ WaitTable ws)) ↔ ((vss : List (List ℕ)) × LawfulWaits f vss)
-  pub waits : (ws : List ℕ) (vss : List (List ℕ)) → w ≡ WaitTable ws → Spells f vss → (label wait : ℕ) → 1 ≤ label → label ≤ 254
-      → Waits vss label wait ↔ (wait ≡ getD ws label 0)

@@ -26,6 +26,7 @@ use Rattle.demands.proofs.RowBehind.{is-row-behind}
 use Rattle.demands.proofs.Shortest.{is-fewest, leaves-summaries}
 use Rattle.demands.proofs.Notes.{chain-links, old-figure, ring-unnoted, ring-noted}
 use Rattle.demands.proofs.QuickestAsked.{quickest-exact}
+use Rattle.demands.proofs.QuickestAnswered.{has-answer}
 use Rattle.demands.proofs.Askable.{ring-askable}
 use Rattle.demands.proofs.WaitCases.{some-lawful, some-malformed, some-outside, some-fallen}
 use Rattle.demands.proofs.DeskTable.{table-fact}
@@ -117,10 +118,11 @@ demand-4 =
 pub demand-5 : Demand5
 demand-5 =
     record {
+      answers = has-answer;
       exact = quickest-exact;
       a-question = ring-askable;
-      a-file = (_, some-lawful);
-      a-malformed-file = (_, (_, some-malformed));
-      an-outside-file = (_, (_, some-outside));
-      a-fallen-file = (_, (_, some-fallen));
+      a-file = some-lawful;
+      a-malformed-file = some-malformed;
+      an-outside-file = some-outside;
+      a-fallen-file = some-fallen;
     }

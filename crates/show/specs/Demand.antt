@@ -11,7 +11,7 @@ use Rattle.model.specs.Blocks.{blocksOf, lastBlock, count}
 use Rattle.model.specs.Unfolding.{showLinks}
 use Rattle.model.specs.Summaries.{blockLinks}
 use Rattle.model.specs.Answers.{ofWrite, ofCount, ofLocate, ofNumber, ofList, ofRow, ofFewest, ofQuickest}
-use Rattle.model.specs.Ring.{ring, notedRing, opening, paddedFile}
+use Rattle.model.specs.Ring.{ring, notedRing, opening, paddedFile, ringWaits, cutWaits, outsideWaits, twiceWaits}
 use Rattle.model.specs.declared.ReadAnswer.{ReadAnswer}
 use Rattle.model.specs.declared.ReadAnswer.the-variants.{Read}
 use Rattle.model.specs.declared.WriteAnswer.{WriteAnswer}
@@ -40,7 +40,7 @@ use Rattle.demands.specs.Fewest.{IsFewest}
 use Rattle.demands.specs.WorkArea.{IsWorkArea}
 use Rattle.demands.specs.Notes.{IsNote, NoNotes, followedLinks, followedInside, ChainLinks, OldFigure}
 use Rattle.demands.specs.Waits.{LawfulWaits, Malformed, Outside, Fallen}
-use Rattle.demands.specs.Quickest.{Askable, QuickestExact}
+use Rattle.demands.specs.Quickest.{Askable, QuickestExact, HasAnswer}
 use Rattle.demands.specs.Desk.{TableFact, DeskLawful, IsDeskRead, OwnLines, WritesWhole, HasDeskSummaries}
 
 -- Demand 2.
@@ -158,12 +158,14 @@ pub record Demand4 : Type 0 where
 
 -- Document 02, Paper 5: wait files and the quickest way.
 
--- Each answer; there is a question that meets none of refusals 4 to 12, a lawful wait file, and one for each of 15, 16 and 17.
+-- Every question has an answer; each answer; there is a question that meets none of refusals 4 to 12, a lawful wait file, with its lines, and one for each of
+-- 15, 16 and 17: behind lines of 16 and 17 a malformed one, behind one of 17 one of 16, and a label twice.
 pub record Demand5 : Type 0 where
+  pub answers : (xs : List ℕ) (s t : ℕ) (f work : List ℕ) → HasAnswer xs s t f work
   pub exact : (xs : List ℕ) (s t : ℕ) (f work after : List ℕ) (r : QuickestAnswer) → AsksQuickest xs s t f work r after
       → QuickestExact xs s t f work r after
   pub a-question : Askable ring 1 2 (replicate 16384 0)
-  pub a-file : (f : List ℕ) × ((vss : List (List ℕ)) × LawfulWaits f vss)
-  pub a-malformed-file : (f : List ℕ) × ((n : ℕ) × Malformed f n)
-  pub an-outside-file : (f : List ℕ) × ((n : ℕ) × Outside f n)
-  pub a-fallen-file : (f : List ℕ) × ((n : ℕ) × Fallen f n)
+  pub a-file : LawfulWaits ringWaits ((1 ∷ 10 ∷ []) ∷ (2 ∷ 25 ∷ []) ∷ [])
+  pub a-malformed-file : Malformed cutWaits 4
+  pub an-outside-file : Outside outsideWaits 4
+  pub a-fallen-file : Fallen twiceWaits 3
