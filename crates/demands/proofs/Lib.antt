@@ -2,6 +2,7 @@
 pub mod Answers
 pub mod Buffers
 pub mod Outcomes
+pub mod Answered
 -- which rows are a show, and which refusal is given
 pub mod Tests
 pub mod Columns
@@ -66,7 +67,6 @@ pub mod WaitCases
 pub mod Sums
 pub mod Quickest
 pub mod QuickestAsked
-pub mod QuickestAnswered
 pub mod Askable
 -- what is printed
 pub mod NumberTexts

@@ -7,7 +7,7 @@ use mathlib.Core.List.{List, List·Memᴰ}
 use lib.ListN.{length, getD}
 use Rattle.model.specs.Blocks.{Link, blocksOf}
 use Rattle.model.specs.Unfolding.{showLinks}
-use Rattle.model.specs.Asking.{AsksFewest, AsksQuickest}
+use Rattle.model.specs.Asking.{AsksFewest}
 use Rattle.model.specs.declared.FewestAnswer.{FewestAnswer}
 use Rattle.model.specs.declared.FewestAnswer.the-variants.{None as NoSteps}
 use Rattle.model.specs.declared.QuickestAnswer.{QuickestAnswer}
@@ -63,9 +63,3 @@ pub record QuickestExact (xs : List ℕ) (s t : ℕ) (f work : List ℕ) (r : Qu
   pub answered : (((n : ℕ) × (r ≡ Tenths n)) ⊎ (r ≡ None)) ↔ (Askable xs s t work × ((vss : List (List ℕ)) × LawfulWaits f vss))
   pub quickest : Askable xs s t work → (vss : List (List ℕ)) → LawfulWaits f vss → IsQuickest xs vss (showLinks (blocksOf xs)) s t r
   pub leaves : Askable xs s t work → (vss : List (List ℕ)) → LawfulWaits f vss → IsCleared work after
-
--- Every question is answered or refused: `QuickestExact` speaks of answers only.
-pub record HasAnswer (xs : List ℕ) (s t : ℕ) (f work : List ℕ) : Type 0 where
-  pub answer : QuickestAnswer
-  pub after : List ℕ
-  pub asks : AsksQuickest xs s t f work answer after

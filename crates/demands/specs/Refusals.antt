@@ -34,3 +34,10 @@ pub record Refuses (xs : List ℕ) (Short : Type 0) (cues later lent : List ℕ)
   pub place : 10 < a .number → a .number < 15 → a .place ≡ 0
   -- "A refusal leaves all lent memory unchanged."
   pub unchanged : 1 ≤ a .number → after ≡ lent
+
+-- A question, by what it promises of an answer and of what the lent list holds afterwards, has an answer. The other statements speak of answers only, and
+-- would say nothing where there is none.
+pub record HasAnswer {A : Type 0} (Asks : A → List ℕ → Type 0) : Type 0 where
+  pub answer : A
+  pub after : List ℕ
+  pub asks : Asks answer after

@@ -11,6 +11,7 @@ use Rattle.model.specs.declared.WriteAnswer.the-variants.{Written}
 use Rattle.shows.proofs.Accepted.{accepted-show}
 use Rattle.demands.proofs.Acceptance.{accepted-exactly}
 use Rattle.demands.proofs.Words.{words}
+use Rattle.demands.proofs.Answered.{read-answers, desk-answers, write-answers, count-answers, locate-answers, number-answers, out-answers, in-answers, row-answers, fewest-answers, quickest-answers}
 use Rattle.demands.proofs.Ring.{ring-accepted, noted-accepted, ring-stands}
 use Rattle.demands.proofs.Blocks.{are-blocks}
 use Rattle.demands.proofs.Refusals.{write-refuses, count-refuses, locate-refuses, number-refuses, out-refuses, in-refuses, row-refuses, fewest-refuses, quickest-refuses}
@@ -26,7 +27,6 @@ use Rattle.demands.proofs.RowBehind.{is-row-behind}
 use Rattle.demands.proofs.Shortest.{is-fewest, leaves-summaries}
 use Rattle.demands.proofs.Notes.{chain-links, old-figure, ring-unnoted, ring-noted}
 use Rattle.demands.proofs.QuickestAsked.{quickest-exact}
-use Rattle.demands.proofs.QuickestAnswered.{has-answer}
 use Rattle.demands.proofs.Askable.{ring-askable}
 use Rattle.demands.proofs.WaitCases.{some-lawful, some-malformed, some-outside, some-fallen}
 use Rattle.demands.proofs.DeskTable.{table-fact}
@@ -56,6 +56,20 @@ pub demand-2 : Demand2
 demand-2 =
     record {
       words = words;
+      answered =
+          record {
+            read = read-answers;
+            read-desk = desk-answers;
+            write = write-answers;
+            count = count-answers;
+            locate = locate-answers;
+            number = number-answers;
+            list-out = out-answers;
+            list-in = in-answers;
+            row = row-answers;
+            fewest = fewest-answers;
+            quickest = quickest-answers;
+          };
       acceptance =
           record {
             read = is-read;
@@ -118,7 +132,6 @@ demand-4 =
 pub demand-5 : Demand5
 demand-5 =
     record {
-      answers = has-answer;
       exact = quickest-exact;
       a-question = ring-askable;
       a-file = some-lawful;

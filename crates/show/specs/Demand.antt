@@ -27,7 +27,7 @@ use Rattle.model.specs.Asking.{AsksRead, AsksDeskRead, AsksWrite, AsksCount, As
 use Rattle.demands.specs.Acceptance.{nthRow, IsRow, Lawful}
 use Rattle.demands.specs.Words.{Words}
 use Rattle.demands.specs.Blocks.{AreBlocks}
-use Rattle.demands.specs.Refusals.{TooShort, Refuses}
+use Rattle.demands.specs.Refusals.{TooShort, Refuses, HasAnswer}
 use Rattle.shows.specs.Files.{SpellsFile}
 use Rattle.demands.specs.Files.{IsRead, IsWritten, NoRoomFor, Unpadded}
 use Rattle.demands.specs.RoundTrips.{WritesBack, ReadsBack, ReadsAgain}
@@ -40,10 +40,24 @@ use Rattle.demands.specs.Fewest.{IsFewest}
 use Rattle.demands.specs.WorkArea.{IsWorkArea}
 use Rattle.demands.specs.Notes.{IsNote, NoNotes, followedLinks, followedInside, ChainLinks, OldFigure}
 use Rattle.demands.specs.Waits.{LawfulWaits, Malformed, Outside, Fallen}
-use Rattle.demands.specs.Quickest.{Askable, QuickestExact, HasAnswer}
+use Rattle.demands.specs.Quickest.{Askable, QuickestExact}
 use Rattle.demands.specs.Desk.{TableFact, DeskLawful, IsDeskRead, OwnLines, WritesWhole, HasDeskSummaries}
 
 -- Demand 2.
+
+-- Every question has an answer, which all else here speaks of.
+pub record Answered : Type 0 where
+  pub read : (file out : List ℕ) → HasAnswer (AsksRead file out)
+  pub read-desk : (file out : List ℕ) → HasAnswer (AsksDeskRead file out)
+  pub write : (xs out : List ℕ) → HasAnswer (AsksWrite xs out)
+  pub count : (xs : List ℕ) → HasAnswer (λ (r : CountAnswer) (after : List ℕ). AsksCount xs r)
+  pub locate : (xs : List ℕ) (n : ℕ) (lent : List ℕ) → HasAnswer (AsksLocate xs n lent)
+  pub number : (xs path : List ℕ) (c : ℕ) → HasAnswer (λ (r : NumberAnswer) (after : List ℕ). AsksNumber xs path c r)
+  pub list-out : (xs : List ℕ) (v n : ℕ) (page : List ℕ) → HasAnswer (AsksOut xs v n page)
+  pub list-in : (xs : List ℕ) (v n : ℕ) (page : List ℕ) → HasAnswer (AsksIn xs v n page)
+  pub row : (xs : List ℕ) (s t : ℕ) (lent : List ℕ) → HasAnswer (AsksRow xs s t lent)
+  pub fewest : (xs : List ℕ) (s t : ℕ) (work : List ℕ) → HasAnswer (AsksFewest xs s t work)
+  pub quickest : (xs : List ℕ) (s t : ℕ) (f work : List ℕ) → HasAnswer (AsksQuickest xs s t f work)
 
 -- Acceptance is exact: reading answers exactly if every sentence of the rules is kept and the output is long enough, and each of its refusals is that of
 -- the first sentence that is broken, with its place; writing answers exactly if the rows keep the rules and their file fits.
@@ -110,6 +124,7 @@ pub record RightAgainstUnfolding (xs : List ℕ) : Type 0 where
 -- All of it; the words mean what they say, there is a show, a padded file of one, and a row behind a follow-on.
 pub record Demand2 : Type 1 where
   pub words : Words
+  pub answered : Answered
   pub acceptance : AcceptanceExact
   pub refusals : RefusalsExact
   pub a-show : Lawful ring
@@ -158,10 +173,9 @@ pub record Demand4 : Type 0 where
 
 -- Document 02, Paper 5: wait files and the quickest way.
 
--- Every question has an answer; each answer; there is a question that meets none of refusals 4 to 12, a lawful wait file, with its lines, and one for each of
+-- Each answer; there is a question that meets none of refusals 4 to 12, a lawful wait file, with its lines, and one for each of
 -- 15, 16 and 17: behind lines of 16 and 17 a malformed one, behind one of 17 one of 16, and a label twice.
 pub record Demand5 : Type 0 where
-  pub answers : (xs : List ℕ) (s t : ℕ) (f work : List ℕ) → HasAnswer xs s t f work
   pub exact : (xs : List ℕ) (s t : ℕ) (f work after : List ℕ) (r : QuickestAnswer) → AsksQuickest xs s t f work r after
       → QuickestExact xs s t f work r after
   pub a-question : Askable ring 1 2 (replicate 16384 0)
