@@ -202,24 +202,70 @@ fn relax_uses(xs: &[u32], t: &[u32; blocks::INDEX], work: &[u64], k: usize, d: &
     changed
 }
 
-// All edges of block k, each once.
+// The same from the last use to the first.
+fn relax_uses_back(
+    xs: &[u32],
+    t: &[u32; blocks::INDEX],
+    work: &[u64],
+    k: usize,
+    d: &mut [u64],
+) -> bool
+    requires { ⌜ MaySettle (now xs) (now t) k (now work) (now d) ⌝ }
+    ensures { λ c. ⌜ Round (UseEdges (blocksOf (now (xs .entry))) (now (work .entry)) (blockAt (blocksOf (now (xs .entry))) k .uses)) (now
+        (d .entry)) c (now (d .exit)) ⌝ }
+{
+    let rows = blocks::use_rows(xs, t, k);
+    let mut changed = false;
+    let mut r = rows.end;
+    while rows.first < r {
+        r -= 1;
+        let b = blocks::used(xs, r);
+        let m = blocks::joins(xs, t, b);
+        let c = relax_use(xs, work, r, SUMMARY_SIZE * b, m, d);
+        changed = either(changed, c);
+    }
+    changed
+}
+
+// The same from the last use to the first if `back` says so, else from the first to the last.
+fn relax_uses_in(
+    xs: &[u32],
+    t: &[u32; blocks::INDEX],
+    work: &[u64],
+    k: usize,
+    back: bool,
+    d: &mut [u64],
+) -> bool
+    requires { ⌜ MaySettle (now xs) (now t) k (now work) (now d) ⌝ }
+    ensures { λ c. ⌜ Round (UseEdges (blocksOf (now (xs .entry))) (now (work .entry)) (blockAt (blocksOf (now (xs .entry))) k .uses)) (now
+        (d .entry)) c (now (d .exit)) ⌝ }
+{
+    if back {
+        return relax_uses_back(xs, t, work, k, d);
+    }
+    relax_uses(xs, t, work, k, d)
+}
+
+// All edges of block k, each once; `back` is about its uses.
 fn relax_block(
     xs: &[u32],
     t: &[u32; blocks::INDEX],
     waits: &[u32],
     work: &[u64],
     k: usize,
+    back: bool,
     d: &mut [u64],
 ) -> bool
     requires { ⌜ MaySettle (now xs) (now t) k (now work) (now d) × AreWaits (now waits) ⌝ }
     ensures { λ c. ⌜ Round (BlockEdge (priced (now (waits .entry))) (blocksOf (now (xs .entry))) (now (work .entry)) k) (now (d .entry)) c (now (d .exit)) ⌝ }
 {
     let a = relax_links(xs, t, waits, k, d);
-    let c = relax_uses(xs, t, work, k, d);
+    let c = relax_uses_in(xs, t, work, k, back, d);
     either(a, c)
 }
 
-// Sums of block k until a whole round changes nothing.
+// Sums of block k until a whole round changes nothing. Every second round goes through the uses from
+// the last to the first: in one direction only, uses in a bad order would cost a round for each cue.
 pub fn settle(
     xs: &[u32],
     t: &[u32; blocks::INDEX],
@@ -231,11 +277,13 @@ pub fn settle(
     requires { ⌜ MaySettle (now xs) (now t) k (now work) (now d) × AreWaits (now waits) ⌝ }
     ensures { λ _. ⌜ SettledOver (BlockEdge (priced (now (waits .entry))) (blocksOf (now (xs .entry))) (now (work .entry)) k) (now (d .entry)) (now (d .exit)) ⌝ }
 {
+    let mut back = false;
     loop {
-        let more = relax_block(xs, t, waits, work, k, d);
+        let more = relax_block(xs, t, waits, work, k, back, d);
         if more {} else {
             return;
         }
+        back = !back;
     }
 }
 

@@ -21,7 +21,7 @@ use Rattle.blocks.proofs.Loaded.{mem-linksFrom, mem-usesFrom, linksFrom-mem, us
 use Rattle.searches.specs.Rounds.{orb, Edges, One, Still, Round, quiet}
 use Rattle.searches.specs.Starts.{Meets, estimatesSize}
 use Rattle.searches.specs.Edges.{Span, numbers, UseEdge, Mesh, Between, LinkEdge, LinkEnds, UseEdges, BlockEdge}
-use Rattle.searches.proofs.Rounds.{lowered-wide, round-then, span-on, round-loops, round-same}
+use Rattle.searches.proofs.Rounds.{lowered-wide, round-then, span-on, span-back, round-loops, round-same}
 
 -- One use, by the row r that names its cues and the weights from place q on.
 module _ (xs work : List ℕ) (r q : ℕ) where
@@ -237,6 +237,10 @@ module _ (xs : List ℕ) where
     pub uses-on : (a r : ℕ) {d e f : List ℕ} {s c t : Bool} → a ≤ r → Round (UseSpan a r) d s e
         → Round (UseEdge (blocksOf xs) work (useAt xs (blocksOf xs) r)) e c f → t ≡ orb s c → Round (UseSpan a (r + 1)) d t f
     uses-on a r h s z o = span-on lowered-wide (λ r. UseEdge (blocksOf xs) work (useAt xs (blocksOf xs) r)) a r h s z o
+
+    pub uses-back : (r p z : ℕ) {d e f : List ℕ} {s c t : Bool} → p ≡ r + 1 → p ≤ z → Round (UseSpan p z) d s e
+        → Round (UseEdge (blocksOf xs) work (useAt xs (blocksOf xs) r)) e c f → t ≡ orb s c → Round (UseSpan r z) d t f
+    uses-back r p z e h s x o = span-back lowered-wide (λ r. UseEdge (blocksOf xs) work (useAt xs (blocksOf xs) r)) r p z e h s x o
 
     pub uses-done : {t : List ℕ} (k : ℕ) {a z : ℕ} {d e : List ℕ} {c : Bool} → UseRows xs t k a z → Round (UseSpan a z) d c e
         → Round (UseEdges (blocksOf xs) work (blockAt (blocksOf xs) k .uses)) d c e

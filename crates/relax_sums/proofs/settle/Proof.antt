@@ -12,10 +12,10 @@ use Rattle.relax_sums.proofs.settle.Statement.{statement}
 use Rattle.relax_sums.proofs.settle.Tie as tie
 
 abbrev Inv-loop : tie.InvT-loop
-Inv-loop xs t waits work k d₀ d = (length d ≡ length d₀) × Runs (BlockEdge (priced waits) (blocksOf xs) work k) d₀ d
+Inv-loop xs t waits work k d₀ back₀ d back = (length d ≡ length d₀) × Runs (BlockEdge (priced waits) (blocksOf xs) work k) d₀ d
 
 abbrev μ-loop : tie.MeasureT-loop
-μ-loop xs t waits work k d₀ d = sum d
+μ-loop xs t waits work k d₀ back₀ d back = sum d
 
 loop-holds : tie.Need-loop-holds Inv-loop μ-loop
 loop-holds c = (search needs, runs-begin _)
@@ -37,4 +37,4 @@ returns c = search (round-last, needs)
 pub settle-spec : {M : Type 1} → statement M
 settle-spec =
     tie.close
-    (tie.spec Inv-loop μ-loop loop-holds relax-block-requires loop-less loop-again (λ c. search needs) returns)
+    (tie.spec Inv-loop μ-loop loop-holds relax-block-requires (λ c. search needs) returns loop-less loop-again)
