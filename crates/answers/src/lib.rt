@@ -285,11 +285,11 @@ fn quickest_with(
     ensures { λ r. ⌜ outcome (ofQuickest r) (now (work .exit))
         ≡ quickestUnder (WaitTable (now (waits .entry))) (blocksOf (now (rows .entry))) s t (now (work .entry)) ⌝ }
 {
-    let mut up = [0u32; MAX_DEPTH];
-    let from = paths::find(rows, table, s, &mut up);
-    let mut down = [0u32; MAX_DEPTH];
-    let to = paths::find(rows, table, t, &mut down);
-    let sum = quickest::quickest(rows, table, waits, from, &up, to, &down, work);
+    let mut way_up = [0u32; MAX_DEPTH];
+    let from = paths::find(rows, table, s, &mut way_up);
+    let mut way_down = [0u32; MAX_DEPTH];
+    let to = paths::find(rows, table, t, &mut way_down);
+    let sum = quickest::quickest(rows, table, waits, from, &way_up, to, &way_down, work);
     if sum < NO_SUM {
         return QuickestAnswer::Tenths(sum);
     }
