@@ -1,14 +1,14 @@
 -- The answers of the quickest question.
 use Prim.Native.Nat.{ℕ, _≤_, _<_}
 use native.Mathlib.Omega.{arith}
-use mathlib.Core.Path.{_≡_, sym, _∙_, ap}
+use mathlib.Core.Path.{_≡_, sym, ap}
 use mathlib.Core.List.{List}
 use Rattle.model.specs.Blocks.{Block, count}
 use Rattle.model.specs.Unfolding.{showLinks}
 use Rattle.model.specs.Verdicts.{refusal}
 use Rattle.model.specs.Waits.{WaitFile, WaitTable, Unfit, waitFile}
 use Rattle.model.specs.Quickest.{quickest}
-use Rattle.model.specs.Answers.{returned, ofQuickest}
+use Rattle.model.specs.Answers.{ofQuickest}
 use Rattle.model.specs.Questions.{Outcome, outcome, answer, refuse, sumValues, cleared, quickestUnder}
 use Rattle.model.specs.declared.QuickestAnswer.the-variants.{Tenths, None, Refused}
 use Rattle.distances.specs.Tells.{told}

@@ -75,7 +75,7 @@ one-line (pair {vss = vss} p q ps) l w v up i j =
     go below high (inr a) (inr b) = below a b
 
 -- A label of a lawful file waits in one way only.
-pub one-wait : (f : List ℕ) (vss : List (List ℕ)) → LawfulWaits f vss → (label u v : ℕ) → Waits vss label u → Waits vss label v → u ≡ v
+one-wait : (f : List ℕ) (vss : List (List ℕ)) → LawfulWaits f vss → (label u v : ℕ) → Waits vss label u → Waits vss label v → u ≡ v
 one-wait f vss l label u v p q = go p q
   where
     go : {u v : ℕ} → Waits vss label u → Waits vss label v → u ≡ v
@@ -97,7 +97,7 @@ table-lines f ws e = go (wait-file f (WaitTable ws) .0 e)
     go (fallen n vss q s none p) = absurd (fit 17 n ws q)
     go (lawful vss q l) = (vss, l, cc)
 
-pub accepted-lawful : (f ws : List ℕ) (vss : List (List ℕ)) → waitFile f ≡ WaitTable ws → Spells f vss → LawfulWaits f vss
+accepted-lawful : (f ws : List ℕ) (vss : List (List ℕ)) → waitFile f ≡ WaitTable ws → Spells f vss → LawfulWaits f vss
 accepted-lawful f ws vss e s =
     let (wss, l, q) = table-lines f ws e in
     let u : wss ≡ vss = one-spelling f wss vss (l .spells) s in

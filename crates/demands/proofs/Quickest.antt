@@ -126,7 +126,7 @@ module _ (xs : List ℕ) (v : verdict xs ≡ Accepted) (s t : ℕ) (low : 1 ≤ 
         found = λ m c. let (n, d) = light .found m (lasts-walk a c) in (n, q ∙ ap answerOf d);
         chain = λ n e. lasts n (light .has n (tenths-far far n (sym q ∙ e)));
         least = λ n m e c. light .least n m (tenths-far far n (sym q ∙ e)) (lasts-walk a c);
-        wide = λ n e. below n (tenths-far far n (sym q ∙ e));
+        in-64-bits = λ n e. below n (tenths-far far n (sym q ∙ e));
         stays = same r q;
         none = (
           λ e m c. let (n, d) = light .found m (lasts-walk a c) in far-not (sym d ∙ none-unreachable far (sym q ∙ e)),

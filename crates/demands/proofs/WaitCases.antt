@@ -1,4 +1,4 @@
--- Wait files at the edges of what is lawful, computed: the largest label with the largest wait, and a file just past each limit. By these the statements of
+-- Wait files at the at-the-limits of what is lawful, computed: the largest label with the largest wait, and a file just past each limit. By these the statements of
 -- wait files have something to speak of on either side.
 use Prim.Native.Nat.{ℕ}
 use mathlib.Core.Path.{_≡_, refl}
@@ -12,7 +12,7 @@ use Rattle.model.specs.Tables.{Lines, lineThen, tableLines, tableAll, tableRead
 use Rattle.model.specs.Waits.{WaitTable, Unfit, isOutside, firstOutside, firstNotAbove, waitsWith, noWaits, waitsOr, waitsIn, waitFile}
 use Rattle.model.specs.Waits as model
 use Rattle.model.specs.Ring.{ringWaits, cutWaits, outsideWaits, twiceWaits}
-use Rattle.demands.specs.Waits.{waitNames, LawfulWaits, Malformed, Outside, Fallen}
+use Rattle.demands.specs.Waits.{waitNames, LawfulWaits, Malformed, Outside, NotRising}
 use Rattle.demands.proofs.WaitTexts.{lines-are, one-spelling}
 use Rattle.demands.proofs.WaitFiles.{reads-waits}
 
@@ -20,7 +20,7 @@ use Rattle.demands.proofs.WaitFiles.{reads-waits}
 abbrev largest : List ℕ
 largest = waitNames ++ (50 ∷ 53 ∷ 52 ∷ 44 ∷ 54 ∷ 48 ∷ 48 ∷ 48 ∷ 10 ∷ [])
 
-pub record Edges : Type 0 where
+pub record AtTheLimits : Type 0 where
   pub largest-taken : waitFile largest ≡ WaitTable (set noWaits 254 6000)
   pub padded-taken : waitFile (waitNames ++ (50 ∷ 53 ∷ 52 ∷ 44 ∷ 48 ∷ 54 ∷ 48 ∷ 48 ∷ 48 ∷ 10 ∷ [])) ≡ WaitTable (set noWaits 254 6000)
   pub label-255 : waitFile (waitNames ++ (50 ∷ 53 ∷ 53 ∷ 44 ∷ 48 ∷ 10 ∷ [])) ≡ Unfit 16 2
@@ -32,9 +32,9 @@ pub record Edges : Type 0 where
   pub other-names : waitFile (108 ∷ waitNames) ≡ Unfit 15 1
   pub nothing : waitFile [] ≡ Unfit 15 1
 
-pub edges : Edges
+pub at-the-limits : AtTheLimits
 unfolding ifLt ifEq ifTrue isDigit run afterRun decimal isValue valueThen endedBy valuesOf intoFirst linesOf same lineThen tableLines tableAll tableRead model.waitNames model.waitEnds isOutside firstOutside firstNotAbove waitsWith noWaits waitsOr waitsIn waitFile
-edges = record {
+at-the-limits = record {
   largest-taken = refl;
   padded-taken = refl;
   label-255 = refl;
@@ -74,5 +74,5 @@ some-malformed = reads-waits _ .malformed 4 .0 (files .cut)
 pub some-outside : Outside outsideWaits 4
 some-outside = reads-waits _ .out-of-range 4 .0 (files .outside)
 
-pub some-fallen : Fallen twiceWaits 3
+pub some-fallen : NotRising twiceWaits 3
 some-fallen = reads-waits _ .not-above 3 .0 (files .twice)

@@ -6,7 +6,7 @@ use mathlib.Core.List.{List}
 use native.Mathlib.Omega.{arith}
 use lib.ListN.{getD}
 use Rattle.model.specs.Waits.{WaitFile, WaitTable, Unfit, waitsWith, noWaits, waitFile}
-use Rattle.demands.specs.Waits.{Spells, LawfulWaits, Waits, Malformed, Outside, Fallen}
+use Rattle.demands.specs.Waits.{Spells, LawfulWaits, Waits, Malformed, Outside, NotRising}
 use Rattle.demands.proofs.Waits.{Outcome, broken, outside, fallen, lawful, wait-file}
 use Rattle.demands.proofs.LabelWaits.{fit, table-lines, table-waits, waits-are}
 
@@ -15,7 +15,7 @@ use Rattle.demands.proofs.LabelWaits.{fit, table-lines, table-waits, wa
 pub record ReadsWaits (f : List ℕ) (w : WaitFile) : Type 0 where
   pub malformed : (n : ℕ) → (w ≡ Unfit 15 n) ↔ Malformed f n
   pub out-of-range : (n : ℕ) → (w ≡ Unfit 16 n) ↔ Outside f n
-  pub not-above : (n : ℕ) → (w ≡ Unfit 17 n) ↔ Fallen f n
+  pub not-above : (n : ℕ) → (w ≡ Unfit 17 n) ↔ NotRising f n
   pub no-other : (number n : ℕ) → w ≡ Unfit number n → (number ≡ 15) ⊎ (number ≡ 16) ⊎ (number ≡ 17)
   pub accepted : ((ws : List ℕ) × (w ≡ WaitTable ws)) ↔ ((vss : List (List ℕ)) × LawfulWaits f vss)
   pub waits : (ws : List ℕ) (vss : List (List ℕ)) → w ≡ WaitTable ws → Spells f vss → (label wait : ℕ) → 1 ≤ label → label ≤ 254
@@ -46,7 +46,7 @@ reads-waits f = record {
     ranged n (fallen m vss q s none p) = let z : _≡_ {A = ℕ} 16 17 = cc in absurd (omega arith)
     ranged n (lawful vss q l) = absurd (fit 16 n _ (sym q))
 
-    low : (n : ℕ) → Outcome f (Unfit 17 n) → Fallen f n
+    low : (n : ℕ) → Outcome f (Unfit 17 n) → NotRising f n
     low n (broken m q b) = let z : _≡_ {A = ℕ} 17 15 = cc in absurd (omega arith)
     low n (outside m vss q s p) = let z : _≡_ {A = ℕ} 17 16 = cc in absurd (omega arith)
     low n (fallen m vss q s none p) = let u : m ≡ n = cc in (vss, s, none, rw u at p)

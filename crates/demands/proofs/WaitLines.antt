@@ -11,7 +11,7 @@ use Rattle.model.specs.Waits.{isOutside, firstOutside, firstNotAbove}
 use Rattle.basics.proofs.Choices.{lt-then, lt-else, true-then, true-else}
 use Rattle.shows.specs.Files.{value-then, no-value}
 use Rattle.shows.specs.SmallFiles.{SpellsTable, no-line, line-then, LineIs, this, next, FirstOf}
-use Rattle.demands.specs.Waits.{waitEnds, OutsideRange, OutOfRange, NotAbove}
+use Rattle.demands.specs.Waits.{waitEnds, OutsideRange, OutsideAt, NotAbove}
 
 -- Lines of two values each.
 pub data Pairs : List (List ℕ) → Type 0 where
@@ -86,11 +86,11 @@ out-says label wait = go (decLt label 1) (decLt 254 label) (decLt 6000 wait)
         none (inr (inl e)) = omega arith
         none (inr (inr e)) = omega arith
 
-out-cases : (a b : ℕ) (vss : List (List ℕ)) (k : ℕ) → OutOfRange ((a ∷ b ∷ []) ∷ vss) k
-    → ((k ≡ 2) × OutsideRange a b) ⊎ ((j : ℕ) × (k ≡ suc j) × OutOfRange vss j)
+out-cases : (a b : ℕ) (vss : List (List ℕ)) (k : ℕ) → OutsideAt ((a ∷ b ∷ []) ∷ vss) k
+    → ((k ≡ 2) × OutsideRange a b) ⊎ ((j : ℕ) × (k ≡ suc j) × OutsideAt vss j)
 out-cases a b vss k (l, w, i, y) = at (line-cases i)
   where
-    at : Behind (a ∷ b ∷ []) vss k (l ∷ w ∷ []) → ((k ≡ 2) × OutsideRange a b) ⊎ ((j : ℕ) × (k ≡ suc j) × OutOfRange vss j)
+    at : Behind (a ∷ b ∷ []) vss k (l ∷ w ∷ []) → ((k ≡ 2) × OutsideRange a b) ⊎ ((j : ℕ) × (k ≡ suc j) × OutsideAt vss j)
     at (inl (e, q)) =
         let u : l ≡ a = cc in
         let v : w ≡ b = cc in
@@ -98,7 +98,7 @@ out-cases a b vss k (l, w, i, y) = at (line-cases i)
         inl (e, rw (u, v) at o)
     at (inr (j, e, p)) = inr (j, e, (l, w, p, y))
 
-pub out-found : {vss : List (List ℕ)} → Pairs vss → (n : ℕ) → Found (OutOfRange vss) n (firstOutside (n + 2) vss)
+pub out-found : {vss : List (List ℕ)} → Pairs vss → (n : ℕ) → Found (OutsideAt vss) n (firstOutside (n + 2) vss)
 unfolding firstOutside
 out-found no-pair n = inl (refl, λ k p. let (l, w, i, x) = p in omega (arith, line-two i))
 out-found (pair {vss = vss} a b ps) n = go (out-found ps (suc n)) (out-says a b)
@@ -106,9 +106,9 @@ out-found (pair {vss = vss} a b ps) n = go (out-found ps (suc n)) (out-says a b)
     later : suc (n + 2) ≡ suc n + 2
     later = omega arith
 
-    go : Found (OutOfRange vss) (suc n) (firstOutside (suc n + 2) vss)
+    go : Found (OutsideAt vss) (suc n) (firstOutside (suc n + 2) vss)
         → ((isOutside a b ≡ true) × OutsideRange a b) ⊎ ((isOutside a b ≡ false) × (OutsideRange a b → ⊥))
-        → Found (OutOfRange ((a ∷ b ∷ []) ∷ vss)) n (firstOutside (n + 2) ((a ∷ b ∷ []) ∷ vss))
+        → Found (OutsideAt ((a ∷ b ∷ []) ∷ vss)) n (firstOutside (n + 2) ((a ∷ b ∷ []) ∷ vss))
     go below (inl (t, x)) =
         found-here _ _ _ (out-cases a b vss) n _ (λ j p. let (l, w, i, y) = p in line-two i .0) (a, b, this, x) (true-then _ _ _ t)
     go below (inr (t, x)) =
@@ -156,6 +156,6 @@ low-found (pair {vss = vss} a c ps) b n = go (low-found ps a (suc n)) (decLt b a
     go below (yes h) = found-behind _ _ _ (low-cases b a c vss) n _ (low-later b a c vss) (λ k. omega arith) (rw (lt-then b a _ _ h, later) below)
 
 -- Where every label is 1 at least, nothing need stand before the first.
-pub low-is : (vss : List (List ℕ)) → ((k : ℕ) → OutOfRange vss k → ⊥) → (k : ℕ) → LowFrom 0 vss k → NotAbove vss k
+pub low-is : (vss : List (List ℕ)) → ((k : ℕ) → OutsideAt vss k → ⊥) → (k : ℕ) → LowFrom 0 vss k → NotAbove vss k
 low-is vss none k (inl (l, w, e, i, h)) = absurd (none k (l, w, i, inl (omega arith)))
 low-is vss none k (inr p) = p

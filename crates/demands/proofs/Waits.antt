@@ -10,15 +10,15 @@ use Rattle.model.specs.Waits as model
 use Rattle.model.specs.Waits.{WaitFile, WaitTable, Unfit, firstOutside, firstNotAbove, waitsWith, noWaits, waitsOr, waitsIn, waitFile}
 use Rattle.basics.proofs.Choices.{eq-then, eq-else}
 use Rattle.shows.specs.SmallFiles.{BreaksAt, FirstOf}
-use Rattle.demands.specs.Waits.{waitNames, waitEnds, Spells, OutOfRange, NotAbove, LawfulWaits}
+use Rattle.demands.specs.Waits.{waitNames, waitEnds, Spells, OutsideAt, NotAbove, LawfulWaits}
 use Rattle.demands.proofs.WaitTexts.{lines-are, breaks-are}
 use Rattle.demands.proofs.WaitLines.{spelled-pairs, line-two, first-one, Found, out-found, LowFrom, low-two, low-found, low-is}
 
 -- What a wait file comes to, sentence by sentence.
 pub data Outcome (f : List ℕ) (w : WaitFile) : Type 0 where
   broken : (n : ℕ) → w ≡ Unfit 15 n → BreaksAt waitNames waitEnds f n → Outcome f w
-  outside : (n : ℕ) (vss : List (List ℕ)) → w ≡ Unfit 16 n → Spells f vss → FirstOf (OutOfRange vss) n → Outcome f w
-  fallen : (n : ℕ) (vss : List (List ℕ)) → w ≡ Unfit 17 n → Spells f vss → ((m : ℕ) → OutOfRange vss m → ⊥) → FirstOf (NotAbove vss) n → Outcome f w
+  outside : (n : ℕ) (vss : List (List ℕ)) → w ≡ Unfit 16 n → Spells f vss → FirstOf (OutsideAt vss) n → Outcome f w
+  fallen : (n : ℕ) (vss : List (List ℕ)) → w ≡ Unfit 17 n → Spells f vss → ((m : ℕ) → OutsideAt vss m → ⊥) → FirstOf (NotAbove vss) n → Outcome f w
   lawful : (vss : List (List ℕ)) → w ≡ WaitTable (waitsWith noWaits vss) → LawfulWaits f vss → Outcome f w
 
 -- What is made of lines.
@@ -27,17 +27,17 @@ module _ (f : List ℕ) (vss : List (List ℕ)) (s : Spells f vss) where
   unfolding waitFile waitsIn
   made = rw (lines-are f vss .1 s)
 
-  outs : Found (OutOfRange vss) 0 (firstOutside 2 vss)
+  outs : Found (OutsideAt vss) 0 (firstOutside 2 vss)
   outs = out-found (spelled-pairs (s .values)) 0
 
   lows : Found (LowFrom 0 vss) 0 (firstNotAbove 0 2 vss)
   lows = low-found (spelled-pairs (s .values)) 0 0
 
-  made-outside : (n : ℕ) → FirstOf (OutOfRange vss) n → waitFile f ≡ Unfit 16 n
+  made-outside : (n : ℕ) → FirstOf (OutsideAt vss) n → waitFile f ≡ Unfit 16 n
   unfolding waitsOr
   made-outside n p = go outs
     where
-      go : Found (OutOfRange vss) 0 (firstOutside 2 vss) → waitFile f ≡ Unfit 16 n
+      go : Found (OutsideAt vss) 0 (firstOutside 2 vss) → waitFile f ≡ Unfit 16 n
       go (inl (z, none)) = absurd (none n (p .bad))
       go (inr (m, e, q)) =
           let g : m ≡ n = first-one _ m n q p in
@@ -45,11 +45,11 @@ module _ (f : List ℕ) (vss : List (List ℕ)) (s : Spells f vss) where
           let k : firstOutside 2 vss ≡ n = omega arith in
           made ∙ eq-else _ _ _ _ (λ u. omega (arith, line-two i)) ∙ ap (Unfit 16) k
 
-  module _ (none : (m : ℕ) → OutOfRange vss m → ⊥) where
+  module _ (none : (m : ℕ) → OutsideAt vss m → ⊥) where
     no-out : firstOutside 2 vss ≡ 0
     no-out = go outs
       where
-        go : Found (OutOfRange vss) 0 (firstOutside 2 vss) → firstOutside 2 vss ≡ 0
+        go : Found (OutsideAt vss) 0 (firstOutside 2 vss) → firstOutside 2 vss ≡ 0
         go (inl (z, n)) = z
         go (inr (m, e, q)) = absurd (none m (q .bad))
 
@@ -79,7 +79,7 @@ module _ (f : List ℕ) (vss : List (List ℕ)) (s : Spells f vss) where
   lines-outcome : Outcome f (waitFile f)
   lines-outcome = go outs lows
     where
-      go : Found (OutOfRange vss) 0 (firstOutside 2 vss) → Found (LowFrom 0 vss) 0 (firstNotAbove 0 2 vss) → Outcome f (waitFile f)
+      go : Found (OutsideAt vss) 0 (firstOutside 2 vss) → Found (LowFrom 0 vss) 0 (firstNotAbove 0 2 vss) → Outcome f (waitFile f)
       go (inr (m, e, q)) l = outside m vss (made-outside m q) s q
       go (inl (z, none)) (inl (y, nil)) =
           lawful vss (made-lawful none (λ m x. nil m (inr x))) (record { spells = s; in-range = none; rising = λ m x. nil m (inr x) })

@@ -14,7 +14,7 @@ use Rattle.model.specs.declared.QuickestAnswer.{QuickestAnswer}
 use Rattle.model.specs.declared.QuickestAnswer.the-variants.{Tenths, None, Refused}
 use Rattle.demands.specs.Acceptance.{Lawful}
 use Rattle.demands.specs.Refusals.{NoCue}
-use Rattle.demands.specs.Waits.{LawfulWaits, Waits, Malformed, Outside, Fallen}
+use Rattle.demands.specs.Waits.{LawfulWaits, Waits, Malformed, Outside, NotRising}
 
 -- Lasts vss E t s sum is a chain from s to t of the links E, with the sum of its waits: every link of the list waits as its label does, however often it is
 -- taken. vss are the lines of the wait file. "a chain has only links with labels 1 to 254" (Paper 3).
@@ -38,7 +38,7 @@ pub record IsQuickest (xs : List ℕ) (vss : List (List ℕ)) (E : List Link) (s
   -- No such chain has a smaller sum.
   pub least : (n sum : ℕ) → r ≡ Tenths n → Lasts vss E t s sum → n ≤ sum
   -- "64 bits wide, 0 where s is t."
-  pub wide : (n : ℕ) → r ≡ Tenths n → n < 18446744073709551616
+  pub in-64-bits : (n : ℕ) → r ≡ Tenths n → n < 18446744073709551616
   pub stays : s ≡ t → r ≡ Tenths 0
   -- Otherwise none: "It is none exactly where the fewest answer is none."
   pub none : (r ≡ None) ↔ ((sum : ℕ) → Lasts vss E t s sum → ⊥)
@@ -58,7 +58,7 @@ pub record QuickestExact (xs : List ℕ) (s t : ℕ) (f work : List ℕ) (r : Qu
   -- "then 16 with the first line whose label or wait is outside its range",
   pub out-of-range : (n : ℕ) → (r ≡ Refused 16 n) ↔ (Askable xs s t work × Outside f n)
   -- "then 17 with the first line whose label isn't above the one before, all after 12".
-  pub not-above : (n : ℕ) → (r ≡ Refused 17 n) ↔ (Askable xs s t work × Fallen f n)
+  pub not-above : (n : ℕ) → (r ≡ Refused 17 n) ↔ (Askable xs s t work × NotRising f n)
   -- It is answered exactly if nothing is refused, and then by the smallest sum.
   pub answered : (((n : ℕ) × (r ≡ Tenths n)) ⊎ (r ≡ None)) ↔ (Askable xs s t work × ((vss : List (List ℕ)) × LawfulWaits f vss))
   pub quickest : Askable xs s t work → (vss : List (List ℕ)) → LawfulWaits f vss → IsQuickest xs vss (showLinks (blocksOf xs)) s t r

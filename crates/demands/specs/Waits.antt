@@ -20,8 +20,8 @@ Spells = SpellsSmall waitNames waitEnds
 abbrev pub OutsideRange : ℕ → ℕ → Type 0
 OutsideRange label wait = (label ≡ 0) ⊎ (254 < label) ⊎ (6000 < wait)
 
-abbrev pub OutOfRange : List (List ℕ) → ℕ → Type 0
-OutOfRange vss n = (label wait : ℕ) × LineIs vss n (label ∷ wait ∷ []) × OutsideRange label wait
+abbrev pub OutsideAt : List (List ℕ) → ℕ → Type 0
+OutsideAt vss n = (label wait : ℕ) × LineIs vss n (label ∷ wait ∷ []) × OutsideRange label wait
 
 -- "Labels rise from line to line." That of line n is not "above the one before".
 abbrev pub NotAbove : List (List ℕ) → ℕ → Type 0
@@ -31,7 +31,7 @@ NotAbove vss n =
 -- Every sentence holds of every line.
 pub record LawfulWaits (f : List ℕ) (vss : List (List ℕ)) : Type 0 where
   pub spells : Spells f vss
-  pub in-range : (n : ℕ) → OutOfRange vss n → ⊥
+  pub in-range : (n : ℕ) → OutsideAt vss n → ⊥
   pub rising : (n : ℕ) → NotAbove vss n → ⊥
 
 -- How long a label waits: as its line says, and "A label without a line waits 0."
@@ -45,8 +45,8 @@ Malformed = BreaksAt waitNames waitEnds
 
 -- "then 16 with the first line whose label or wait is outside its range".
 abbrev pub Outside : List ℕ → ℕ → Type 0
-Outside f n = (vss : List (List ℕ)) × Spells f vss × FirstOf (OutOfRange vss) n
+Outside f n = (vss : List (List ℕ)) × Spells f vss × FirstOf (OutsideAt vss) n
 
 -- "then 17 with the first line whose label isn't above the one before".
-abbrev pub Fallen : List ℕ → ℕ → Type 0
-Fallen f n = (vss : List (List ℕ)) × Spells f vss × ((m : ℕ) → OutOfRange vss m → ⊥) × FirstOf (NotAbove vss) n
+abbrev pub NotRising : List ℕ → ℕ → Type 0
+NotRising f n = (vss : List (List ℕ)) × Spells f vss × ((m : ℕ) → OutsideAt vss m → ⊥) × FirstOf (NotAbove vss) n

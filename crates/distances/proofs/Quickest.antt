@@ -11,7 +11,7 @@ use Rattle.model.specs.Choice.{ifLt, ifEq}
 use Rattle.model.specs.Lists.{range}
 use Rattle.model.specs.Blocks.{Link}
 use Rattle.model.specs.Chains.{Distance, Far, Unreachable, followed, fewest}
-use Rattle.model.specs.Quickest.{quicker, later, quickestOver, quickestWithin, quickest}
+use Rattle.model.specs.Quickest.{quicker, withWait, quickestOver, quickestWithin, quickest}
 use Rattle.basics.proofs.Choices.{lt-then, lt-else, eq-then, eq-else}
 use Rattle.basics.proofs.Members.{range-mem, range-length}
 use Rattle.shows.proofs.Followed.{followed-is, followed-has}
@@ -60,10 +60,10 @@ quicker-right Unreachable b y h = h
 quicker-right (Far n) Unreachable y (x, e, h) = absurd (far-not (sym e))
 quicker-right (Far n) (Far m) y (x, e, h) = quicker-both n m y (inr (omega (arith, far-same e)))
 
-later-far : (w x : ℕ) (d : Distance) → later w d ≡ Far x → (y : ℕ) × (d ≡ Far y) × (x ≡ w + y)
-unfolding later
-later-far w x Unreachable e = absurd (far-not (sym e))
-later-far w x (Far y) e = (y, refl, sym (far-same e))
+with-wait-far : (w x : ℕ) (d : Distance) → withWait w d ≡ Far x → (y : ℕ) × (d ≡ Far y) × (x ≡ w + y)
+unfolding withWait
+with-wait-far w x Unreachable e = absurd (far-not (sym e))
+with-wait-far w x (Far y) e = (y, refl, sym (far-same e))
 
 -- Over the links from one cue.
 module _ (waits : List ℕ) (rest : ℕ → Distance) (v : ℕ) where
@@ -78,13 +78,13 @@ module _ (waits : List ℕ) (rest : ℕ → Distance) (v : ℕ) where
   By E d x = (d ≡ Far x) ⊎ ((l : Link) × (y : ℕ) × List·Memᴰ l E × (l .from ≡ v) × (rest (l .to) ≡ Far y) × (x ≡ wait l + y))
 
   -- The first link leads from v, or it does not.
-  over-on : (l : Link) (E : List Link) (d : Distance) → l .from ≡ v → over (l ∷ E) d ≡ quicker (later (wait l) (rest (l .to))) (over E d)
+  over-on : (l : Link) (E : List Link) (d : Distance) → l .from ≡ v → over (l ∷ E) d ≡ quicker (withWait (wait l) (rest (l .to))) (over E d)
   unfolding quickestOver
-  over-on l E d h = eq-then (l .from) v (quicker (later (wait l) (rest (l .to))) (over E d)) (over E d) h
+  over-on l E d h = eq-then (l .from) v (quicker (withWait (wait l) (rest (l .to))) (over E d)) (over E d) h
 
   over-past : (l : Link) (E : List Link) (d : Distance) → (l .from ≡ v → ⊥) → over (l ∷ E) d ≡ over E d
   unfolding quickestOver
-  over-past l E d h = eq-else (l .from) v (quicker (later (wait l) (rest (l .to))) (over E d)) (over E d) h
+  over-past l E d h = eq-else (l .from) v (quicker (withWait (wait l) (rest (l .to))) (over E d)) (over E d) h
 
   over-from : (E : List Link) (d : Distance) (x : ℕ) → over E d ≡ Far x → By E d x
   unfolding quickestOver
@@ -97,10 +97,10 @@ module _ (waits : List ℕ) (rest : ℕ → Distance) (v : ℕ) where
 
       go : (over E d ≡ Far x → By E d x) → Dec (l .from ≡ v) → By (l ∷ E) d x
       go below (no n) = up (below (sym (over-past l E d n) ∙ e))
-      go below (yes p) = at (quicker-from (later (wait l) (rest (l .to))) (over E d) x (sym (over-on l E d p) ∙ e))
+      go below (yes p) = at (quicker-from (withWait (wait l) (rest (l .to))) (over E d) x (sym (over-on l E d p) ∙ e))
         where
-          at : (later (wait l) (rest (l .to)) ≡ Far x) ⊎ (over E d ≡ Far x) → By (l ∷ E) d x
-          at (inl f) = let (y, g, h) = later-far (wait l) x (rest (l .to)) f in inr (l, y, List·Memᴰ·head refl, p, g, h)
+          at : (withWait (wait l) (rest (l .to)) ≡ Far x) ⊎ (over E d ≡ Far x) → By (l ∷ E) d x
+          at (inl f) = let (y, g, h) = with-wait-far (wait l) x (rest (l .to)) f in inr (l, y, List·Memᴰ·head refl, p, g, h)
           at (inr f) = up (below f)
 
   -- One link more.
@@ -108,7 +108,7 @@ module _ (waits : List ℕ) (rest : ℕ → Distance) (v : ℕ) where
   over-more l E d y h = go (ℕ-discrete (l .from) v)
     where
       go : Dec (l .from ≡ v) → AtMost (over (l ∷ E) d) y
-      go (yes p) = rw (over-on l E d p) (quicker-right (later (wait l) (rest (l .to))) (over E d) y h)
+      go (yes p) = rw (over-on l E d p) (quicker-right (withWait (wait l) (rest (l .to))) (over E d) y h)
       go (no n) = rw (over-past l E d n) h
 
   over-keeps : (E : List Link) (d : Distance) (y : ℕ) → d ≡ Far y → AtMost (over E d) y
@@ -118,11 +118,11 @@ module _ (waits : List ℕ) (rest : ℕ → Distance) (v : ℕ) where
 
   over-takes : (l : Link) {E : List Link} (d : Distance) (y : ℕ) → List·Memᴰ l E → l .from ≡ v → rest (l .to) ≡ Far y
       → AtMost (over E d) (wait l + y)
-  unfolding later
+  unfolding withWait
   over-takes l d y (List·Memᴰ·head {x = k} {xs = E} e) f g =
-      let h : later (wait k) (rest (k .to)) ≡ Far (wait l + y) = (rw (← e) (ap (later (wait l)) g)) in
+      let h : withWait (wait k) (rest (k .to)) ≡ Far (wait l + y) = (rw (← e) (ap (withWait (wait l)) g)) in
       rw (over-on k E d (sym (ap (λ (r : Link). r .from) e) ∙ f))
-      (quicker-left (later (wait k) (rest (k .to))) (over E d) (wait l + y) (wait l + y, h, omega arith))
+      (quicker-left (withWait (wait k) (rest (k .to))) (over E d) (wait l + y) (wait l + y, h, omega arith))
   over-takes l d y (List·Memᴰ·tail {x = k} {xs = E} i) f g = over-more k E d (wait l + y) (over-takes l d y i f g)
 
 -- At t itself.
@@ -186,7 +186,7 @@ module _ (waits : List ℕ) (E : List Link) (t : ℕ) where
           (x, e, omega arith)
 
 -- A walk over links at one price is one at any other that the same links have.
-pub walk-reprice : (price other : Price) {E : List Link} {s t n : ℕ} → ((label w : ℕ) → price label w → (x : ℕ) × other label x)
+walk-reprice : (price other : Price) {E : List Link} {s t n : ℕ} → ((label w : ℕ) → price label w → (x : ℕ) × other label x)
     → Walk (Linked price E) t s n → (m : ℕ) × Walk (Linked other E) t s m
 walk-reprice price other f (stop p q) = (0, stop p refl)
 walk-reprice price other f (step u w m (l, i, x, y, o) c e) =

@@ -16,14 +16,14 @@ use Rattle.model.specs.Chains.{followed, isIn, successors, searchFrom, f
 use Rattle.model.specs.Summaries.{blockLinks, orNone, summaryBy, summaryOfBy, summariesBy, workBy}
 use Rattle.model.specs.Tables.{lineThen, tableLines, tableAll, tableRead}
 use Rattle.model.specs.Waits.{waitNames, waitEnds, isOutside, firstOutside, firstNotAbove, waitsWith, noWaits, waitsOr, waitsIn, waitFile}
-use Rattle.model.specs.Quickest.{quicker, later, quickestOver, quickestWithin, quickest}
+use Rattle.model.specs.Quickest.{quicker, withWait, quickestOver, quickestWithin, quickest}
 use Rattle.model.specs.Answers.{returned, given, flag, halves}
 use Rattle.model.specs.Questions.{refuse, answer, onAccepted, withRoom, withCue, readInto, readAsked, writeInto, writeAsked, countAsked, located, locateIn, locateAsked, numbered, showNumber, numberAsked, listed, listIn, outAsked, inAsked, rowFound, rowIn, rowAsked, distanceValues, fewestIn, fewestAsked, sumValues, cleared, quickestUnder, quickestIn, quickestAsked}
 use Rattle.model.specs.Printed.{isTriple, triplesOf, triples, numberText, valuesText, linksTitle, showText, printed}
 use Rattle.model.specs.Starred.{Starred}
 
 pub starred : Starred
-unfolding flatMap ifLt ifEq ifTrue names ends isDigit run afterRun decimal isValue valueThen endedBy valuesOf intoFirst linesOf digitAt digits lineText cell rowAt rowsFrom rowCount rowsOf rowValues rowLines fileText start cuesIn mayOpen goesOn mayFollow columnsUsed named every isCue isZero labelFits ownFits inRange differs distinct isBelow linkKey useKey inOrder fault after noBlock blockAt joinsOf ownOf addLink addUse addRow addRows blocksOf sumOver total lastBlock count refusal refused andThen checkLength checkRows openingRows checkBlocks mayStand totalFits verdict rowThen readLines same readAll readFile byLine inLines numbersOf readVerdict fileVerdict cueAt renamed usesLinks links showLinks ownNumber usesNumber copyNumber numberIn nowhere stepThen usesPlace placeIn isLinked range keep cuesAfter isOut isInto overwrite followed isIn successors searchFrom fewest blockLinks orNone summaryBy summaryOfBy summariesBy workBy returned given flag refuse answer onAccepted withRoom withCue readInto readAsked writeInto writeAsked countAsked located locateIn locateAsked numbered showNumber numberAsked listed listIn outAsked inAsked stepInto tracedInto rowsTraced usesTraced traced openingRow showTraced origins depthWins stepsWin better winner best behind rowFound rowIn rowAsked distanceValues fewestIn fewestAsked lineThen tableLines tableAll tableRead waitNames waitEnds isOutside firstOutside firstNotAbove waitsWith noWaits waitsOr waitsIn waitFile quicker later quickestOver quickestWithin quickest halves sumValues cleared quickestUnder quickestIn quickestAsked isTriple triplesOf triples numberText valuesText linksTitle showText printed
+unfolding flatMap ifLt ifEq ifTrue names ends isDigit run afterRun decimal isValue valueThen endedBy valuesOf intoFirst linesOf digitAt digits lineText cell rowAt rowsFrom rowCount rowsOf rowValues rowLines fileText start cuesIn mayOpen goesOn mayFollow columnsUsed named every isCue isZero labelFits ownFits inRange differs distinct isBelow linkKey useKey inOrder fault after noBlock blockAt joinsOf ownOf addLink addUse addRow addRows blocksOf sumOver total lastBlock count refusal refused andThen checkLength checkRows openingRows checkBlocks mayStand totalFits verdict rowThen readLines same readAll readFile byLine inLines numbersOf readVerdict fileVerdict cueAt renamed usesLinks links showLinks ownNumber usesNumber copyNumber numberIn nowhere stepThen usesPlace placeIn isLinked range keep cuesAfter isOut isInto overwrite followed isIn successors searchFrom fewest blockLinks orNone summaryBy summaryOfBy summariesBy workBy returned given flag refuse answer onAccepted withRoom withCue readInto readAsked writeInto writeAsked countAsked located locateIn locateAsked numbered showNumber numberAsked listed listIn outAsked inAsked stepInto tracedInto rowsTraced usesTraced traced openingRow showTraced origins depthWins stepsWin better winner best behind rowFound rowIn rowAsked distanceValues fewestIn fewestAsked lineThen tableLines tableAll tableRead waitNames waitEnds isOutside firstOutside firstNotAbove waitsWith noWaits waitsOr waitsIn waitFile quicker withWait quickestOver quickestWithin quickest halves sumValues cleared quickestUnder quickestIn quickestAsked isTriple triplesOf triples numberText valuesText linksTitle showText printed
 starred =
     record {
       total-0 = refl;

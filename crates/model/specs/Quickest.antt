@@ -15,16 +15,16 @@ quicker (Far n) Unreachable = Far n
 quicker (Far n) (Far m) = Far (ifLt m n m n)
 
 -- A sum with a wait before it.
-unfoldable pub later : ℕ → Distance → Distance
-later w Unreachable = Unreachable
-later w (Far n) = Far (w + n)
+unfoldable pub withWait : ℕ → Distance → Distance
+withWait w Unreachable = Unreachable
+withWait w (Far n) = Far (w + n)
 
 -- The smallest of d and of the sums of chains that begin with one of these links, from cue v, and go on as quickly as rest says. waits has the wait of each
 -- label.
 unfoldable pub quickestOver : List ℕ → (ℕ → Distance) → ℕ → List Link → Distance → Distance
 quickestOver waits rest v [] d = d
 quickestOver waits rest v (l ∷ E) d =
-    ifEq (l .from) v (quicker (later (getD waits (l .label) 0) (rest (l .to))) (quickestOver waits rest v E d)) (quickestOver waits rest v E d)
+    ifEq (l .from) v (quicker (withWait (getD waits (l .label) 0) (rest (l .to))) (quickestOver waits rest v E d)) (quickestOver waits rest v E d)
 
 -- The smallest sum over the chains of at most so many of these links from cue v to t: "0 where s is t".
 unfoldable pub quickestWithin : List ℕ → List Link → ℕ → ℕ → ℕ → Distance

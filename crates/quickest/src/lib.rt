@@ -298,7 +298,7 @@ fn sink_alone(
 // The question.
 
 // Zeros in the whole of a part of the work area.
-fn clear_work(part: &mut [u64])
+fn put_zeros(part: &mut [u64])
     ensures { λ _. ⌜ now (part .exit) ≡ replicate (length (now (part .entry))) 0 ⌝ }
 {
     let mut i = 0;
@@ -351,7 +351,7 @@ fn search_in(
     let mut d = [0u64; ESTIMATES];
     sum_blocks(xs, t, waits, &mut d, work);
     let sum = search(xs, t, waits, from, up, to, down, work, &mut d);
-    clear_work(work);
+    put_zeros(work);
     sum
 }
 

@@ -12,7 +12,7 @@ use Rattle.model.specs.Limits.{summaryWidth}
 use Rattle.blocks.specs.Loaded.{columnAt}
 use Rattle.searches.specs.Rounds.{orb, Lowered, more, Still, Round, quiet, moved, Fell, same, less}
 use Rattle.searches.specs.Starts.{MetAt, Merged, Gathered}
-use Rattle.searches.specs.Lines.{Least, Capped, Line, Lines, Alike, Level}
+use Rattle.searches.specs.Lines.{Least, Capped, Line, Lines, Alike, Even}
 use Rattle.searches.specs.Edges.{Mesh}
 use Rattle.searches.proofs.Lowering.{true-not-false}
 use Rattle.searches.proofs.Rounds.{runs-begin}
@@ -96,24 +96,24 @@ alike-on false u t a b i x y s ex ey p o = record { same = λ e j h. go e j h (�
     go e j h (no n) = s .same refl j (omega arith)
 
 -- A list against one number, one place more.
-pub level-begin : (t : Bool) (x : ℕ) (a : List ℕ) → Level t x a 0
-level-begin t x a = record { same = λ e j h. absurd (omega arith) }
+pub even-begin : (t : Bool) (x : ℕ) (a : List ℕ) → Even t x a 0
+even-begin t x a = record { same = λ e j h. absurd (omega arith) }
 
-pub level-on : (s u t : Bool) (x : ℕ) (a : List ℕ) (i y : ℕ) → i < length a → Level s x a i → (u ≡ false → y ≡ x) → t ≡ orb s u
-    → Level t x (set a i y) (i + 1)
+pub even-on : (s u t : Bool) (x : ℕ) (a : List ℕ) (i y : ℕ) → i < length a → Even s x a i → (u ≡ false → y ≡ x) → t ≡ orb s u
+    → Even t x (set a i y) (i + 1)
 unfolding orb
-level-on true u t x a i y l s p o = record { same = λ e j h. absurd (true-not-false o e) }
-level-on false u t x a i y l s p o = record { same = λ e j h. go e j h (ℕ-discrete j i) }
+even-on true u t x a i y l s p o = record { same = λ e j h. absurd (true-not-false o e) }
+even-on false u t x a i y l s p o = record { same = λ e j h. go e j h (ℕ-discrete j i) }
   where
     go : t ≡ false → (j : ℕ) → j < i + 1 → Dec (j ≡ i) → getD (set a i y) j 0 ≡ x
     go e j h (yes q) = rw q (getD-set-same a i y 0 l ∙ p (sym o ∙ e))
     go e j h (no n) = getD-set-other a i j y 0 n ∙ s .same refl j (omega arith)
 
 -- Cues that have all the same estimate improve none.
-pub round-level : (xs work : List ℕ) (r q m x : ℕ) (d g₀ g : List ℕ) (t : Bool) → Gathered xs r d m g₀ g → Level t x g m → t ≡ false
+pub round-even : (xs work : List ℕ) (r q m x : ℕ) (d g₀ g : List ℕ) (t : Bool) → Gathered xs r d m g₀ g → Even t x g m → t ≡ false
     → Round (Mesh xs work r q m) d false d
 unfolding Mesh
-round-level xs work r q m x d g₀ g t got level e =
+round-even xs work r q m x d g₀ g t got level e =
     quiet refl refl
     (λ u v w (i, j, hi, hj, (eu, ev, ew)). rw (eu, ev)
     (omega (arith, got .at i hi, got .at j hj, level .same e i hi, level .same e j hj)))

@@ -37,5 +37,5 @@ pub record Alike (differ : Bool) (a b : List ℕ) (n : ℕ) : Type 0 where
   pub same : differ ≡ false → (j : ℕ) → j < n → getD a j 0 ≡ getD b j 0
 
 -- Unless a test says that one of them is not x, the first n of a list are.
-pub record Level (differ : Bool) (x : ℕ) (a : List ℕ) (n : ℕ) : Type 0 where
+pub record Even (differ : Bool) (x : ℕ) (a : List ℕ) (n : ℕ) : Type 0 where
   pub same : differ ≡ false → (j : ℕ) → j < n → getD a j 0 ≡ x

@@ -1,6 +1,6 @@
 -- The quickest question's refusals of rows: their place is given in 64 bits.
 use Prim.Native.Nat.{ℕ}
-use mathlib.Core.Path.{_≡_, refl}
+use mathlib.Core.Path.{_≡_}
 use mathlib.Core.List.{List}
 use Rattle.model.specs.Verdicts.{refusal}
 use Rattle.model.specs.Answers.{returned, ofQuickest}

@@ -1,6 +1,6 @@
 -- Demands 2 and 3, and what document 02, Papers 4 and 5, demand, of the answers that the entry points give, in the words of documents 01 and 02. What an entry
 -- point is asked and answers is known by its promise (crates/model/specs/Asking), which is what its function ensures; the words are those of
--- crates/demands/specs, a page for each part; for the text of a file, of crates/shows/specs/Files; for chains and summaries, of
+-- crates/demands/specs, a page for each part; for the text of a file, of crates/shows/specs/Files and SmallFiles; for chains and summaries, of
 -- crates/distances/specs/Demand. Other words of the model and its laws are pinned by `Words` and by the statements that they stand in.
 use Prim.Native.Nat.{ℕ, _*_, _≤_, _<_}
 use mathlib.Core.Bool.{Bool}
@@ -39,7 +39,7 @@ use Rattle.demands.specs.RowBehind.{StandsAs, IsRowBehind}
 use Rattle.demands.specs.Fewest.{IsFewest}
 use Rattle.demands.specs.WorkArea.{IsWorkArea}
 use Rattle.demands.specs.Notes.{IsNote, NoNotes, followedLinks, followedInside, ChainLinks, OldFigure}
-use Rattle.demands.specs.Waits.{LawfulWaits, Malformed, Outside, Fallen}
+use Rattle.demands.specs.Waits.{LawfulWaits, Malformed, Outside, NotRising}
 use Rattle.demands.specs.Quickest.{Askable, QuickestExact}
 use Rattle.demands.specs.Desk.{TableFact, DeskLawful, IsDeskRead, OwnLines, WritesWhole, HasDeskSummaries}
 
@@ -182,4 +182,4 @@ pub record Demand5 : Type 0 where
   pub a-file : LawfulWaits ringWaits ((1 ∷ 10 ∷ []) ∷ (2 ∷ 25 ∷ []) ∷ [])
   pub a-malformed-file : Malformed cutWaits 4
   pub an-outside-file : Outside outsideWaits 4
-  pub a-fallen-file : Fallen twiceWaits 3
+  pub a-fallen-file : NotRising twiceWaits 3

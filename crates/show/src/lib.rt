@@ -144,13 +144,13 @@ fn long(place: u32) -> u64
 }
 
 // The quickest way from cue s to cue t under a wait file: the smallest sum of waits over all chains in tenths of a second, or none; notes are not followed.
-// The first numbers of the work area, which has 64 bits, are 0 afterwards.
-pub fn quickest(rows: &[u32], s: u32, t: u32, waits: &[u8], work: &mut [u64]) -> QuickestAnswer
-    ensures { λ r. ⌜ AsksQuickest (now (rows .entry)) s t (now (waits .entry)) (now (work .entry)) r (now (work .exit)) ⌝ }
+// Afterwards the first 16,384 numbers of the work area, of 64 bits each, are 0.
+pub fn quickest(rows: &[u32], s: u32, t: u32, file: &[u8], work: &mut [u64]) -> QuickestAnswer
+    ensures { λ r. ⌜ AsksQuickest (now (rows .entry)) s t (now (file .entry)) (now (work .entry)) r (now (work .exit)) ⌝ }
 {
     let mut table = [0u32; INDEX];
     match verdicts::check(rows, &mut table) {
-        Verdict::Accepted => answers::quickest_in(rows, &table, s, t, waits, work),
+        Verdict::Accepted => answers::quickest_in(rows, &table, s, t, file, work),
         Verdict::Refused(refusal) => QuickestAnswer::Refused(refusal.number, long(refusal.place)),
     }
 }

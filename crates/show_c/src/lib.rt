@@ -308,22 +308,22 @@ pub extern "C" fn show_fewest(
     }
 }
 
-// given: whether there is a chain (0 or 1), which has no note, and the lower and the upper 32 bits of its sum of waits (0 where there is none)
+// given: whether there is a chain without notes (0 or 1), and the lower and the upper 32 bits of the smallest sum of waits (0 and 0 where there is none)
 #[no_mangle]
 pub extern "C" fn show_quickest(
     rows: &[u32],
     s: u32,
     t: u32,
-    waits: &[u8],
+    file: &[u8],
     work: &mut [u64],
     given: &mut [u32],
 ) -> u64
-    ensures { λ c. ⌜ AnswersInto c given work (verdict (now (rows .entry))) (quickestAsked (now (rows .entry)) s t (now (waits .entry))) ⌝ }
+    ensures { λ c. ⌜ AnswersInto c given work (verdict (now (rows .entry))) (quickestAsked (now (rows .entry)) s t (now (file .entry))) ⌝ }
 {
     if given.len() < GIVEN_SIZE {
         return short_rows(rows);
     }
-    match show::quickest(rows, s, t, waits, work) {
+    match show::quickest(rows, s, t, file, work) {
         QuickestAnswer::Tenths(n) => tell_3(given, 1, low(n), high(n)),
         QuickestAnswer::None => tell_3(given, 0, 0, 0),
         QuickestAnswer::Refused(number, place) => refused_at(number, place),

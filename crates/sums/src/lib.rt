@@ -13,7 +13,7 @@ ghost use lib.ListN.{length};
 ghost use Rattle.distances.specs.Quickest.{noSum};
 ghost use Rattle.searches.specs.Rounds.{One, Round, Fell};
 ghost use Rattle.searches.specs.Starts.{Nowhere, Cell, Meets, MetAt, Started, Merged, Gathered};
-ghost use Rattle.searches.specs.Lines.{Capped, Level};
+ghost use Rattle.searches.specs.Lines.{Capped, Even};
 
 // No sum: no chain is known.
 pub const NO_SUM: u64 = 18446744073709551615;
@@ -104,7 +104,7 @@ fn unlike(a: u64, b: u64) -> bool
 // not x.
 pub fn gather(xs: &[u32], r: usize, d: &[u64], m: usize, x: u64, e: &mut [u64]) -> bool
     requires { ⌜ Meets (now xs) r m (length (now d)) × (m ≤ length (now e)) ⌝ }
-    ensures { λ c. ⌜ Gathered (now (xs .entry)) r (now (d .entry)) m (now (e .entry)) (now (e .exit)) × Level c x (now (e .exit)) m ⌝ }
+    ensures { λ c. ⌜ Gathered (now (xs .entry)) r (now (d .entry)) m (now (e .entry)) (now (e .exit)) × Even c x (now (e .exit)) m ⌝ }
 {
     let mut uneven = false;
     let mut i = 0;

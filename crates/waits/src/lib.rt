@@ -91,6 +91,7 @@ fn put_wait(waits: &mut [u32], label: u32, wait: u32)
     }
 }
 
+// A refusal, its line in 64 bits.
 fn unfit(number: u32, line: usize) -> WaitsRead
     ensures { λ r. ⌜ r ≡ WaitsRead.Unfit number line ⌝ }
 {

@@ -1,6 +1,5 @@
 -- `answers::quickest_under`: the wait file first, then the search.
 use borrow.Author.Needs.{needs}
-use native.Mathlib.Omega.{arith}
 use Rattle.model.specs.Waits.{noWaits}
 use Rattle.answers.proofs.Sums.{read-fit, under-lawful, under-unfit}
 use Rattle.answers.proofs.quickest_under.Statement.{statement}

@@ -18,12 +18,12 @@ search-requires c κs =
 
 returns : tie.Need-returns
 returns c =
-    let at-clear-work = c .before .before in
-    let at-search = at-clear-work .before .before .before in
+    let at-put-zeros = c .before .before in
+    let at-search = at-put-zeros .before .before .before in
     let at-sum-blocks = at-search .before .before .before .before .before .before in
     let start = at-sum-blocks .before .before .before .before .before .before .before .before in (
       at-search .search .ensures,
-      area-zeros (at-sum-blocks .sum-blocks .last .1 .1 .1 .1 .0) _ (at-clear-work .clear-work .ensures) (at-sum-blocks .sum-blocks .kept .1 .1 .1 .1 .0 ∙ start .pre .4),
+      area-zeros (at-sum-blocks .sum-blocks .last .1 .1 .1 .1 .0) _ (at-put-zeros .put-zeros .ensures) (at-sum-blocks .sum-blocks .kept .1 .1 .1 .1 .0 ∙ start .pre .4),
     )
 
 pub search-in-spec : {M : Type 1} → statement M

@@ -4,7 +4,7 @@ use lib.ListN.{getD-replicate}
 use Rattle.model.specs.Limits.{summaryWidth}
 use Rattle.distances.specs.Quickest.{noSum}
 use Rattle.searches.proofs.Starts.{meets-within}
-use Rattle.searches.proofs.Lines.{round-level, round-met}
+use Rattle.searches.proofs.Lines.{round-even, round-met}
 use Rattle.relax_sums.proofs.relax_many.Statement.{statement}
 use Rattle.relax_sums.proofs.relax_many.Tie as tie
 
@@ -23,7 +23,7 @@ slice-read-first c =
 returns : tie.Need-returns
 returns c =
     let at-gather = c .before .before in
-    round-level _ _ _ _ _ _ _ _ _ _ (at-gather .gather .ensures .0) (at-gather .gather .ensures .1) (c .if1 .left)
+    round-even _ _ _ _ _ _ _ _ _ _ (at-gather .gather .ensures .0) (at-gather .gather .ensures .1) (c .if1 .left)
 
 returns-2 : tie.Need-returns-2
 returns-2 c =

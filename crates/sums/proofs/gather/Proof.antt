@@ -6,20 +6,20 @@ use native.Mathlib.Omega.{arith}
 use mathlib.Core.Path.{_≡_, refl, _∙_}
 use lib.ListN.{length}
 use Rattle.searches.specs.Starts.{Gathered}
-use Rattle.searches.specs.Lines.{Level}
+use Rattle.searches.specs.Lines.{Even}
 use Rattle.searches.proofs.Starts.{meets-within, gathered-begin, gathered-on}
-use Rattle.searches.proofs.Lines.{level-begin, level-on}
+use Rattle.searches.proofs.Lines.{even-begin, even-on}
 use Rattle.sums.proofs.gather.Statement.{statement}
 use Rattle.sums.proofs.gather.Tie as tie
 
 abbrev Inv-loop : tie.InvT-loop
-Inv-loop xs r d m x e₀ uneven₀ i₀ e uneven i = (i ≤ m) × (length e ≡ length e₀) × Gathered xs r d i e₀ e × Level uneven x e i
+Inv-loop xs r d m x e₀ uneven₀ i₀ e uneven i = (i ≤ m) × (length e ≡ length e₀) × Gathered xs r d i e₀ e × Even uneven x e i
 
 abbrev μ-loop : tie.MeasureT-loop
 μ-loop xs r d m x e₀ uneven₀ i₀ e uneven i = m - i
 
 loop-holds : tie.Need-loop-holds Inv-loop μ-loop
-loop-holds c = (search needs, search needs, gathered-begin _ _ _ _, level-begin _ _ _)
+loop-holds c = (search needs, search needs, gathered-begin _ _ _ _, even-begin _ _ _)
 
 column-requires : tie.Need-column-requires Inv-loop μ-loop
 column-requires c κs =
@@ -43,7 +43,7 @@ loop-again c =
       search needs,
       search needs,
       gathered-on _ _ _ _ _ _ _ _ (omega arith) (at-loop .loop .inv .2) (at-wide .wide .ensures .0 ∙ at-column .column .ensures) refl,
-      level-on _ _ _ _ _ _ _ (omega arith) (at-loop .loop .inv .3) (at-unlike .unlike .ensures) (c .either .ensures),
+      even-on _ _ _ _ _ _ _ (omega arith) (at-loop .loop .inv .3) (at-unlike .unlike .ensures) (c .either .ensures),
     )
 
 returns : tie.Need-returns Inv-loop μ-loop

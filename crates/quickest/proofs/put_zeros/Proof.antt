@@ -1,4 +1,4 @@
--- `quickest::clear_work` meets its contract. The invariant: the numbers passed are 0.
+-- `quickest::put_zeros` meets its contract. The invariant: the numbers passed are 0.
 use Prim.Native.Nat.{ℕ, _-_, _≤_, _<_}
 use borrow.Author.Needs.{needs}
 use native.Mathlib.Omega.{arith}
@@ -6,8 +6,8 @@ use mathlib.Core.Path.{_≡_}
 use lib.ListN.{length, getD}
 use Rattle.searches.proofs.Starts.{agree-on}
 use Rattle.searches.proofs.Joins.{agree-same}
-use Rattle.quickest.proofs.clear_work.Statement.{statement}
-use Rattle.quickest.proofs.clear_work.Tie as tie
+use Rattle.quickest.proofs.put_zeros.Statement.{statement}
+use Rattle.quickest.proofs.put_zeros.Tie as tie
 
 abbrev Inv-loop : tie.InvT-loop
 Inv-loop part₀ i₀ part i = (i ≤ length part₀) × (length part ≡ length part₀) × ((a : ℕ) → a < i → getD part a 0 ≡ 0)
@@ -29,8 +29,8 @@ returns c =
     let at-loop = c .before in
     agree-same _ (at-loop .loop .i) _ _ (at-loop .loop .inv .1) (omega arith) (at-loop .loop .inv .2)
 
-pub clear-work-spec : {M : Type 1} → statement M
-clear-work-spec =
+pub put-zeros-spec : {M : Type 1} → statement M
+put-zeros-spec =
     tie.close
     (tie.spec Inv-loop μ-loop loop-holds (λ c. search needs) (λ c. search needs) (λ c. search needs) (λ c. search needs) loop-again
     (λ c. search needs) returns)
