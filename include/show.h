@@ -1,8 +1,8 @@
 /* show.h: show files of theatre lighting consoles, read, checked, written and asked, with every answer proved.
  *
  * For C99 or later and C++. Link with libshow_c.a, which is for Linux on x86-64 (ELF, System V calls) and needs nothing but memcpy
- * and memset of the C library. FORMAT.md, in docs/ and in share/doc/show of an installed copy, explains show files, the words
- * below and each refusal; examples/first.c of the repository is a whole program.
+ * and memset of the C library. FORMAT.md, in docs/ and in share/doc/show of an installed copy, explains show files and wait files, the
+ * words below and each refusal; examples/first.c of the repository is a whole program.
  *
  * What every function does:
  *
@@ -75,7 +75,7 @@ extern "C" {
 #define SHOW_SUMMARY_LEN 64                           /* numbers of the work area of show_fewest for each block */
 #define SHOW_GIVEN_LEN 3                              /* least length of `given` */
 #define SHOW_STACK_LEN 131072                         /* bytes of stack that are enough for each call, as far as it was tested */
-#define SHOW_NO_CHAIN 4294967295u                     /* in a work area: no chain */
+#define SHOW_NO_CHAIN 4294967295u                     /* in the work area of show_fewest: no chain */
 
 /* Refusals. The place is 0 unless it is named. */
 enum {
