@@ -109,10 +109,10 @@ unfolding ofList
 told-page a n m b c g g′ k p q = told-value ofList a (Page n b) c g g′ (n ∷ m ∷ []) p (rw k) q
 
 -- The halves of a sum are numbers of their own, and a refusal may have a place of more than 32 bits.
-pub told-tenths : (a : QuickestAnswer) (n x y c : ℕ) (g g′ : List ℕ) → x ≡ n % 4294967296 → y ≡ n / 4294967296
-    → (c ≡ 0) × (g′ ≡ overwrite (1 ∷ x ∷ y ∷ []) g) → a ≡ Tenths n → Told c g g′ (ofQuickest a)
+pub told-tenths : (a : QuickestAnswer) (n x y c : ℕ) (g g′ : List ℕ) → (c ≡ 0) × (g′ ≡ overwrite (1 ∷ x ∷ y ∷ []) g) → a ≡ Tenths n
+    → x ≡ n % 4294967296 → y ≡ n / 4294967296 → Told c g g′ (ofQuickest a)
 unfolding ofQuickest halves
-told-tenths a n x y c g g′ k l p q = told-value ofQuickest a (Tenths n) c g g′ (1 ∷ x ∷ y ∷ []) p (rw (k, l)) q
+told-tenths a n x y c g g′ p q k l = told-value ofQuickest a (Tenths n) c g g′ (1 ∷ x ∷ y ∷ []) p (rw (k, l)) q
 
 pub told-placed : (a : QuickestAnswer) (n p c : ℕ) (g g′ : List ℕ) → g′ ≡ g → c ≡ n * 4294967296 + min p 4294967295 → a ≡ Untimed n p
     → Told c g g′ (ofQuickest a)

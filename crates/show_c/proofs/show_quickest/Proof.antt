@@ -10,14 +10,13 @@ use Rattle.show_c.proofs.show_quickest.Tie as tie
 returns : tie.Need-returns
 returns c = wrote-short _ _ _ _ _ (search needs) (search needs)
 
--- t is the place behind the telling, l the one behind the lower half.
+-- t is the place behind the telling.
 returns-2 : tie.Need-returns-2
 returns-2 c =
     let t = c .before .before in
-    let l = t .before .before in
-    let asked = l .before .before .before .before .before .before .before .quickest in
+    let asked = t .before .before .before .before .before .before .before .before .before .quickest in
     wrote _ _ _ _ _ _ _ _ (search needs) (asked .ensures)
-    (told-tenths _ _ _ _ _ _ _ (l .low .ensures) (t .before .high .ensures) (t .tell-3 .ensures) (search needs))
+    (told-tenths (asked .result) (t .before .before .before .before .before .n .given .0 .0) _ _ _ _ _ (t .tell-3 .ensures) (search needs) (search needs) (search needs))
 
 returns-3 : tie.Need-returns-3
 unfolding ofQuickest halves
