@@ -1,4 +1,4 @@
--- Wait files at the at-the-limits of what is lawful, computed: the largest label with the largest wait, and a file just past each limit. By these the statements of
+-- Wait files at the edges of what is lawful, computed: the largest label with the largest wait, and a file just past each limit. By these the statements of
 -- wait files have something to speak of on either side.
 use Prim.Native.Nat.{ℕ}
 use mathlib.Core.Path.{_≡_, refl}

@@ -159,7 +159,8 @@ fn rise_one(
 )
     requires { ⌜ HasSums (now xs) (now t) (now waits) (now work) × UsesTo (now xs) (now rows) (l + 1) × (l < maxDepth)
         × (length (now kept) ≡ keptSize) × (length (now d) ≡ estimatesSize) ⌝ }
-    ensures { λ _. ⌜ SpreadIn noSum (priced (now (waits .entry))) (blocksOf (now (xs .entry))) (now (work .entry)) (blockOn (now (xs .entry)) (now (rows .entry)) l)
+    ensures { λ _. ⌜ SpreadIn noSum (priced (now (waits .entry))) (blocksOf (now (xs .entry))) (now (work .entry)) (blockOn (now (xs .entry))
+        (now (rows .entry)) l)
         (FromKept (now (xs .entry)) (now (rows .entry)) l (now (kept .entry))) (now (d .exit))
         × JoinsKept (blocksOf (now (xs .entry))) (blockOn (now (xs .entry)) (now (rows .entry)) l) (now (kept .entry)) l (now (d .exit)) (now (kept .exit)) ⌝ }
 {
@@ -182,7 +183,8 @@ fn climb(
     d: &mut [u64],
 )
     requires { ⌜ MaySearch (now xs) (now t) (now waits) (now work) (now rows) from (now d) × (length (now kept) ≡ keptSize) ⌝ }
-    ensures { λ _. ⌜ Risen noSum (priced (now (waits .entry))) (now (xs .entry)) (now (t .entry)) (now (rows .entry)) from 0 (now (kept .exit)) (now (d .exit)) ⌝ }
+    ensures { λ _. ⌜ Risen noSum (priced (now (waits .entry))) (now (xs .entry)) (now (t .entry)) (now (rows .entry)) from 0 (now (kept .exit))
+        (now (d .exit)) ⌝ }
 {
     from_cue(xs, t, waits, work, from.block, wide(from.own), d);
     keep_joins(xs, t, from.block, from.depth, d, kept);
@@ -261,7 +263,8 @@ fn sink_shared(
 )
     requires { ⌜ MaySearch (now xs) (now t) (now waits) (now work) (now rows) from (now d) × (shared ≤ from .depth) × (length (now kept) ≡ keptSize)
         × Risen noSum (priced (now waits)) (now xs) (now t) (now rows) from 0 (now kept) (now d) ⌝ }
-    ensures { λ _. ⌜ TellsWhole noSum (priced (now (waits .entry))) (now (xs .entry)) (copyOn (now (xs .entry)) (now (t .entry)) (now (rows .entry)) shared) (from .cue)
+    ensures { λ _. ⌜ TellsWhole noSum (priced (now (waits .entry))) (now (xs .entry)) (copyOn (now (xs .entry)) (now (t .entry))
+        (now (rows .entry)) shared) (from .cue)
         (now (d .exit)) ⌝ }
 {
     let mut l = 0;
@@ -285,7 +288,8 @@ fn sink_alone(
     d: &mut [u64],
 )
     requires { ⌜ MaySearch (now xs) (now t) (now waits) (now work) (now rows) to (now d) × (level ≤ to .depth) ⌝ }
-    ensures { λ _. ⌜ Sunk noSum (priced (now (waits .entry))) (now (xs .entry)) (now (t .entry)) (now (rows .entry)) level (to .depth) (now (d .entry)) (now (d .exit)) ⌝ }
+    ensures { λ _. ⌜ Sunk noSum (priced (now (waits .entry))) (now (xs .entry)) (now (t .entry)) (now (rows .entry)) level (to .depth)
+        (now (d .entry)) (now (d .exit)) ⌝ }
 {
     let mut l = level;
     while l < to.depth {
@@ -322,7 +326,8 @@ fn search(
 ) -> u64
     requires { ⌜ HasSums (now xs) (now t) (now waits) (now work) × Found (now xs) (now t) (now up) from × Found (now xs) (now t) (now down) to
         × (length (now d) ≡ estimatesSize) ⌝ }
-    ensures { λ r. ⌜ quickest (now (waits .entry)) (showLinks (blocksOf (now (xs .entry)))) (count (blocksOf (now (xs .entry)))) (from .cue) (to .cue) ≡ told noSum r ⌝ }
+    ensures { λ r. ⌜ quickest (now (waits .entry)) (showLinks (blocksOf (now (xs .entry)))) (count (blocksOf
+        (now (xs .entry)))) (from .cue) (to .cue) ≡ told noSum r ⌝ }
 {
     let mut kept = [0u64; KEPT];
     climb(xs, t, waits, work, from, up, &mut kept, d);
@@ -345,7 +350,8 @@ fn search_in(
 ) -> u64
     requires { ⌜ Loaded (now xs) (now t) × Found (now xs) (now t) (now up) from × Found (now xs) (now t) (now down) to
         × AreWaits (now waits) × (length (now work) ≡ workSize) ⌝ }
-    ensures { λ r. ⌜ (quickest (now (waits .entry)) (showLinks (blocksOf (now (xs .entry)))) (count (blocksOf (now (xs .entry)))) (from .cue) (to .cue) ≡ told noSum r)
+    ensures { λ r. ⌜ (quickest (now (waits .entry)) (showLinks (blocksOf (now (xs .entry)))) (count (blocksOf
+        (now (xs .entry)))) (from .cue) (to .cue) ≡ told noSum r)
         × (now (work .exit) ≡ replicate workSize 0) ⌝ }
 {
     let mut d = [0u64; ESTIMATES];
@@ -370,7 +376,8 @@ pub fn quickest(
 ) -> u64
     requires { ⌜ Loaded (now xs) (now t) × Found (now xs) (now t) (now up) from × Found (now xs) (now t) (now down) to
         × AreWaits (now waits) × (workSize ≤ length (now work)) ⌝ }
-    ensures { λ r. ⌜ (quickest (now (waits .entry)) (showLinks (blocksOf (now (xs .entry)))) (count (blocksOf (now (xs .entry)))) (from .cue) (to .cue) ≡ told noSum r)
+    ensures { λ r. ⌜ (quickest (now (waits .entry)) (showLinks (blocksOf (now (xs .entry)))) (count (blocksOf
+        (now (xs .entry)))) (from .cue) (to .cue) ≡ told noSum r)
         × (now (work .exit) ≡ cleared (now (work .entry))) ⌝ }
 {
     search_in(xs, t, waits, from, up, to, down, &mut work[0..WORK_SIZE])

@@ -275,7 +275,8 @@ pub fn settle(
     d: &mut [u64],
 )
     requires { ⌜ MaySettle (now xs) (now t) k (now work) (now d) × AreWaits (now waits) ⌝ }
-    ensures { λ _. ⌜ SettledOver (BlockEdge (priced (now (waits .entry))) (blocksOf (now (xs .entry))) (now (work .entry)) k) (now (d .entry)) (now (d .exit)) ⌝ }
+    ensures { λ _. ⌜ SettledOver (BlockEdge (priced (now (waits .entry))) (blocksOf (now (xs .entry))) (now (work .entry)) k) (now (d .entry))
+        (now (d .exit)) ⌝ }
 {
     let mut back = false;
     loop {
