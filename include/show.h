@@ -1,8 +1,8 @@
 /* show.h: show files of theatre lighting consoles, read, checked, written and asked, with every answer proved.
  *
  * For C99 or later and C++. Link with libshow_c.a, which is for Linux on x86-64 (ELF, System V calls) and needs nothing but memcpy
- * and memset of the C library. FORMAT.md, in docs/ and in share/doc/show of an installed copy, explains show files, the words
- * below and each refusal; examples/first.c of the repository is a whole program.
+ * and memset of the C library. FORMAT.md, in docs/ and in share/doc/show of an installed copy, explains show files and wait files, the
+ * words below and each refusal; examples/first.c of the repository is a whole program.
  *
  * What every function does:
  *
@@ -12,8 +12,8 @@
  *              SHOW_TOO_SHORT.
  *   Refusals   A refusal changes nothing that was lent, `given` included. Checks run in the order of their numbers, but 5 to 8 row
  *              by row: the first row that fails one of them decides. What a function can refuse stands at the function.
- *   Lengths    Of every list, in elements: bytes of a file, 32-bit numbers of anything else. Only as much of a list changes as an
- *              answer needs; a longer one is welcome.
+ *   Lengths    Of every list, in elements: bytes of a file, 64-bit numbers of the work area of show_quickest, 32-bit numbers of
+ *              anything else. Only as much of a list changes as an answer needs; a longer one is welcome.
  *   Pointers   Valid for their lengths; the lists of one call do not overlap. With length 0 any pointer will do, NULL too.
  *              There is no other duty: every function answers for all bytes, rows, numbers and lengths.
  *   Rows       Eleven numbers each, as show_read or show_read_desk leaves them: numbers 11 * (r - 1) and on are row r. Each call checks
@@ -34,9 +34,9 @@
 #include <stdint.h>
 
 /* The version of this header and of the library. The second number is raised by each change of what the functions answer. */
-#define SHOW_VERSION "0.5.0"
+#define SHOW_VERSION "0.6.0"
 #define SHOW_VERSION_MAJOR 0
-#define SHOW_VERSION_MINOR 5
+#define SHOW_VERSION_MINOR 6
 #define SHOW_VERSION_PATCH 0
 
 /* A compiler that can warns where what a function returns is not looked at. */
@@ -61,20 +61,21 @@ extern "C" {
 #define SHOW_DESK_BLOCKS 16                           /* blocks that come with the desk: 0 to 15 */
 #define SHOW_DESK_ROWS 168                            /* rows of the blocks that come with the desk */
 #define SHOW_DESK_MAX_OWN_ROWS 856                    /* rows of a file that show_read_desk reads, at most */
-#define SHOW_MAX_FILE 65536                           /* bytes of a file, at most */
+#define SHOW_MAX_FILE 65536                           /* bytes of a show file, at most; a wait file has no such limit */
 #define SHOW_MAX_VALUE 65535                          /* a value in a file, at most */
 #define SHOW_MAX_BLOCKS 128                           /* blocks of a show, at most */
 #define SHOW_MAX_OWN 255                              /* own cues of a block, at most */
 #define SHOW_MAX_JOINS 8                              /* joins of a block, at most */
 #define SHOW_MAX_LABEL 255                            /* label of a link, at most; the least is 1 */
 #define SHOW_MAX_FOLLOWED 254                         /* label of a link that chains follow, at most; with 255 it is a note */
+#define SHOW_MAX_WAIT 6000                            /* wait of a label, at most, in tenths of a second */
 #define SHOW_MAX_CUES 2147483647                      /* cues of a show, at most */
 #define SHOW_PATH_LEN 127                             /* least length of a list lent for a path; steps of a path, at most */
-#define SHOW_WORK_LEN 16384                           /* least length of a work area */
-#define SHOW_SUMMARY_LEN 64                           /* numbers of a work area for each block */
+#define SHOW_WORK_LEN 16384                           /* least length of a work area, of 32-bit or of 64-bit numbers */
+#define SHOW_SUMMARY_LEN 64                           /* numbers of the work area of show_fewest for each block */
 #define SHOW_GIVEN_LEN 3                              /* least length of `given` */
 #define SHOW_STACK_LEN 131072                         /* bytes of stack that are enough for each call, as far as it was tested */
-#define SHOW_NO_CHAIN 4294967295u                     /* in a work area: no chain */
+#define SHOW_NO_CHAIN 4294967295u                     /* in the work area of show_fewest: no chain */
 
 /* Refusals. The place is 0 unless it is named. */
 enum {
@@ -92,7 +93,10 @@ enum {
     SHOW_TOO_SHORT = 11,     /* a lent output, path list, work area or `given` */
     SHOW_NO_SUCH_CUE = 12,   /* a cue number of 0 or above the count */
     SHOW_NO_SUCH_PATH = 13,  /* a path that leads nowhere, or an own cue that its block does not have */
-    SHOW_NO_SUCH_LINK = 14   /* no link leads from the one cue to the other */
+    SHOW_NO_SUCH_LINK = 14,  /* no link leads from the one cue to the other */
+    SHOW_BAD_WAIT_LINE = 15, /* place: the first line of the wait file that is not two values, 1 for wrong names */
+    SHOW_WAIT_OUT_OF_RANGE = 16,  /* place: the first line of the wait file whose label or wait is out of its range */
+    SHOW_WAITS_OUT_OF_ORDER = 17  /* place: the first line of the wait file whose label is not above the one before */
 };
 
 /* The number and the place of what a function returned. */
@@ -117,6 +121,9 @@ static inline const char *show_refusal_text(uint32_t refusal) {
     case SHOW_NO_SUCH_CUE: return "the show has no cue of this number";
     case SHOW_NO_SUCH_PATH: return "no copy has this path, or its block has no such own cue";
     case SHOW_NO_SUCH_LINK: return "no link leads from the one cue to the other";
+    case SHOW_BAD_WAIT_LINE: return "the line of the wait file is not two values, or the first is not label,wait";
+    case SHOW_WAIT_OUT_OF_RANGE: return "a label or a wait of the wait file is out of its range";
+    case SHOW_WAITS_OUT_OF_ORDER: return "the labels of the wait file do not rise";
     default: return "an unknown refusal";
     }
 }
@@ -205,6 +212,25 @@ SHOW_NODISCARD uint64_t show_list_in(const uint32_t *rows, size_t rows_len, uint
  *              found took 78 ms. Stack: 21 kB. */
 SHOW_NODISCARD uint64_t show_fewest(const uint32_t *rows, size_t rows_len, uint32_t s, uint32_t t, uint32_t *work, size_t work_len,
                                     uint32_t *given, size_t given_len);
+
+/* The quickest way from cue s to cue t, where each link waits as long as the wait file says for its label.
+ *   given      1 and the smallest sum of waits over all chains from s to t, in tenths of a second, its lower 32 bits and then its
+ *              upper ones; 0, 0 and 0 if no chain leads from s to t, which is so exactly where show_fewest finds none.
+ *              The sum is (uint64_t)given[2] << 32 | given[1]; it is 0 where s is t.
+ *   waits      the wait file: the line `label,wait`, then a line for each label that waits, its label of 1 to SHOW_MAX_FOLLOWED and
+ *              its wait of 0 to SHOW_MAX_WAIT tenths, as "1,10\n2,25\n". Labels rise from line to line. Values, commas and line
+ *              feeds are as in a show file, and the last line has its line feed too. A label without a line waits 0; notes have no
+ *              wait and are not followed. The file may have any length: refusals 1 to 3 are for show files only.
+ *   work       at least SHOW_WORK_LEN 64-bit numbers; what stands there does not matter. After an answer the first SHOW_WORK_LEN of
+ *              them are 0, and the others are as they were.
+ *   Refusals   4, 5 to 10 with rows as places, 11 for work or given, 12 for s or t, then those of the wait file, also where s is t:
+ *              15 with the first line that is not two values (1 where the first line is not the names), 16 with the first line
+ *              whose label or wait is out of its range, 17 with the first line whose label is not above that of the line before.
+ *              Each of these goes over the whole file before the next. Lines are counted from 1; one from 4294967295 on is told
+ *              as 4294967295.
+ *   Cost       as show_fewest or twice that, and some 1 ns a byte of the wait file. Stack: 27 kB. */
+SHOW_NODISCARD uint64_t show_quickest(const uint32_t *rows, size_t rows_len, uint32_t s, uint32_t t, const uint8_t *waits,
+                                      size_t waits_len, uint64_t *work, size_t work_len, uint32_t *given, size_t given_len);
 
 /* The row behind a follow-on that a list shows: a link row that joins cue s to cue t, and the copy of its block in which it does.
  *   given      row (from 1), depth of that copy. In a file that was read with show_read it is line row + 1; with show_read_desk, line

@@ -1,5 +1,5 @@
 /* What include/show.h says beside the answers: constants, texts, lists of length 0 at NULL, pages of length 0, what a refusal leaves,
- * the blocks of the desk.
+ * the blocks of the desk, wait files.
  * Ends with a line 'N passed, M failed'. */
 #include "show.h"
 
@@ -23,9 +23,12 @@ static const char text[] = "block,kind,label,a,b,c,d,e,f,g,h\n0,0,0,2,0,0,0,0,0,
 /* Two own cues with the desk's last block between them. */
 static const char desk_text[] = "block,kind,label,a,b,c,d,e,f,g,h\n16,0,0,2,0,0,0,0,0,0,0\n16,2,15,1,2,0,0,0,0,0,0\n";
 enum { MANY = sizeof rows / sizeof rows[0], LENGTH = sizeof text - 1, DESK_LENGTH = sizeof desk_text - 1 };
+static const uint8_t names[] = "label,wait\n";
+enum { NAMES = sizeof names - 1 };
 enum { DESK_MANY = (SHOW_DESK_ROWS + 2) * SHOW_ROW_LEN };
 static uint32_t given[SHOW_GIVEN_LEN], numbers[SHOW_WORK_LEN], desk_rows[SHOW_ROWS_LEN], again[SHOW_ROWS_LEN];
 static uint8_t out[SHOW_MAX_FILE];
+static uint64_t wide[SHOW_WORK_LEN + 1];
 
 static uint64_t code(uint32_t refusal, uint32_t place) { return (uint64_t)refusal << 32 | place; }
 
@@ -33,14 +36,18 @@ static uint64_t read_desk(const char *file, size_t length, uint32_t *to, size_t 
     return show_read_desk((const uint8_t *)file, length, to, many, values, count);
 }
 
+static uint64_t quickest(uint32_t s, uint32_t t, const char *waits, uint64_t *work, size_t count) {
+    return show_quickest(rows, MANY, s, t, (const uint8_t *)waits, strlen(waits), work, count, given, SHOW_GIVEN_LEN);
+}
+
 /* The texts of all refusals are there, in one line each, and no two are the same. */
 static void texts(void) {
-    for (uint32_t one = 0; one <= SHOW_NO_SUCH_LINK + 1; one++) {
+    for (uint32_t one = 0; one <= SHOW_WAITS_OUT_OF_ORDER + 1; one++) {
         const char *said = show_refusal_text(one);
         tell(strlen(said) > 7 && strchr(said, '\n') == NULL, "a refusal has a text of one line");
         for (uint32_t other = 0; other < one; other++) tell(strcmp(said, show_refusal_text(other)) != 0, "texts differ");
     }
-    tell(strcmp(show_refusal_text(SHOW_NO_SUCH_LINK + 1), show_refusal_text(UINT32_MAX)) == 0, "any number has a text");
+    tell(strcmp(show_refusal_text(SHOW_WAITS_OUT_OF_ORDER + 1), show_refusal_text(UINT32_MAX)) == 0, "any number has a text");
     tell(show_refusal(code(13, 4)) == 13 && show_place(code(13, 4)) == 4, "a refusal is taken apart");
 }
 
@@ -76,6 +83,13 @@ static void nulls(void) {
     tell(show_row(NULL, 0, 1, 2, numbers, SHOW_PATH_LEN, given, SHOW_GIVEN_LEN) == code(SHOW_BAD_ROW_COUNT, 0), "row, no rows");
     tell(show_row(rows, MANY, 1, 2, NULL, 0, given, SHOW_GIVEN_LEN) == code(SHOW_TOO_SHORT, 0), "row, no path");
     tell(show_row(rows, MANY, 1, 2, numbers, SHOW_PATH_LEN, NULL, 0) == code(SHOW_TOO_SHORT, 0), "row, no given");
+    tell(show_quickest(NULL, 0, 1, 2, names, NAMES, wide, SHOW_WORK_LEN, given, SHOW_GIVEN_LEN) == code(SHOW_BAD_ROW_COUNT, 0),
+         "quickest, no rows");
+    tell(show_quickest(rows, MANY, 1, 2, NULL, 0, wide, SHOW_WORK_LEN, given, SHOW_GIVEN_LEN) == code(SHOW_BAD_WAIT_LINE, 1),
+         "quickest, no wait file");
+    tell(show_quickest(rows, MANY, 1, 2, names, NAMES, NULL, 0, given, SHOW_GIVEN_LEN) == code(SHOW_TOO_SHORT, 0), "quickest, no work area");
+    tell(show_quickest(rows, MANY, 1, 2, names, NAMES, wide, SHOW_WORK_LEN, NULL, 0) == code(SHOW_TOO_SHORT, 0), "quickest, no given");
+    tell(show_quickest(NULL, 0, 1, 2, NULL, 0, NULL, 0, NULL, 0) == code(SHOW_BAD_ROW_COUNT, 0), "quickest, nothing");
 }
 
 typedef uint64_t list(const uint32_t *, size_t, uint32_t, uint32_t, uint32_t *, size_t, uint32_t *, size_t);
@@ -119,6 +133,50 @@ static void notes(void) {
     tell(show_fewest(noted, MANY, 1, 2, numbers, SHOW_WORK_LEN, given, SHOW_GIVEN_LEN) == 0 && !given[0] && !given[1], "no chain there");
     tell(show_list_out(noted, MANY, 1, 0, numbers, 1, given, SHOW_GIVEN_LEN) == 0 && given[0] == 1 && numbers[0] == 2, "a list has it");
     tell(show_row(noted, MANY, 1, 2, numbers, SHOW_PATH_LEN, given, SHOW_GIVEN_LEN) == 0 && given[0] == 2, "a note has a row");
+}
+
+/* What stands in the work area: from 7 on, rising, with something in both halves. */
+static void fill(void) {
+    for (size_t place = 0; place <= SHOW_WORK_LEN; place++) wide[place] = (uint64_t)place << 32 | (place + 7);
+}
+
+static int filled(void) {
+    size_t place = 0;
+    while (place <= SHOW_WORK_LEN && wide[place] == ((uint64_t)place << 32 | (place + 7))) place++;
+    return place > SHOW_WORK_LEN;
+}
+
+/* The wait of label 7 is the way from cue 1 to cue 2. An answer leaves zeros in the work area and nothing else in it changed. */
+static void waits(void) {
+    size_t zeros = 0;
+    fill();
+    tell(quickest(1, 2, "label,wait\n7,25\n", wide, SHOW_WORK_LEN + 1) == 0 && given[0] == 1 && given[1] == 25 && !given[2], "25 tenths");
+    while (zeros < SHOW_WORK_LEN && wide[zeros] == 0) zeros++;
+    tell(zeros == SHOW_WORK_LEN && wide[zeros] == ((uint64_t)zeros << 32 | (zeros + 7)), "zeros, and behind them what was there");
+    tell(quickest(1, 2, "label,wait\n7,6000\n", wide, SHOW_WORK_LEN) == 0 && given[1] == SHOW_MAX_WAIT, "the longest wait");
+    tell(quickest(1, 2, "label,wait\n00007,00000\n", wide, SHOW_WORK_LEN) == 0 && given[0] == 1 && given[1] == 0, "a wait of 0");
+    tell(quickest(1, 2, "label,wait\n6,9\n8,9\n", wide, SHOW_WORK_LEN) == 0 && given[0] == 1 && given[1] == 0, "a label without a line");
+    tell(quickest(2, 1, "label,wait\n7,25\n", wide, SHOW_WORK_LEN) == 0 && !given[0] && !given[1] && !given[2], "no way back");
+    tell(quickest(2, 2, "label,wait\n7,25\n", wide, SHOW_WORK_LEN) == 0 && given[0] == 1 && !given[1] && !given[2], "from a cue to itself");
+}
+
+/* What is refused of a wait file, in the order of the checks, changes nothing; so does what comes before it. */
+static void waits_refused(void) {
+    fill();
+    given[0] = 98, given[1] = 97, given[2] = 96;
+    tell(quickest(1, 2, "label,waits\n", wide, SHOW_WORK_LEN) == code(SHOW_BAD_WAIT_LINE, 1), "other names");
+    tell(quickest(2, 2, "label,wait\n7,25", wide, SHOW_WORK_LEN) == code(SHOW_BAD_WAIT_LINE, 2), "no line feed, from a cue to itself");
+    tell(quickest(1, 2, "label,wait\n7,6001\n7,1\n7\n", wide, SHOW_WORK_LEN) == code(SHOW_BAD_WAIT_LINE, 4), "malformed first");
+    tell(quickest(1, 2, "label,wait\n7,1\n7,1\n7,6001\n", wide, SHOW_WORK_LEN) == code(SHOW_WAIT_OUT_OF_RANGE, 4), "then out of range");
+    tell(quickest(1, 2, "label,wait\n0,1\n", wide, SHOW_WORK_LEN) == code(SHOW_WAIT_OUT_OF_RANGE, 2), "label 0");
+    tell(quickest(1, 2, "label,wait\n255,1\n", wide, SHOW_WORK_LEN) == code(SHOW_WAIT_OUT_OF_RANGE, 2), "the label of a note");
+    tell(quickest(1, 2, "label,wait\n7,1\n7,1\n", wide, SHOW_WORK_LEN) == code(SHOW_WAITS_OUT_OF_ORDER, 3), "then out of order");
+    tell(quickest(1, 3, "", wide, SHOW_WORK_LEN) == code(SHOW_NO_SUCH_CUE, 0), "no cue before the wait file");
+    tell(quickest(0, 3, "", wide, SHOW_WORK_LEN - 1) == code(SHOW_TOO_SHORT, 0), "short before no cue");
+    tell(show_quickest(rows, MANY, 1, 2, names, NAMES, wide, SHOW_WORK_LEN, given, SHOW_GIVEN_LEN - 1) == code(SHOW_TOO_SHORT, 0),
+         "quickest, given less 1");
+    tell(show_quickest(rows, MANY - 1, 0, 3, NULL, 0, wide, 0, given, 0) == code(SHOW_BAD_ROW_COUNT, 0), "rows before all of it");
+    tell(filled() && given[0] == 98 && given[1] == 97 && given[2] == 96, "a refused wait file changes nothing");
 }
 
 /* The desk's last block is a run of as many own cues as there are blocks of the desk, behind the file's first cue. */
@@ -172,6 +230,8 @@ static void sizes(void) {
     tell(show_row(rows, MANY, 1, 2, numbers, SHOW_PATH_LEN - 1, given, SHOW_GIVEN_LEN) == code(SHOW_TOO_SHORT, 0), "row, path less 1");
     tell(show_row(rows, MANY, 1, 2, numbers, SHOW_PATH_LEN, given, SHOW_GIVEN_LEN - 1) == code(SHOW_TOO_SHORT, 0), "row, given less 1");
     tell(show_count(rows, MANY, given, SHOW_GIVEN_LEN - 1) == code(SHOW_TOO_SHORT, 0), "given less 1");
+    tell(quickest(1, 2, "label,wait\n", wide, SHOW_WORK_LEN) == 0, "a work area of 64-bit numbers is enough");
+    tell(quickest(1, 2, "label,wait\n", wide, SHOW_WORK_LEN - 1) == code(SHOW_TOO_SHORT, 0), "64-bit work less 1");
 }
 
 int main(void) {
@@ -182,6 +242,8 @@ int main(void) {
     pages(show_list_in, 2, 1);
     links();
     notes();
+    waits();
+    waits_refused();
     sizes();
     desk();
     whole();

@@ -9,18 +9,26 @@
 #include <sys/mman.h>
 #include <ucontext.h>
 
-enum { ROOM = SHOW_STACK_LEN + 64 * 1024, PATTERN = 0xA5, READ = 0, READ_DESK = 1, LOCATE = 4, ROW = 9, QUESTIONS = 10 };
+enum { ROOM = SHOW_STACK_LEN + 64 * 1024, PATTERN = 0xA5, READ = 0, READ_DESK = 1, LOCATE = 4, ROW = 9, QUESTIONS = 11, LINES = 254 };
 
 static uint8_t file[SHOW_MAX_FILE + 1], text[SHOW_MAX_FILE];
 static uint32_t rows[SHOW_ROWS_LEN], work[SHOW_WORK_LEN], page[4096], path[SHOW_PATH_LEN], given[SHOW_GIVEN_LEN];
-static size_t bytes, numbers, depth;
+static uint64_t wide[SHOW_WORK_LEN];
+static char waits[16 * LINES];
+static size_t bytes, numbers, depth, waits_len;
 static uint32_t cues, own;
 static int question;
 static uint64_t returned;
 static ucontext_t here, there;
 
-static const char *const names[QUESTIONS] = {"read",   "read_desk", "write",   "count",  "locate",
-                                            "number", "list_out",  "list_in", "fewest", "row"};
+static const char *const names[QUESTIONS] = {"read",     "read_desk", "write",  "count", "locate",  "number",
+                                            "list_out", "list_in",   "fewest", "row",   "quickest"};
+
+/* A wait file with a line for every label that is followed. */
+static void make_waits(void) {
+    waits_len = (size_t)sprintf(waits, "label,wait\n");
+    for (int label = 1; label <= LINES; label++) waits_len += (size_t)sprintf(waits + waits_len, "%d,%d\n", label, SHOW_MAX_WAIT - label);
+}
 
 static void ask(void) {
     switch (question) {
@@ -34,6 +42,9 @@ static void ask(void) {
     case 7: returned = show_list_in(rows, numbers, 1, 0, page, 4096, given, SHOW_GIVEN_LEN); break;
     case 8: returned = show_fewest(rows, numbers, 1, cues, work, SHOW_WORK_LEN, given, SHOW_GIVEN_LEN); break;
     case ROW: returned = show_row(rows, numbers, 1, cues, path, SHOW_PATH_LEN, given, SHOW_GIVEN_LEN); break;
+    case 10:
+        returned = show_quickest(rows, numbers, 1, cues, (const uint8_t *)waits, waits_len, wide, SHOW_WORK_LEN, given, SHOW_GIVEN_LEN);
+        break;
     }
 }
 
@@ -58,6 +69,7 @@ int main(int many, char **shows) {
     size_t most[QUESTIONS] = {0};
     unsigned passed = 0, failed = 0;
     int desk = 0;
+    make_waits();
     for (int show = 1; show < many; show++) {
         if (strcmp(shows[show], "--desk") == 0) {
             desk = 1;

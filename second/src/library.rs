@@ -82,7 +82,38 @@ pub fn row(rows: &[u32], s: u32, t: u32, path: &mut [u32], given: &mut [u32]) ->
     pair(show_sys::show_row, rows, (s, t), path, given)
 }
 
+pub fn quickest(
+    rows: &[u32],
+    s: u32,
+    t: u32,
+    waits: &[u8],
+    work: &mut [u64],
+    given: &mut [u32],
+) -> u64 {
+    let (rows, rows_len) = (rows.as_ptr(), rows.len());
+    let (waits, waits_len) = (waits.as_ptr(), waits.len());
+    let (work, work_len) = (work.as_mut_ptr(), work.len());
+    let (given, given_len) = (given.as_mut_ptr(), given.len());
+    unsafe {
+        show_sys::show_quickest(
+            rows, rows_len, s, t, waits, waits_len, work, work_len, given, given_len,
+        )
+    }
+}
+
 /// The library's functions.
 pub fn subject() -> Subject {
-    Subject { read, read_desk, write, count, locate, number, list_out, list_in, fewest, row }
+    Subject {
+        read,
+        read_desk,
+        write,
+        count,
+        locate,
+        number,
+        list_out,
+        list_in,
+        fewest,
+        row,
+        quickest,
+    }
 }

@@ -20,6 +20,7 @@ pub enum Question {
     List { outward: bool, v: u32, n: u32, room: usize },
     Fewest { s: u32, t: u32, room: usize },
     Row { s: u32, t: u32, room: usize },
+    Quickest { s: u32, t: u32, waits: Vec<u8>, room: usize },
 }
 
 impl Question {
@@ -31,7 +32,8 @@ impl Question {
             | Question::Locate { room, .. }
             | Question::List { room, .. }
             | Question::Fewest { room, .. }
-            | Question::Row { room, .. } => room,
+            | Question::Row { room, .. }
+            | Question::Quickest { room, .. } => room,
             Question::Count | Question::Number { .. } => 0,
         }
     }
@@ -44,7 +46,8 @@ impl Question {
             | Question::Locate { room, .. }
             | Question::List { room, .. }
             | Question::Fewest { room, .. }
-            | Question::Row { room, .. } => *room = length,
+            | Question::Row { room, .. }
+            | Question::Quickest { room, .. } => *room = length,
             Question::Count | Question::Number { .. } => {}
         }
         self
@@ -55,18 +58,21 @@ impl Question {
         match *self {
             Question::Locate { n, .. } => vec![n],
             Question::List { v, .. } => vec![v],
-            Question::Fewest { s, t, .. } | Question::Row { s, t, .. } => vec![s, t],
+            Question::Fewest { s, t, .. }
+            | Question::Row { s, t, .. }
+            | Question::Quickest { s, t, .. } => vec![s, t],
             _ => Vec::new(),
         }
     }
 }
 
-/// What an answer leaves behind: the first numbers of `given`, and the first numbers or
-/// bytes of the lent output.
+/// What an answer leaves behind: the first numbers of `given`, and the first numbers, of 32 or of
+/// 64 bits, or bytes of the lent output.
 #[derive(Clone, Debug, Default, PartialEq, Eq)]
 pub struct Answer {
     pub given: Vec<u32>,
     pub numbers: Vec<u32>,
+    pub wide: Vec<u64>,
     pub bytes: Vec<u8>,
 }
 

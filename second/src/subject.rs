@@ -11,6 +11,9 @@ type Number = fn(&[u32], &[u32], u32, &mut [u32]) -> u64;
 /// Lists, fewest and row: rows, two cue numbers, the lent page, work area or path list, given.
 pub type Pair = fn(&[u32], u32, u32, &mut [u32], &mut [u32]) -> u64;
 
+/// Quickest: rows, two cue numbers, the wait file, the lent work area, given.
+type Quickest = fn(&[u32], u32, u32, &[u8], &mut [u64], &mut [u32]) -> u64;
+
 /// The functions of an implementation, each in the shape of its C function.
 #[derive(Clone, Copy)]
 pub struct Subject {
@@ -24,6 +27,7 @@ pub struct Subject {
     pub list_in: Pair,
     pub fewest: Pair,
     pub row: Pair,
+    pub quickest: Quickest,
 }
 
 impl Subject {
@@ -37,7 +41,7 @@ impl Subject {
 
     /// Asks; nothing if the question is not one for this input.
     pub fn ask(&self, input: &Input, question: &Question, lent: &mut Lent) -> Option<u64> {
-        let Lent { numbers, bytes, given } = lent;
+        let Lent { numbers, wide, bytes, given } = lent;
         Some(match (input, question) {
             (Input::File(file), Question::Read { .. }) => (self.read)(file, numbers, given),
             (Input::Desk(file), Question::Read { .. }) => (self.read_desk)(file, numbers, given),
@@ -52,6 +56,9 @@ impl Subject {
                 }
                 Question::Fewest { s, t, .. } => (self.fewest)(rows, *s, *t, numbers, given),
                 Question::Row { s, t, .. } => (self.row)(rows, *s, *t, numbers, given),
+                Question::Quickest { s, t, waits, .. } => {
+                    (self.quickest)(rows, *s, *t, waits, wide, given)
+                }
             },
             _ => return None,
         })
@@ -61,6 +68,7 @@ impl Subject {
 /// The memory that a question may write to.
 pub struct Lent<'a> {
     pub numbers: &'a mut [u32],
+    pub wide: &'a mut [u64],
     pub bytes: &'a mut [u8],
     pub given: &'a mut [u32],
 }
@@ -68,7 +76,19 @@ pub struct Lent<'a> {
 /// The plain implementation.
 pub fn plain() -> Subject {
     use crate::plain::{
-        count, fewest, list_in, list_out, locate, number, read, read_desk, row, write,
+        count, fewest, list_in, list_out, locate, number, quickest, read, read_desk, row, write,
     };
-    Subject { read, read_desk, write, count, locate, number, list_out, list_in, fewest, row }
+    Subject {
+        read,
+        read_desk,
+        write,
+        count,
+        locate,
+        number,
+        list_out,
+        list_in,
+        fewest,
+        row,
+        quickest,
+    }
 }

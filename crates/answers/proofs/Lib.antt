@@ -3,4 +3,5 @@ pub mod Outcomes
 pub mod Answering
 pub mod Linked
 pub mod Distances
+pub mod Sums
 pub mod RowsBehind

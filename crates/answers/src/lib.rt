@@ -1,13 +1,14 @@
 // The answers to the questions about rows that were checked: each promise is an equation with the model's definition of the question, for
 // a loaded show.
 //
-// `read_in`, `write_rows`, `locate_in`, `number_in`, `list_of`, `row_in`, `fewest_in`.
+// `read_in`, `write_rows`, `locate_in`, `number_in`, `list_of`, `row_in`, `fewest_in`, `quickest_in`.
 use behind::RowAt;
 use blocks::INDEX;
 use model::FewestAnswer;
 use model::ListAnswer;
 use model::LocateAnswer;
 use model::NumberAnswer;
+use model::QuickestAnswer;
 use model::ReadAnswer;
 use model::Refusal;
 use model::RowAnswer;
@@ -16,18 +17,23 @@ use model::limits::MAX_DEPTH;
 use model::limits::NO_CHAIN;
 use model::limits::ROW_SIZE;
 use model::limits::WORK_SIZE;
+use quickest::NO_SUM;
+use waits::WAITS;
+use waits::WaitsRead;
 ghost use mathlib.Core.Path.{_≡_};
 ghost use Prim.Native.Nat.{_≤_, _<_};
 ghost use lib.ListN.{length};
 ghost use Rattle.model.specs.Limits.{maxDepth, workSize};
-ghost use Rattle.model.specs.Answers.{ofRead, ofWrite, ofLocate, ofNumber, ofList, ofRow, ofFewest};
+ghost use Rattle.model.specs.Answers.{ofRead, ofWrite, ofLocate, ofNumber, ofList, ofRow, ofFewest, ofQuickest};
 ghost use Rattle.model.specs.Rows.{rowsOf, fileText};
 ghost use Rattle.model.specs.Verdicts.{verdict};
 ghost use Rattle.model.specs.declared.Verdict.the-variants.{Accepted};
 ghost use Rattle.model.specs.Blocks.{blocksOf};
 ghost use Rattle.model.specs.Rules.{isCue};
 ghost use Rattle.model.specs.Behind.{behind};
-ghost use Rattle.model.specs.Questions.{outcome, readInto, writeInto, locateIn, numbered, showNumber, rowFound, rowIn, fewestIn};
+ghost use Rattle.model.specs.Questions.{outcome, readInto, writeInto, locateIn, numbered, showNumber, rowFound, rowIn, fewestIn, quickestUnder, quickestIn};
+ghost use Rattle.model.specs.Waits.{WaitTable, waitFile};
+ghost use Rattle.shows.specs.Waits.{AreWaits};
 ghost use Rattle.blocks.specs.Loaded.{Loaded};
 ghost use Rattle.behind.specs.Ways.{RowBehind};
 ghost use Rattle.answers.specs.Asked.{listOf, areCues, ShowCue, between};
@@ -263,4 +269,73 @@ pub fn fewest_in(
         });
     }
     least(rows, table, s, t, work)
+}
+
+// The quickest way between two cues of a loaded show, where labels wait so long. The work area is large enough.
+fn quickest_with(
+    rows: &[u32],
+    table: &[u32; INDEX],
+    s: u32,
+    t: u32,
+    waits: &[u32],
+    work: &mut [u64],
+) -> QuickestAnswer
+    requires { ⌜ Loaded (now rows) (now table) × ShowCue (now rows) s × ShowCue (now rows) t × AreWaits (now waits)
+        × (workSize ≤ length (now work)) ⌝ }
+    ensures { λ r. ⌜ outcome (ofQuickest r) (now (work .exit))
+        ≡ quickestUnder (WaitTable (now (waits .entry))) (blocksOf (now (rows .entry))) s t (now (work .entry)) ⌝ }
+{
+    let mut way_up = [0u32; MAX_DEPTH];
+    let from = paths::find(rows, table, s, &mut way_up);
+    let mut way_down = [0u32; MAX_DEPTH];
+    let to = paths::find(rows, table, t, &mut way_down);
+    let sum = quickest::quickest(rows, table, waits, from, &way_up, to, &way_down, work);
+    if sum < NO_SUM {
+        return QuickestAnswer::Tenths(sum);
+    }
+    QuickestAnswer::None
+}
+
+// The same under a wait file.
+fn quickest_under(
+    rows: &[u32],
+    table: &[u32; INDEX],
+    s: u32,
+    t: u32,
+    file: &[u8],
+    work: &mut [u64],
+) -> QuickestAnswer
+    requires { ⌜ Loaded (now rows) (now table) × ShowCue (now rows) s × ShowCue (now rows) t × (workSize ≤ length (now work)) ⌝ }
+    ensures { λ r. ⌜ outcome (ofQuickest r) (now (work .exit))
+        ≡ quickestUnder (waitFile (now (file .entry))) (blocksOf (now (rows .entry))) s t (now (work .entry)) ⌝ }
+{
+    let mut waits = [0u32; WAITS];
+    match waits::read(file, &mut waits) {
+        WaitsRead::Lawful => quickest_with(rows, table, s, t, &waits, work),
+        WaitsRead::Unfit(number, line) => QuickestAnswer::Refused(number, line),
+    }
+}
+
+// The quickest way from cue s to cue t of a loaded show, under a wait file.
+pub fn quickest_in(
+    rows: &[u32],
+    table: &[u32; INDEX],
+    s: u32,
+    t: u32,
+    file: &[u8],
+    work: &mut [u64],
+) -> QuickestAnswer
+    requires { ⌜ Loaded (now rows) (now table) ⌝ }
+    ensures { λ r. ⌜ outcome (ofQuickest r) (now (work .exit))
+        ≡ quickestIn (blocksOf (now (rows .entry))) s t (now (file .entry)) (now (work .entry)) ⌝ }
+{
+    let room = work.len();
+    if room < WORK_SIZE {
+        return QuickestAnswer::Refused(11, 0);
+    }
+    let known = are_cues(blocks::count(rows, table), s, t);
+    if !known {
+        return QuickestAnswer::Refused(12, 0);
+    }
+    quickest_under(rows, table, s, t, file, work)
 }

@@ -5,6 +5,7 @@ use model::FewestAnswer;
 use model::ListAnswer;
 use model::LocateAnswer;
 use model::NumberAnswer;
+use model::QuickestAnswer;
 use model::ReadAnswer;
 use model::Refusal;
 use model::RowAnswer;
@@ -75,6 +76,36 @@ fn fewest(rows: &[u32], s: u32, t: u32, work: &mut [u32]) -> Said {
         FewestAnswer::Steps(n) => given(1, n, 0),
         FewestAnswer::None => given(0, 0, 0),
         FewestAnswer::Refused(refusal) => refused(refusal),
+    }
+}
+
+// The lower and the upper half of a number of 64 bits; a line that has no room in 32 counts as the largest that has.
+fn low(x: u64) -> u32 {
+    (x % 4294967296) as u32
+}
+
+fn high(x: u64) -> u32 {
+    (x / 4294967296) as u32
+}
+
+fn narrow(line: u64) -> u32 {
+    if line < 4294967295 {
+        return low(line);
+    }
+    4294967295
+}
+
+// No chain is 0; a sum of waits is 1 and its halves.
+pub fn quickest(rows: &[u32], s: u32, t: u32, waits: &[u8], work: &mut [u64]) -> Said {
+    match show::quickest(rows, s, t, waits, work) {
+        QuickestAnswer::Tenths(n) => given(1, low(n), high(n)),
+        QuickestAnswer::None => given(0, 0, 0),
+        QuickestAnswer::Refused(number, place) => Said {
+            number: number,
+            first: narrow(place),
+            second: 0,
+            third: 0,
+        },
     }
 }
 

@@ -181,6 +181,50 @@ fn answers(
     answers_to(letter, file, rows, given, size, &mut list, want, content)
 }
 
+// What a work area of 64 bits must hold at a place, where so many of its numbers are 0.
+fn cleared_at(zeros: usize, i: usize) -> u64 {
+    if i < zeros {
+        return 0;
+    }
+    7
+}
+
+fn is_cleared(work: &[u64], zeros: usize) -> bool {
+    let mut i = 0;
+    while i < work.len() {
+        let expected = cleared_at(zeros, i);
+        if work[i] != expected {
+            return false;
+        }
+        i += 1;
+    }
+    true
+}
+
+// An answer leaves 16,384 zeros, a refusal none.
+fn zeros_left(want: &[u32]) -> usize {
+    if text::get(want, 0) == 0 {
+        return 16384;
+    }
+    0
+}
+
+fn times_to(rows: &[u32], s: u32, t: u32, waits: &[u8], work: &mut [u64], want: &[u32]) -> bool {
+    let said = asking::quickest(rows, s, t, waits, work);
+    let right = agrees(said, want);
+    if !right {
+        return false;
+    }
+    is_cleared(work, zeros_left(want))
+}
+
+// The quickest way under a wait file, with a work area of this size, is what is wanted.
+pub fn is_timed(rows: &[u32], s: u32, t: u32, waits: &[u8], size: u32, want: &[u32]) -> bool {
+    let mut work = [7u64; 16400];
+    let end = least(wide(size), work.len());
+    times_to(rows, s, t, waits, &mut work[0..end], want)
+}
+
 // The question with this letter about the show, given its numbers and a lent list of this size, gives what is wanted.
 pub fn is_right(
     letter: u8,

@@ -4,6 +4,7 @@
 // its bytes are lent as a file, and how many of its numbers as rows. Where there is no name, the show stands below, up to the first
 // case, which has no name. Each other line is a case, with | between its parts: its name, the question, what it is given, the size of
 // the lent list, the answer, and what the list begins with afterwards. An answer is 0 and what it gives, or a refusal and its place.
+// The quickest way is given a wait file behind the two cues, a semicolon for each of its line feeds; its work area must be cleared.
 // A case with no name counts with the next one that has a name, and the content = is that of the case before.
 use crate::judging;
 use crate::judging::least;
@@ -170,6 +171,18 @@ fn single(text: &[u8], from: usize, to: usize) -> u32 {
     list[0]
 }
 
+// The case of the quickest way.
+fn is_timed(text: &[u8], fields: Fields, rows: &[u32], size: u32, want: &[u32]) -> bool {
+    let second = text::after(text::seek(text, fields.given, b' '));
+    let third = text::after(text::seek(text, second, b' '));
+    let mut waits = [0u8; 4096];
+    let many = text::copy(text, third, b'|', &mut waits);
+    let end = least(many, waits.len());
+    let s = single(text, fields.given, second);
+    let t = single(text, second, third);
+    judging::is_timed(rows, s, t, &waits[0..end], size, want)
+}
+
 // The case of these fields. What the question is given goes to a lent list.
 fn is_given(
     text: &[u8],
@@ -183,6 +196,9 @@ fn is_given(
     let size = single(text, fields.size, fields.answer);
     let mut want = [0u32; 4];
     text::numbers(text, fields.answer, fields.content, &mut want);
+    if letter == b'q' {
+        return is_timed(text, fields, rows, size, &want);
+    }
     let many = text::numbers(text, fields.given, fields.size, given);
     let end = least(many, given.len());
     judging::is_right(letter, file, rows, &given[0..end], size, &want, content)

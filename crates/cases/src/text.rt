@@ -43,7 +43,15 @@ pub fn sum(a: usize, b: usize) -> usize {
     a
 }
 
-// Copies the text from here on up to the mark, as far as there is room: how many bytes.
+// A byte of a file that is copied: a semicolon stands for a line feed.
+fn fed(b: u8) -> u8 {
+    if b == b';' {
+        return b'\n';
+    }
+    b
+}
+
+// Copies the text from here on up to the mark, with a line feed for each semicolon, as far as there is room: how many bytes.
 pub fn copy(text: &[u8], from: usize, mark: u8, file: &mut [u8]) -> usize {
     let mut i = from;
     let mut n = 0;
@@ -54,7 +62,7 @@ pub fn copy(text: &[u8], from: usize, mark: u8, file: &mut [u8]) -> usize {
         if text[i] == mark {
             return n;
         }
-        file[n] = text[i];
+        file[n] = fed(text[i]);
         n += 1;
         i += 1;
     }

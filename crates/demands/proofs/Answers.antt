@@ -24,15 +24,15 @@ use Rattle.model.specs.declared.RowAnswer.{RowAnswer}
 use Rattle.model.specs.declared.RowAnswer.the-variants.{Row, Refused as Untraced}
 
 -- Refusals that are returned alike are one refusal, values that are given alike are the same, and a refusal has no values.
-same-refusal : (p q : Refusal) → returned p ≡ returned q → p ≡ q
+pub same-refusal : (p q : Refusal) → returned p ≡ returned q → p ≡ q
 unfolding returned refusal
 same-refusal p q e = ap₂ refusal (ap (λ (x : Returned). x .number) e) (ap (λ (x : Returned). x .place) e)
 
-same-value : (vs ws : List ℕ) → given vs ≡ given ws → (i : ℕ) → getD vs i 0 ≡ getD ws i 0
+pub same-value : (vs ws : List ℕ) → given vs ≡ given ws → (i : ℕ) → getD vs i 0 ≡ getD ws i 0
 unfolding given
 same-value vs ws e i = ap (λ (x : Returned). getD (x .values) i 0) e
 
-no-values : (vs : List ℕ) (q : Refusal) → 1 ≤ length vs → given vs ≡ returned q → ⊥
+pub no-values : (vs : List ℕ) (q : Refusal) → 1 ≤ length vs → given vs ≡ returned q → ⊥
 unfolding given returned
 no-values vs q h e = let k = ap (λ (x : Returned). length (x .values)) e in omega arith
 

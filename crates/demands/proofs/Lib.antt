@@ -2,6 +2,7 @@
 pub mod Answers
 pub mod Buffers
 pub mod Outcomes
+pub mod Answered
 -- which rows are a show, and which refusal is given
 pub mod Tests
 pub mod Columns
@@ -36,6 +37,7 @@ pub mod Standing
 pub mod Replacement
 pub mod RingSteps
 pub mod Apart
+pub mod SumsApart
 pub mod Ring
 -- numbers and paths
 pub mod NumberOrder
@@ -55,6 +57,17 @@ pub mod RowBehind
 pub mod WorkArea
 pub mod Shortest
 pub mod Notes
+-- wait files, the label's wait in each, chains with their sums, the quickest way
+pub mod WaitTexts
+pub mod WaitLines
+pub mod Waits
+pub mod LabelWaits
+pub mod WaitFiles
+pub mod WaitCases
+pub mod Sums
+pub mod Quickest
+pub mod QuickestAsked
+pub mod Askable
 -- what is printed
 pub mod NumberTexts
 pub mod Triples

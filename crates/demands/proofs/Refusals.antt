@@ -9,12 +9,13 @@ use lib.ListN.{length}
 use Rattle.model.specs.Rules.{isCue}
 use Rattle.model.specs.Blocks.{blocksOf, count}
 use Rattle.model.specs.Behind.{Behind, Stands, Missing, behind}
+use Rattle.model.specs.Waits.{WaitFile, waitFile}
 use Rattle.model.specs.Verdicts.{refusal, verdict}
-use Rattle.model.specs.Answers.{Returned, given, returned, ofWrite, ofCount, ofLocate, ofNumber, ofList, ofRow, ofFewest}
+use Rattle.model.specs.Answers.{Returned, given, returned, ofWrite, ofCount, ofLocate, ofNumber, ofList, ofRow, ofFewest, ofQuickest}
 use Rattle.model.specs.Questions.{Outcome, outcome, refuse, answer, onAccepted, withRoom, withCue, writeInto, writeAsked, countAsked}
 use Rattle.model.specs.Questions.{located, locateIn, locateAsked, numbered, numberAsked}
-use Rattle.model.specs.Questions.{listed, listIn, outAsked, inAsked, rowFound, rowIn, rowAsked, fewestIn, fewestAsked}
-use Rattle.model.specs.Asking.{AsksWrite, AsksCount, AsksLocate, AsksNumber, AsksOut, AsksIn, AsksRow, AsksFewest}
+use Rattle.model.specs.Questions.{listed, listIn, outAsked, inAsked, rowFound, rowIn, rowAsked, fewestIn, fewestAsked, quickestUnder, quickestIn, quickestAsked}
+use Rattle.model.specs.Asking.{AsksWrite, AsksCount, AsksLocate, AsksNumber, AsksOut, AsksIn, AsksRow, AsksFewest, AsksQuickest}
 use Rattle.model.specs.declared.Refusal.{Refusal}
 use Rattle.model.specs.declared.Verdict.{Verdict}
 use Rattle.model.specs.declared.Verdict.the-variants.{Accepted, Refused}
@@ -25,6 +26,7 @@ use Rattle.model.specs.declared.NumberAnswer.{NumberAnswer}
 use Rattle.model.specs.declared.ListAnswer.{ListAnswer}
 use Rattle.model.specs.declared.RowAnswer.{RowAnswer}
 use Rattle.model.specs.declared.FewestAnswer.{FewestAnswer}
+use Rattle.model.specs.declared.QuickestAnswer.{QuickestAnswer}
 use Rattle.basics.proofs.Choices.{lt-then, lt-else, eq-then, eq-else}
 use Rattle.shows.proofs.Outcomes.{has-room, no-room, has-cue, no-cue}
 use Rattle.demands.specs.Acceptance.{Lawful, ChecksRows}
@@ -34,6 +36,7 @@ use Rattle.demands.proofs.Stages.{numbers}
 use Rattle.demands.proofs.Acceptance.{accepted-exactly, refused-is, checks-rows}
 use Rattle.demands.proofs.Padding.{text-is}
 use Rattle.demands.proofs.Writing.{says}
+use Rattle.demands.proofs.Waits.{Outcome as Says, broken, outside, fallen, lawful, wait-file}
 
 -- Whether a cue is one of the show's,
 cue-known : (xs : List ℕ) (n : ℕ) → Dec (NoCue xs n)
@@ -51,7 +54,7 @@ module _ (xs : List ℕ) (n : ℕ) (lent : List ℕ) (o : Outcome) where
   lacks-cue (inl z) = no-cue _ _ _ _ (lt-then _ _ _ _ (omega arith))
   lacks-cue (inr h) = no-cue _ _ _ _ (lt-else _ _ _ _ (omega arith) ∙ lt-then _ _ _ _ h)
 
-  holds-cue : (NoCue xs n → ⊥) → withCue (blocksOf xs) n lent o ≡ o
+  pub holds-cue : (NoCue xs n → ⊥) → withCue (blocksOf xs) n lent o ≡ o
   holds-cue k =
       let a : n ≡ 0 → ⊥ = λ z. k (inl z) in
       let b : count (blocksOf xs) < n → ⊥ = λ h. k (inr h) in
@@ -68,13 +71,13 @@ fewer-wrong xs n cues h (m, i, k) = go (List·Memᴰ·cases-cons i)
     go (inl e) = absurd (h (rw e at k))
     go (inr j) = (m, j, k)
 
--- What a question comes to for rows that keep the rules: an answer, or the refusal that is due, with place 0.
+-- What a question comes to for rows that keep the rules: an answer, or the refusal that is due; up to 14 its place is 0.
 record Comes (xs : List ℕ) (Short : Type 0) (cues later lent : List ℕ) (o : Outcome) : Type 0 where
   outside : (o .answer .number ≡ 0) ⊎ (10 < o .answer .number)
   no-room : (o .answer .number ≡ 11) ↔ Short
   no-cue : (o .answer .number ≡ 12) ↔ ((Short → ⊥) × SomeNoCue xs cues)
   no-other : 12 < o .answer .number → List·Memᴰ (o .answer .number) later
-  place : o .answer .place ≡ 0
+  place : o .answer .number < 15 → o .answer .place ≡ 0
   unchanged : 1 ≤ o .answer .number → o .after ≡ lent
 
 module _ {xs : List ℕ} {Short : Type 0} {cues later lent : List ℕ} where
@@ -86,24 +89,24 @@ module _ {xs : List ℕ} {Short : Type 0} {cues later lent : List ℕ} where
         no-room = (λ n. absurd (omega arith), λ s. absurd (room s));
         no-cue = (λ n. absurd (omega arith), λ (_, w). absurd (known w));
         no-other = λ n. absurd (omega arith);
-        place = refl;
+        place = λ _. refl;
         unchanged = λ n. absurd (omega arith);
       }
 
-  refuses : (n : ℕ) → 10 < n → (n ≡ 11) ↔ Short → (n ≡ 12) ↔ ((Short → ⊥) × SomeNoCue xs cues) → (12 < n → List·Memᴰ n later)
-      → Comes xs Short cues later lent (refuse (refusal n 0) lent)
+  refuses : (n p : ℕ) → (n < 15 → p ≡ 0) → 10 < n → (n ≡ 11) ↔ Short → (n ≡ 12) ↔ ((Short → ⊥) × SomeNoCue xs cues) → (12 < n → List·Memᴰ n later)
+      → Comes xs Short cues later lent (refuse (refusal n p) lent)
   unfolding refuse returned refusal
-  refuses n h room cue other =
-      record { outside = inr h; no-room = room; no-cue = cue; no-other = other; place = refl; unchanged = λ _. refl }
+  refuses n p at h room cue other =
+      record { outside = inr h; no-room = room; no-cue = cue; no-other = other; place = at; unchanged = λ _. refl }
 
-  refuses-later : (n : ℕ) → 12 < n → List·Memᴰ n later → (Short → ⊥) → (SomeNoCue xs cues → ⊥)
-      → Comes xs Short cues later lent (refuse (refusal n 0) lent)
-  refuses-later n h i room known =
-      refuses n (omega arith) (λ e. absurd (omega arith), λ s. absurd (room s)) (λ e. absurd (omega arith), λ (_, w). absurd (known w)) (λ _. i)
+  refuses-later : (n p : ℕ) → (n < 15 → p ≡ 0) → 12 < n → List·Memᴰ n later → (Short → ⊥) → (SomeNoCue xs cues → ⊥)
+      → Comes xs Short cues later lent (refuse (refusal n p) lent)
+  refuses-later n p at h i room known =
+      refuses n p at (omega arith) (λ e. absurd (omega arith), λ s. absurd (room s)) (λ e. absurd (omega arith), λ (_, w). absurd (known w)) (λ _. i)
 
   refuse-cue : (Short → ⊥) → SomeNoCue xs cues → Comes xs Short cues later lent (refuse (refusal 12 0) lent)
   refuse-cue room wrong =
-      refuses 12 (omega arith) (λ n. absurd (omega arith), λ s. absurd (room s)) (λ _. (room, wrong), λ _. refl) (λ n. absurd (omega arith))
+      refuses 12 0 (λ _. refl) (omega arith) (λ n. absurd (omega arith), λ s. absurd (room s)) (λ _. (room, wrong), λ _. refl) (λ n. absurd (omega arith))
 
   -- The room comes first,
   with-room : {need : ℕ} {o : Outcome} → Short ↔ (length lent < need) → ((Short → ⊥) → Comes xs Short cues later lent o)
@@ -114,7 +117,7 @@ module _ {xs : List ℕ} {Short : Type 0} {cues later lent : List ℕ} where
       go (yes h) =
           let s = short .1 h in
           rw (no-room need lent o h)
-          (refuses 11 (omega arith) (λ _. s, λ _. refl) (λ n. absurd (omega arith), λ (room, _). absurd (room s)) (λ n. absurd (omega arith)))
+          (refuses 11 0 (λ _. refl) (omega arith) (λ _. s, λ _. refl) (λ n. absurd (omega arith), λ (room, _). absurd (room s)) (λ n. absurd (omega arith)))
       go (no h) = rw (has-room need lent o (omega arith)) (c (λ s. h (short .0 s)))
 
 -- then each cue.
@@ -210,7 +213,7 @@ locate-refuses xs n lent after r e = asked e (λ _. with-room (λ h. h, λ h. h)
 -- 13 where there is no such cue.
 number-comes : (xs : List ℕ) (n : ℕ) → Dec (n ≡ 0) → Comes xs ⊥ [] (13 ∷ []) [] (outcome (numbered n) [])
 unfolding numbered answer refuse
-number-comes xs n (yes z) = rw (eq-then _ _ _ _ z) (refuses-later 13 (omega arith) (List·Memᴰ·head refl) (λ s. s) (none-wrong xs))
+number-comes xs n (yes z) = rw (eq-then _ _ _ _ z) (refuses-later 13 0 (λ _. refl) (omega arith) (List·Memᴰ·head refl) (λ s. s) (none-wrong xs))
 number-comes xs n (no z) = rw (eq-else _ _ _ _ z) (answers _ _ (λ s. s) (none-wrong xs))
 
 pub number-refuses : (xs path : List ℕ) (c : ℕ) (r : NumberAnswer) → AsksNumber xs path c r → Refuses xs ⊥ [] (13 ∷ []) [] (ofNumber r) []
@@ -231,7 +234,7 @@ in-refuses xs v n page after r e = asked e (λ _. with-cue (λ h. omega arith) (
 row-comes : (xs lent : List ℕ) (b : Behind) → (TooShort 127 lent → ⊥) → Comes xs (TooShort 127 lent) [] (14 ∷ []) lent (rowFound b lent)
 unfolding rowFound
 row-comes xs lent (Stands o) room = answers _ _ room (none-wrong xs)
-row-comes xs lent Missing room = refuses-later 14 (omega arith) (List·Memᴰ·head refl) room (none-wrong xs)
+row-comes xs lent Missing room = refuses-later 14 0 (λ _. refl) (omega arith) (List·Memᴰ·head refl) room (none-wrong xs)
 
 pub row-refuses : (xs : List ℕ) (s t : ℕ) (lent after : List ℕ) (r : RowAnswer) → AsksRow xs s t lent r after
     → Refuses xs (TooShort 127 lent) (s ∷ t ∷ []) (14 ∷ []) lent (ofRow r) after
@@ -244,3 +247,23 @@ pub fewest-refuses : (xs : List ℕ) (s t : ℕ) (work after : List ℕ) (r : Fe
 unfolding fewestAsked fewestIn
 fewest-refuses xs s t work after r e =
     asked e (λ _. with-room (λ h. h, λ h. h) (λ room. with-cue room (with-cue room (answers _ _ room (none-wrong xs)))))
+
+-- 15, 16 or 17 where the wait file has a fault.
+waits-come : (xs : List ℕ) (s t : ℕ) (f work : List ℕ) (w : WaitFile) → Says f w → (TooShort 16384 work → ⊥)
+    → Comes xs (TooShort 16384 work) [] (15 ∷ 16 ∷ 17 ∷ []) work (quickestUnder w (blocksOf xs) s t work)
+unfolding quickestUnder
+waits-come xs s t f work w (broken n e b) room =
+    rw e (refuses-later 15 n (λ h. omega arith) (omega arith) (List·Memᴰ·head refl) room (none-wrong xs))
+waits-come xs s t f work w (outside n vss e p b) room =
+    rw e (refuses-later 16 n (λ h. omega arith) (omega arith) (List·Memᴰ·tail (List·Memᴰ·head refl)) room (none-wrong xs))
+waits-come xs s t f work w (fallen n vss e p i b) room =
+    rw e (refuses-later 17 n (λ h. omega arith) (omega arith) (List·Memᴰ·tail (List·Memᴰ·tail (List·Memᴰ·head refl))) room (none-wrong xs))
+waits-come xs s t f work w (lawful vss e l) room = rw e (answers _ _ room (none-wrong xs))
+
+pub quickest-refuses : (xs : List ℕ) (s t : ℕ) (f work after : List ℕ) (r : QuickestAnswer) → AsksQuickest xs s t f work r after
+    → Refuses xs (TooShort 16384 work) (s ∷ t ∷ []) (15 ∷ 16 ∷ 17 ∷ []) work (ofQuickest r) after
+unfolding quickestAsked quickestIn
+quickest-refuses xs s t f work after r e =
+    asked e
+    (λ _. with-room (λ h. h, λ h. h)
+    (λ room. with-cue room (with-cue room (waits-come xs s t f work (waitFile f) (wait-file f (waitFile f) .0 refl) room))))

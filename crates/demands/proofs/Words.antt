@@ -10,7 +10,7 @@ use Rattle.model.specs.Text.{names, ends, valueThen, endedBy, valuesOf, intoFir
 use Rattle.model.specs.Rows.{Row, cell, rowAt, rowsFrom, rowCount, rowsOf}
 use Rattle.model.specs.Blocks.{lastBlock}
 use Rattle.model.specs.Verdicts.{refusal, rowThen, readLines, same, readAll, readFile}
-use Rattle.model.specs.Answers.{returned, given, flag, ofRead, ofWrite, ofCount, ofLocate, ofNumber, ofList, ofRow, ofFewest}
+use Rattle.model.specs.Answers.{returned, given, flag, ofRead, ofWrite, ofCount, ofLocate, ofNumber, ofList, ofRow, ofFewest, halves, ofQuickest}
 use Rattle.basics.proofs.Choices.{lt-then, lt-else, eq-then, eq-else}
 use Rattle.basics.proofs.Members.{getD-mem, mem-at, range-length, range-at}
 use Rattle.basics.specs.Members.{Each}
@@ -33,6 +33,7 @@ figures =
       own = refl;
       label = refl;
       followed-label = refl;
+      wait = refl;
       blocks = refl;
       bytes = refl;
       rows = refl;
@@ -176,7 +177,7 @@ unfolding ifLt ifEq ifTrue names ends isDigit run afterRun decimal isValue value
 file = file-reads countedFile _ .0 refl
 
 answers : AnswerWords
-unfolding refusal returned given flag ofRead ofWrite ofCount ofLocate ofNumber ofList ofRow ofFewest
+unfolding refusal returned given flag ofRead ofWrite ofCount ofLocate ofNumber ofList ofRow ofFewest halves ofQuickest
 answers =
     record {
       refusal-is = λ n p. (refl, refl);
@@ -199,6 +200,9 @@ answers =
       steps = λ n. (refl, refl, refl);
       no-chain = (refl, refl, refl);
       unsearched = λ q. refl;
+      tenths = λ n. (refl, refl, refl);
+      no-way = (refl, refl, refl);
+      untimed = λ number place. (refl, refl, refl);
     }
 
 pub words : Words

@@ -3,10 +3,9 @@ use Prim.Native.Nat.{ℕ, _+_, _*_, _-_, _≤_, _<_}
 use native.Mathlib.Omega.{arith}
 use mathlib.Core.Path.{_≡_, sym, _∙_, ap}
 use mathlib.Core.List.{List, _++_}
-use lib.ListN.{length, getD, drop, replicate, length-append, length-drop, length-replicate, getD-replicate, List·getD-append}
-use lib.Seq.{getD-append-add, getD-drop}
+use lib.ListN.{length, getD, replicate, length-append, length-replicate, getD-replicate, List·getD-append}
+use lib.Seq.{getD-append-add}
 use Rattle.model.specs.Blocks.{Block, joinsOf, blocksOf}
-use Rattle.model.specs.Lists.{overwrite}
 use Rattle.model.specs.Chains.{fewest}
 use Rattle.model.specs.Verdicts.{verdict}
 use Rattle.model.specs.Summaries.{Search, summaryBy, summariesBy, workBy, workAfter}
@@ -17,6 +16,7 @@ use Rattle.distances.proofs.Places.{summaries-at, summaries-length}
 use Rattle.demands.specs.Acceptance.{joinsIn}
 use Rattle.demands.specs.Notes.{followedInside}
 use Rattle.demands.specs.WorkArea.{blockNumbers, place, IsWorkArea}
+use Rattle.demands.proofs.Buffers.{leaves, over-first, over-beyond}
 use Rattle.demands.proofs.Blocks.{are-blocks}
 
 -- Where the numbers stand, whatever finds them.
@@ -41,8 +41,8 @@ module _ (find : Search) (xs work : List ℕ) (v : verdict xs ≡ Accepted) (roo
   written = omega (arith, few, length-append found zeros, summaries-length find bs, length-replicate {A = ℕ} (16384 - blockNumbers * length bs) 0)
 
   first : (p : ℕ) → p < 16384 → getD left p 0 ≡ getD (found ++ zeros) p 0
-  unfolding workBy overwrite
-  first p h = List·getD-append (found ++ zeros) (drop (length (found ++ zeros)) work) 0 p (omega (arith, written))
+  unfolding workBy
+  first p h = over-first (found ++ zeros) work p 0 (omega (arith, written))
 
   pub holds : (k i j : ℕ) → k < length bs → 1 ≤ i → i ≤ 8 → 1 ≤ j → j ≤ 8
       → getD left (place k i j) 0 ≡ summaryBy find bs k i j
@@ -60,17 +60,12 @@ module _ (find : Search) (xs work : List ℕ) (v : verdict xs ≡ Accepted) (roo
       ∙ getD-replicate (16384 - blockNumbers * length bs) (p - blockNumbers * length bs) 0 0 (omega arith)
 
   beyond : (p : ℕ) → 16384 ≤ p → getD left p 0 ≡ getD work p 0
-  unfolding workBy overwrite
-  beyond p h =
-      let e : length (found ++ zeros) + (p - 16384) ≡ p = omega (arith, written) in
-      ap (λ n. getD left n 0) (sym e)
-      ∙ getD-append-add (found ++ zeros) (drop (length (found ++ zeros)) work) (p - 16384) 0
-      ∙ getD-drop (length (found ++ zeros)) work (p - 16384) 0
-      ∙ ap (λ n. getD work n 0) e
+  unfolding workBy
+  beyond p h = over-beyond (found ++ zeros) work p 0 (omega (arith, written))
 
   size : length left ≡ length work
-  unfolding workBy overwrite
-  size = simp (length-append, length-drop) (omega (arith, few, summaries-length find bs, length-replicate {A = ℕ} (16384 - blockNumbers * length bs) 0))
+  unfolding workBy
+  size = leaves (found ++ zeros) work (omega (arith, written, room)) .size
 
 -- By the search for the fewest they are the lengths of shortest chains.
 module _ (xs work : List ℕ) (v : verdict xs ≡ Accepted) (room : 16384 ≤ length work) where

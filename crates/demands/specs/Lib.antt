@@ -15,4 +15,6 @@ pub mod Printed
 pub mod Fewest
 pub mod WorkArea
 pub mod Notes
+pub mod Waits
+pub mod Quickest
 pub mod Desk

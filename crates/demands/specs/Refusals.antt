@@ -22,7 +22,7 @@ abbrev pub SomeNoCue : List ℕ → List ℕ → Type 0
 SomeNoCue xs cues = (n : ℕ) × List·Memᴰ n cues × NoCue xs n
 
 -- A question about rows xs, asked about some cues, returned a; Short says that the lent list is too short; it held lent, and holds after. later has the
--- numbers above 12 that the question can return (13: `Numbers.IsNumber`; 14: `RowBehind.IsRowBehind`).
+-- numbers above 12 that the question can return (13: `Numbers.IsNumber`; 14: `RowBehind.IsRowBehind`; 15 to 17: `Quickest.QuickestExact`).
 pub record Refuses (xs : List ℕ) (Short : Type 0) (cues later lent : List ℕ) (a : Returned) (after : List ℕ) : Type 0 where
   -- "Checks run in this order": 4 to 10 are of the rows,
   pub rows : ChecksRows xs a
@@ -30,7 +30,14 @@ pub record Refuses (xs : List ℕ) (Short : Type 0) (cues later lent : List ℕ)
   pub no-room : (a .number ≡ 11) ↔ (Lawful xs × Short)
   pub no-cue : (a .number ≡ 12) ↔ (Lawful xs × (Short → ⊥) × SomeNoCue xs cues)
   pub no-other : 12 < a .number → List·Memᴰ (a .number) later
-  -- with place 0.
-  pub place : 10 < a .number → a .place ≡ 0
+  -- 11 to 14 with place 0.
+  pub place : 10 < a .number → a .number < 15 → a .place ≡ 0
   -- "A refusal leaves all lent memory unchanged."
   pub unchanged : 1 ≤ a .number → after ≡ lent
+
+-- A question, by what it promises of an answer and of what the lent list holds afterwards, has an answer. The other statements speak of answers only, and
+-- would say nothing where there is none.
+pub record HasAnswer {A : Type 0} (Asks : A → List ℕ → Type 0) : Type 0 where
+  pub answer : A
+  pub after : List ℕ
+  pub asks : Asks answer after

@@ -1,13 +1,13 @@
 -- The words that these pages share with the model and its laws, by what they mean: figures, bytes, values, the text of a file, rows, choices, ranges, what
 -- rises, what each number of a list has, and the numbers that an answer has.
-use Prim.Native.Nat.{ℕ, _+_, _*_, _-_, _/_, _≤_, _<_}
+use Prim.Native.Nat.{ℕ, _+_, _*_, _-_, _/_, _%_, _≤_, _<_}
 use mathlib.Core.Path.{_≡_}
 use mathlib.Core.Bool.{true, false}
 use mathlib.Core.List.{List, [], _∷_, _++_, map}
 use mathlib.Core.Logic.{_↔_, _≢_}
 use lib.ListN.{length, getD}
 use Rattle.model.specs.Choice.{ifLt, ifEq}
-use Rattle.model.specs.Limits.{rowSize, maxValue, maxDigits, maxJoins, maxOwn, maxLabel, maxFollowed, maxBlocks, maxBytes, maxRows, deskRows, deskBlocks}
+use Rattle.model.specs.Limits.{rowSize, maxValue, maxDigits, maxJoins, maxOwn, maxLabel, maxFollowed, maxWait, maxBlocks, maxBytes, maxRows, deskRows, deskBlocks}
 use Rattle.model.specs.Limits.{maxTotal, maxDepth, workSize, summarySize, summaryWidth, noChain, printedCues}
 use Rattle.model.specs.Values.{digitZero, decimal}
 use Rattle.model.specs.Text.{comma, lineFeed, names, ends}
@@ -15,7 +15,7 @@ use Rattle.model.specs.Rows.{rowCount, rowsOf}
 use Rattle.model.specs.Blocks.{Block, lastBlock}
 use Rattle.model.specs.Verdicts.{refusal}
 use Rattle.model.specs.Lists.{range}
-use Rattle.model.specs.Answers.{Returned, returned, ofRead, ofWrite, ofCount, ofLocate, ofNumber, ofList, ofRow, ofFewest}
+use Rattle.model.specs.Answers.{Returned, returned, ofRead, ofWrite, ofCount, ofLocate, ofNumber, ofList, ofRow, ofFewest, ofQuickest}
 use Rattle.model.specs.declared.Refusal.{Refusal}
 use Rattle.model.specs.declared.ReadAnswer.the-variants.{Read, Refused as Unread}
 use Rattle.model.specs.declared.WriteAnswer.the-variants.{Written, Refused as Unwritten}
@@ -25,6 +25,7 @@ use Rattle.model.specs.declared.NumberAnswer.the-variants.{Number, Refused as U
 use Rattle.model.specs.declared.ListAnswer.the-variants.{Page, Refused as Unlisted}
 use Rattle.model.specs.declared.RowAnswer.the-variants.{Row, Refused as Untraced}
 use Rattle.model.specs.declared.FewestAnswer.the-variants.{Steps, None, Refused as Unsearched}
+use Rattle.model.specs.declared.QuickestAnswer.the-variants.{Tenths, None as NoWay, Refused as Untimed}
 use Rattle.basics.specs.Members.{Each}
 use Rattle.basics.specs.Values.{SpellsValue}
 use Rattle.shows.specs.Lists.{Rising}
@@ -32,7 +33,7 @@ use Rattle.shows.specs.Files.{SpellsFile}
 use Rattle.demands.specs.Acceptance.{nthRow, IsRow}
 use Rattle.demands.specs.WorkArea.{blockNumbers}
 
--- The figures of document 01, and those of document 02, Papers 1, 3 and 4: every one that has a name.
+-- The figures of document 01, and those of document 02, Papers 1, 3, 4 and 5: every one that has a name.
 pub record Figures : Type 0 where
   pub row : rowSize ≡ 11
   pub value : maxValue ≡ 65535
@@ -41,6 +42,7 @@ pub record Figures : Type 0 where
   pub own : maxOwn ≡ 255
   pub label : maxLabel ≡ 255
   pub followed-label : maxFollowed ≡ 254
+  pub wait : maxWait ≡ 6000
   pub blocks : maxBlocks ≡ 128
   pub bytes : maxBytes ≡ 65536
   pub rows : maxRows ≡ 1024
@@ -122,7 +124,8 @@ FileWords =
     SpellsFile countedFile
     (0 ∷ 1 ∷ 2 ∷ 3 ∷ 4 ∷ 5 ∷ 6 ∷ 7 ∷ 8 ∷ 9 ∷ 10 ∷ 11 ∷ 12 ∷ 13 ∷ 14 ∷ 15 ∷ 16 ∷ 17 ∷ 18 ∷ 19 ∷ 20 ∷ 21 ∷ [])
 
--- "returned (number, place)", and the values of an answer in order: 1 for "more", and 1 before the fewest follow-ons, 0 and 0 for none.
+-- "returned (number, place)", and the values of an answer in order: 1 for "more", and 1 before the fewest follow-ons, 0 and 0 for none; 1 before the two
+-- halves of the quickest sum, the lower 32 bits first, and three times 0 for none (02, Paper 5).
 abbrev pub IsReturned : Returned → ℕ → ℕ → List ℕ → Type 0
 IsReturned a number place values = (a .number ≡ number) × (a .place ≡ place) × (a .values ≡ values)
 
@@ -147,6 +150,9 @@ pub record AnswerWords : Type 0 where
   pub steps : (n : ℕ) → IsReturned (ofFewest (Steps n)) 0 0 (1 ∷ n ∷ [])
   pub no-chain : IsReturned (ofFewest None) 0 0 (0 ∷ 0 ∷ [])
   pub unsearched : (q : Refusal) → ofFewest (Unsearched q) ≡ returned q
+  pub tenths : (n : ℕ) → IsReturned (ofQuickest (Tenths n)) 0 0 (1 ∷ n % 4294967296 ∷ n / 4294967296 ∷ [])
+  pub no-way : IsReturned (ofQuickest NoWay) 0 0 (0 ∷ 0 ∷ 0 ∷ [])
+  pub untimed : (number place : ℕ) → IsReturned (ofQuickest (Untimed number place)) number place []
 
 pub record Words : Type 1 where
   pub choices : ChoiceWords

@@ -7,64 +7,30 @@ use mathlib.Core.Path.{_≡_, refl, sym, _∙_, ap}
 use mathlib.Core.List.{List, _++_, flatMap, append-assoc}
 use lib.ListN.{length, getD, take, drop, replicate, length-append, length-drop, length-replicate}
 use lib.Seq.{take-at, drop-at, drop-drop, getD-take, length-take-le}
-use Rattle.model.specs.Limits.{noChain, maxBlocks, maxJoins, summarySize, workSize}
+use Rattle.model.specs.Limits.{noChain, maxJoins, summarySize, workSize}
 use Rattle.model.specs.Lists.{range, overwrite}
-use Rattle.model.specs.Blocks.{Block, joinsOf, blocksOf, lastBlock}
+use Rattle.model.specs.Blocks.{Block, joinsOf}
 use Rattle.model.specs.Chains.{fewest}
 use Rattle.model.specs.Summaries.{summaryOf, summaries, workBy, workAfter}
 use Rattle.shows.specs.WellFormed.{Small}
 use Rattle.shows.proofs.AtBlock.{joins-small}
 use Rattle.distances.specs.Tells.{summaryPlace, summariesTo, summariesToBy}
 use Rattle.distances.proofs.Places.{summariesTo-next, summariesTo-length, summariesTo-at, summaries-all, summaries-length}
-use Rattle.blocks.specs.Loaded.{Loaded}
-use Rattle.blocks.proofs.Loaded.{loaded-show}
-use Rattle.distance.specs.Summaries.{partOf, withPart, RowsFilled, PartFilled, Below}
+use Rattle.searches.specs.Parts.{partOf, withPart}
+use Rattle.searches.proofs.Parts.{part-length, part-put, with-before, part-with, with-with}
+use Rattle.distance.specs.Summaries.{RowsFilled, PartFilled, Below}
 use Rattle.distance.proofs.Summaries.{filled-begin, filled-done}
 
--- How many blocks there are, by the last of them.
-pub block-count : {xs t : List ℕ} (n : ℕ) → Loaded xs t → n ≡ lastBlock (blocksOf xs)
-    → (n + 1 ≡ length (blocksOf xs)) × (n + 1 ≤ maxBlocks)
-unfolding lastBlock
-block-count n g e = omega (arith, loaded-show g .blocks)
-
--- Block k's part as the code lends it, and the work area with other numbers put in there.
-pub part-lent : (w : List ℕ) (k : ℕ) → take (summarySize * k + summarySize - summarySize * k) (drop (summarySize * k) w) ≡ partOf w k
-part-lent w k = let d : summarySize * k + summarySize - summarySize * k ≡ summarySize = omega arith in rw d
-
-pub part-put : (w v s : List ℕ) (k : ℕ) → v ≡ s
-    → take (summarySize * k) w ++ (v ++ drop (summarySize * k + summarySize - summarySize * k) (drop (summarySize * k) w)) ≡ withPart w k s
-part-put w v s k e = let d : summarySize * k + summarySize - summarySize * k ≡ summarySize = omega arith in rw (d, drop-drop, e)
-
--- A part that was put in is there, the rest is as it was, and a second one takes its place.
-module _ (w v : List ℕ) (k : ℕ) (long : summarySize * k + summarySize ≤ length w) where
-  front : length (take (summarySize * k) w) ≡ summarySize * k
-  front = length-take-le (summarySize * k) w (omega arith)
-
-  behind : drop (summarySize * k) (withPart w k v) ≡ v ++ drop (summarySize * k + summarySize) w
-  behind = drop-at (take (summarySize * k) w) (v ++ drop (summarySize * k + summarySize) w) (summarySize * k) front
-
-  pub with-before : take (summarySize * k) (withPart w k v) ≡ take (summarySize * k) w
-  with-before = take-at (take (summarySize * k) w) (v ++ drop (summarySize * k + summarySize) w) (summarySize * k) front
-
-  pub with-below : (bs : List Block) → Small bs → Below bs k w → Below bs k (withPart w k v)
-  with-below bs small below m i j h x y =
-      let few : joinsOf bs m ≤ maxJoins = joins-small m small in
-      let l : summaryPlace m i j < summarySize * k = omega arith in
-      sym (getD-take (summarySize * k) (withPart w k v) (summaryPlace m i j) 0 l)
-      ∙ ap (λ (z : List ℕ). getD z (summaryPlace m i j) 0) with-before
-      ∙ getD-take (summarySize * k) w (summaryPlace m i j) 0 l
-      ∙ below m i j h x y
-
-  module _ (size : length v ≡ summarySize) where
-    pub part-with : partOf (withPart w k v) k ≡ v
-    part-with = ap (take summarySize) behind ∙ take-at v (drop (summarySize * k + summarySize) w) summarySize size
-
-    pub with-with : (u : List ℕ) → withPart (withPart w k v) k u ≡ withPart w k u
-    with-with u =
-        let e : drop (summarySize * k + summarySize) (withPart w k v) ≡ drop (summarySize * k + summarySize) w =
-        sym (drop-drop summarySize (summarySize * k) (withPart w k v)) ∙ ap (drop summarySize) behind ∙ drop-at v
-        (drop (summarySize * k + summarySize) w) summarySize size in
-        rw (with-before, e)
+-- The summaries of the lower blocks stay as a part is put in.
+pub with-below : (w v : List ℕ) (k : ℕ) → summarySize * k + summarySize ≤ length w → (bs : List Block) → Small bs → Below bs k w
+    → Below bs k (withPart w k v)
+with-below w v k long bs small below m i j h x y =
+    let few : joinsOf bs m ≤ maxJoins = joins-small m small in
+    let l : summaryPlace m i j < summarySize * k = omega arith in
+    sym (getD-take (summarySize * k) (withPart w k v) (summaryPlace m i j) 0 l)
+    ∙ ap (λ (z : List ℕ). getD z (summaryPlace m i j) 0) (with-before w v k long)
+    ∙ getD-take (summarySize * k) w (summaryPlace m i j) 0 l
+    ∙ below m i j h x y
 
 -- A block's part at first: no chain anywhere.
 pub partFilled-begin : (bs : List Block) (k : ℕ) (w v u : List ℕ) → summarySize * k + summarySize ≤ length w
@@ -72,14 +38,11 @@ pub partFilled-begin : (bs : List Block) (k : ℕ) (w v u : List ℕ) → summar
     → u ≡ take (summarySize * k) w ++ (v ++ drop (summarySize * k + summarySize - summarySize * k) (drop (summarySize * k) w))
     → PartFilled bs k 0 w u
 partFilled-begin bs k w v u long ev eu =
-    let n : length (take (summarySize * k + summarySize - summarySize * k) (drop (summarySize * k) w)) ≡ summarySize =
-    ap length (part-lent w k) ∙ length-take-le summarySize (drop (summarySize * k) w)
-    (omega (arith, length-drop (summarySize * k) w)) in
     record {
       part =
           replicate summarySize noChain;
       is = eu ∙ part-put w v (replicate summarySize noChain) k
-          (ev ∙ ap (λ (m : ℕ). replicate m noChain) n);
+          (ev ∙ ap (λ (m : ℕ). replicate m noChain) (part-length w k long));
       filled = filled-begin bs k;
     }
 

@@ -21,7 +21,8 @@ use Rattle.blocks.specs.Loaded.{Loaded, IsBlock}
 use Rattle.blocks.proofs.Loaded.{loaded-show, joins-few}
 use Rattle.searches.specs.Edges.{numbers, Only, SpreadIn}
 use Rattle.searches.specs.Joins.{RowKept}
-use Rattle.distance.specs.Summaries.{partOf, withPart, RowsFilled, PartFilled, Below}
+use Rattle.searches.specs.Parts.{partOf, withPart}
+use Rattle.distance.specs.Summaries.{RowsFilled, PartFilled, Below}
 use Rattle.searches.proofs.Settled.{spread-estimates}
 
 -- The numbers, as they are at first.

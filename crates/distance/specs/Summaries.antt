@@ -1,8 +1,8 @@
 -- The work area as it is filled with summaries.
 use Prim.Native.Nat.{ℕ, suc, _+_, _*_, _≤_, _<_}
 use mathlib.Core.Path.{_≡_}
-use mathlib.Core.List.{List, _++_}
-use lib.ListN.{length, getD, take, drop}
+use mathlib.Core.List.{List}
+use lib.ListN.{length, getD}
 use Rattle.model.specs.Limits.{noChain, summarySize, summaryWidth}
 use Rattle.model.specs.Blocks.{Block, blocksOf}
 use Rattle.model.specs.Summaries.{summary}
@@ -12,13 +12,7 @@ use Rattle.blocks.specs.Places.{Found}
 use Rattle.blocks.specs.declared.Place.{Place}
 use Rattle.searches.specs.Starts.{estimatesSize}
 use Rattle.searches.specs.Edges.{numbers}
-
--- Block k's part of the work area, and the work area with other numbers in it.
-abbrev pub partOf : List ℕ → ℕ → List ℕ
-partOf work k = take summarySize (drop (summarySize * k) work)
-
-abbrev pub withPart : List ℕ → ℕ → List ℕ → List ℕ
-withPart work k v = take (summarySize * k) work ++ (v ++ drop (summarySize * k + summarySize) work)
+use Rattle.searches.specs.Parts.{withPart}
 
 -- The rows before i of block k's numbers are its summary; the others say that there is no chain.
 pub record RowsFilled (bs : List Block) (k i : ℕ) (v : List ℕ) : Type 0 where

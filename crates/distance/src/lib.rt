@@ -4,8 +4,8 @@
 // names. From s the way goes up the derivation tree, copy by copy to the show, and from there down
 // to the copy of t.
 //
-// Others call `summarise`, which fills the work area with the summaries of all blocks, and
-// `fewest`, which answers the question.
+// Others call `summarise`, which fills the work area with the summaries of all blocks, `fewest`,
+// which answers the question, and `common`, which says how far two places have the same rows.
 use blocks::Place;
 use blocks::wide;
 use estimates::ESTIMATES;
@@ -37,7 +37,8 @@ ghost use Rattle.blocks.specs.Places.{blockOn, UsesTo, Found};
 ghost use Rattle.searches.specs.Starts.{Started, Merged, estimatesSize};
 ghost use Rattle.searches.specs.Edges.{cueCount, SpreadIn};
 ghost use Rattle.searches.specs.Joins.{JoinsAt, RowKept, JoinsKept};
-ghost use Rattle.distance.specs.Summaries.{partOf, RowsFilled, Below, PartFilled, HasSummaries, MaySearch};
+ghost use Rattle.searches.specs.Parts.{partOf};
+ghost use Rattle.distance.specs.Summaries.{RowsFilled, Below, PartFilled, HasSummaries, MaySearch};
 ghost use Rattle.copies.specs.ByRows.{copyOn};
 ghost use Rattle.searches.specs.Copies.{FromKept, FromAbove, TellsWhole, keptSize, Risen, Source, Common, Sunk};
 
@@ -315,7 +316,7 @@ fn sink_alone(
 // The question.
 
 // How many rows two places have in common: so many levels below the show do they share a copy.
-fn common(a: &[u32], n: usize, b: &[u32], m: usize) -> usize
+pub fn common(a: &[u32], n: usize, b: &[u32], m: usize) -> usize
     requires { ⌜ (n ≤ length (now a)) × (m ≤ length (now b)) ⌝ }
     ensures { λ r. ⌜ Common (now (a .entry)) n (now (b .entry)) m r ⌝ }
 {

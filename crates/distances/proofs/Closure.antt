@@ -236,16 +236,18 @@ at-told price {z} g limit lower table exact inf {d} a h estimates c k =
     (λ b x i e l. stop (ap (number z) (sym (e .0))) (e .1)) (λ c n i x. at-covers price z a h c n x) c k
 
 -- Where the cues are 1 .. cues and no link weighs more than most, every walk can be cut to one that weighs less than most for each cue.
--- So an estimate of inf or more, if no such walk reaches that, says that there is no walk.
-pub told-none : {price : Price} {E : List Link} {inf s t x : ℕ} (cues most : ℕ) → Starts E cues → 1 ≤ t → t ≤ cues
-    → ((label w : ℕ) → price label w → w ≤ most) → (cues - 1) * most < inf → Tells price E inf s t x → inf ≤ x
-    → (n : ℕ) → Walk (Linked price E) t s n → ⊥
-told-none {price} {E} {inf} {s} {t} {x} cues most starts low high light large told h n c =
-    let (m, d, l, k) = shorten (range 1 cues) (range-mem 1 cues t low (omega arith)) (walk-map (λ u v w e. (e, from u v w e)) c) in
-    let a : x ≤ m = told .least m d in
-    let b : m ≤ edges d * most = weighs-at-most most (λ u v w e. light (e .0 .label) w (e .4)) d in
-    let f : edges d ≤ cues - 1 = omega (arith, range-length 1 cues) in
-    omega (arith, mul-le-mul-right most f)
-  where
-    from : (u v w : ℕ) → Linked price E u v w → List·Memᴰ u (range 1 cues)
-    from u v w e = rw (← e .2) (range-mem 1 cues (e .0 .from) (starts (e .0) (e .1) .0) (omega (arith, starts (e .0) (e .1) .1)))
+module _ {price : Price} {E : List Link} {s t : ℕ} (cues most : ℕ) (starts : Starts E cues) (low : 1 ≤ t) (high : t ≤ cues)
+    (light : (label w : ℕ) → price label w → w ≤ most) where
+  pub walk-cut : (n : ℕ) → Walk (Linked price E) t s n → (m : ℕ) × Walk (Linked price E) t s m × (m ≤ (cues - 1) * most)
+  walk-cut n c =
+      let (m, d, l, k) = shorten (range 1 cues) (range-mem 1 cues t low (omega arith)) (walk-map (λ u v w e. (e, from u v w e)) c) in
+      let b : m ≤ edges d * most = weighs-at-most most (λ u v w e. light (e .0 .label) w (e .4)) d in
+      let f : edges d ≤ cues - 1 = omega (arith, range-length 1 cues) in
+      (m, d, omega (arith, mul-le-mul-right most f))
+    where
+      from : (u v w : ℕ) → Linked price E u v w → List·Memᴰ u (range 1 cues)
+      from u v w e = rw (← e .2) (range-mem 1 cues (e .0 .from) (starts (e .0) (e .1) .0) (omega (arith, starts (e .0) (e .1) .1)))
+
+  -- So an estimate of inf or more, if no such walk reaches that, says that there is no walk.
+  pub told-none : {inf x : ℕ} → (cues - 1) * most < inf → Tells price E inf s t x → inf ≤ x → (n : ℕ) → Walk (Linked price E) t s n → ⊥
+  told-none large told h n c = let (m, d, b) = walk-cut n c in omega (arith, told .least m d)

@@ -2,4 +2,5 @@
 pub mod Walks
 pub mod Tells
 pub mod Lightest
+pub mod Quickest
 pub mod Demand

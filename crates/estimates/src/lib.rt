@@ -3,7 +3,7 @@
 // of its cue.
 //
 // Of one estimate: `improve`, `put`. Of the cues that a use's row names: `put_met`, `gather`. Of
-// all of them: `clear`.
+// all of them: `clear`. And `either`, of two tests.
 use model::limits::MAX_JOINS;
 use model::limits::MAX_OWN;
 ghost use mathlib.Core.Path.{_≡_};

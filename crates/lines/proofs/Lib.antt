@@ -4,3 +4,4 @@ pub mod LineScan
 pub mod LineTexts
 pub mod Names
 pub mod FirstLines
+pub mod Tables

@@ -12,6 +12,7 @@ use Rattle.values.specs.declared.Field.{Field}
 use Rattle.values.specs.declared.Field.the-variants.{Value, Bad}
 use Rattle.shows.specs.Files.{endsOf}
 use Rattle.lines.specs.Scanning.{ValueFound, Values, Broken, behind, lineAt, LineSays}
+use Rattle.lines.specs.declared.Line.{Line}
 use Rattle.lines.specs.declared.Line.the-variants.{Next, Malformed}
 use Rattle.lines.proofs.Ends.{ends-many}
 
@@ -68,3 +69,14 @@ module _
     line-end k =
         let e : drop c (endsOf n) ≡ [] = drop-of-length-le (endsOf n) {i = c} (omega (arith, ends-many n)) in
         rw (p, e) (refl, sym (append-nil (take c row) ∙ take-all c row (omega arith)))
+
+-- What a line's reader says: the line, or that there is none.
+pub said-line : (k : ValueFound) (l : Line) (next : ℕ) (row : List ℕ) → LineSays k l row → l ≡ Next next → k ≡ Values row next
+unfolding LineSays
+said-line (Values vs n) l next row s e = let (p, q) = s in let m : n ≡ next = cc in rw (q, m)
+said-line Broken l next row s e = let z : _≡_ {A = ℕ} 0 1 = cc in absurd (omega arith)
+
+pub said-none : (k : ValueFound) (l : Line) (row : List ℕ) → LineSays k l row → l ≡ Malformed → k ≡ Broken
+unfolding LineSays
+said-none (Values vs n) l row s e = let (p, q) = s in let z : _≡_ {A = ℕ} 0 1 = cc in absurd (omega arith)
+said-none Broken l row s e = refl

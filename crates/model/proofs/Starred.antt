@@ -14,13 +14,16 @@ use Rattle.model.specs.Lists.{isLinked, range, keep, cuesAfter, isOut, i
 use Rattle.model.specs.Behind.{stepInto, tracedInto, rowsTraced, usesTraced, traced, openingRow, showTraced, origins, depthWins, stepsWin, better, winner, best, behind}
 use Rattle.model.specs.Chains.{followed, isIn, successors, searchFrom, fewest}
 use Rattle.model.specs.Summaries.{blockLinks, orNone, summaryBy, summaryOfBy, summariesBy, workBy}
-use Rattle.model.specs.Answers.{returned, given, flag}
-use Rattle.model.specs.Questions.{refuse, answer, onAccepted, withRoom, withCue, readInto, readAsked, writeInto, writeAsked, countAsked, located, locateIn, locateAsked, numbered, showNumber, numberAsked, listed, listIn, outAsked, inAsked, rowFound, rowIn, rowAsked, distanceValues, fewestIn, fewestAsked}
+use Rattle.model.specs.Tables.{lineThen, tableLines, tableAll, tableRead}
+use Rattle.model.specs.Waits.{waitNames, waitEnds, isOutside, firstOutside, firstNotAbove, waitsWith, noWaits, waitsOr, waitsIn, waitFile}
+use Rattle.model.specs.Quickest.{quicker, withWait, quickestOver, quickestWithin, quickest}
+use Rattle.model.specs.Answers.{returned, given, flag, halves}
+use Rattle.model.specs.Questions.{refuse, answer, onAccepted, withRoom, withCue, readInto, readAsked, writeInto, writeAsked, countAsked, located, locateIn, locateAsked, numbered, showNumber, numberAsked, listed, listIn, outAsked, inAsked, rowFound, rowIn, rowAsked, distanceValues, fewestIn, fewestAsked, sumValues, cleared, quickestUnder, quickestIn, quickestAsked}
 use Rattle.model.specs.Printed.{isTriple, triplesOf, triples, numberText, valuesText, linksTitle, showText, printed}
 use Rattle.model.specs.Starred.{Starred}
 
 pub starred : Starred
-unfolding flatMap ifLt ifEq ifTrue names ends isDigit run afterRun decimal isValue valueThen endedBy valuesOf intoFirst linesOf digitAt digits lineText cell rowAt rowsFrom rowCount rowsOf rowValues rowLines fileText start cuesIn mayOpen goesOn mayFollow columnsUsed named every isCue isZero labelFits ownFits inRange differs distinct isBelow linkKey useKey inOrder fault after noBlock blockAt joinsOf ownOf addLink addUse addRow addRows blocksOf sumOver total lastBlock count refusal refused andThen checkLength checkRows openingRows checkBlocks mayStand totalFits verdict rowThen readLines same readAll readFile byLine inLines numbersOf readVerdict fileVerdict cueAt renamed usesLinks links showLinks ownNumber usesNumber copyNumber numberIn nowhere stepThen usesPlace placeIn isLinked range keep cuesAfter isOut isInto overwrite followed isIn successors searchFrom fewest blockLinks orNone summaryBy summaryOfBy summariesBy workBy returned given flag refuse answer onAccepted withRoom withCue readInto readAsked writeInto writeAsked countAsked located locateIn locateAsked numbered showNumber numberAsked listed listIn outAsked inAsked stepInto tracedInto rowsTraced usesTraced traced openingRow showTraced origins depthWins stepsWin better winner best behind rowFound rowIn rowAsked distanceValues fewestIn fewestAsked isTriple triplesOf triples numberText valuesText linksTitle showText printed
+unfolding flatMap ifLt ifEq ifTrue names ends isDigit run afterRun decimal isValue valueThen endedBy valuesOf intoFirst linesOf digitAt digits lineText cell rowAt rowsFrom rowCount rowsOf rowValues rowLines fileText start cuesIn mayOpen goesOn mayFollow columnsUsed named every isCue isZero labelFits ownFits inRange differs distinct isBelow linkKey useKey inOrder fault after noBlock blockAt joinsOf ownOf addLink addUse addRow addRows blocksOf sumOver total lastBlock count refusal refused andThen checkLength checkRows openingRows checkBlocks mayStand totalFits verdict rowThen readLines same readAll readFile byLine inLines numbersOf readVerdict fileVerdict cueAt renamed usesLinks links showLinks ownNumber usesNumber copyNumber numberIn nowhere stepThen usesPlace placeIn isLinked range keep cuesAfter isOut isInto overwrite followed isIn successors searchFrom fewest blockLinks orNone summaryBy summaryOfBy summariesBy workBy returned given flag refuse answer onAccepted withRoom withCue readInto readAsked writeInto writeAsked countAsked located locateIn locateAsked numbered showNumber numberAsked listed listIn outAsked inAsked stepInto tracedInto rowsTraced usesTraced traced openingRow showTraced origins depthWins stepsWin better winner best behind rowFound rowIn rowAsked distanceValues fewestIn fewestAsked lineThen tableLines tableAll tableRead waitNames waitEnds isOutside firstOutside firstNotAbove waitsWith noWaits waitsOr waitsIn waitFile quicker withWait quickestOver quickestWithin quickest halves sumValues cleared quickestUnder quickestIn quickestAsked isTriple triplesOf triples numberText valuesText linksTitle showText printed
 starred =
     record {
       total-0 = refl;
@@ -80,4 +83,35 @@ starred =
       noted-in = refl;
       noted-row = refl;
       noted-print = refl;
+      quickest-1-2 = refl;
+      quickest-2-2 = refl;
+      quickest-3-2 = refl;
+      quickest-4-2 = refl;
+      quickest-5-2 = refl;
+      quickest-1-3 = refl;
+      quickest-2-3 = refl;
+      quickest-3-3 = refl;
+      quickest-4-3 = refl;
+      quickest-5-3 = refl;
+      unlined-1-2 = refl;
+      unlined-2-1 = refl;
+      unlined-4-3 = refl;
+      no-waits-1-2 = refl;
+      no-waits-2-1 = refl;
+      no-waits-4-3 = refl;
+      long-waits-1-2 = refl;
+      long-waits-2-1 = refl;
+      long-waits-4-3 = refl;
+      noted-quickest-1-2 = refl;
+      noted-quickest-2-1 = refl;
+      noted-quickest-4-3 = refl;
+      noted-quickest-3-3 = refl;
+      detour-1-2 = refl;
+      cut-line = refl;
+      outside-range = refl;
+      not-above = refl;
+      cut-line-1-1 = refl;
+      cut-line-6-1 = refl;
+      no-names = refl;
+      short-work = refl;
     }

@@ -1,9 +1,10 @@
 -- What each answer says in document 01's numbers: the refusal's number and place, or 0 and 0; and the values of an answer in order.
 -- "If an answer is an enum, a definition gives this paper's number and values for every case of the enum, and the promises use that
 -- definition."
-use Prim.Native.Nat.{ℕ}
+use Prim.Native.Nat.{ℕ, _/_, _%_}
 use mathlib.Core.Bool.{Bool, true, false}
 use mathlib.Core.List.{List, [], _∷_}
+use Rattle.model.specs.Verdicts.{refusal}
 use Rattle.model.specs.declared.Refusal.{Refusal}
 use Rattle.model.specs.declared.ReadAnswer.{ReadAnswer}
 use Rattle.model.specs.declared.ReadAnswer.the-variants.{Read, Refused as ReadRefused}
@@ -21,6 +22,8 @@ use Rattle.model.specs.declared.RowAnswer.{RowAnswer}
 use Rattle.model.specs.declared.RowAnswer.the-variants.{Row, Refused as RowRefused}
 use Rattle.model.specs.declared.FewestAnswer.{FewestAnswer}
 use Rattle.model.specs.declared.FewestAnswer.the-variants.{Steps, None, Refused as FewestRefused}
+use Rattle.model.specs.declared.QuickestAnswer.{QuickestAnswer}
+use Rattle.model.specs.declared.QuickestAnswer.the-variants.{Tenths, None as NoWay, Refused as QuickestRefused}
 
 pub record Returned : Type 0 where
   pub number : ℕ
@@ -79,3 +82,13 @@ unfoldable pub ofFewest : FewestAnswer → Returned
 ofFewest (Steps n) = given (1 ∷ n ∷ [])
 ofFewest None = given (0 ∷ 0 ∷ [])
 ofFewest (FewestRefused r) = returned r
+
+-- "64 bits wide" (02, Paper 5): a sum as two numbers of 32 bits, the lower one first.
+unfoldable pub halves : ℕ → List ℕ
+halves n = n % 4294967296 ∷ n / 4294967296 ∷ []
+
+-- "The quickest answer" (02, Paper 5): whether there is one, and the sum, 0 where there is none.
+unfoldable pub ofQuickest : QuickestAnswer → Returned
+ofQuickest (Tenths n) = given (1 ∷ halves n)
+ofQuickest NoWay = given (0 ∷ halves 0)
+ofQuickest (QuickestRefused number place) = returned (refusal number place)

@@ -3,8 +3,8 @@
 use Prim.Native.Nat.{ℕ}
 use mathlib.Core.Path.{_≡_}
 use mathlib.Core.List.{List}
-use Rattle.model.specs.Answers.{ofRead, ofWrite, ofCount, ofLocate, ofNumber, ofList, ofRow, ofFewest}
-use Rattle.model.specs.Questions.{outcome, readAsked, deskReadAsked, writeAsked, countAsked, locateAsked, numberAsked, outAsked, inAsked, rowAsked, fewestAsked}
+use Rattle.model.specs.Answers.{ofRead, ofWrite, ofCount, ofLocate, ofNumber, ofList, ofRow, ofFewest, ofQuickest}
+use Rattle.model.specs.Questions.{outcome, readAsked, deskReadAsked, writeAsked, countAsked, locateAsked, numberAsked, outAsked, inAsked, rowAsked, fewestAsked, quickestAsked}
 use Rattle.model.specs.declared.ReadAnswer.{ReadAnswer}
 use Rattle.model.specs.declared.WriteAnswer.{WriteAnswer}
 use Rattle.model.specs.declared.CountAnswer.{CountAnswer}
@@ -13,6 +13,7 @@ use Rattle.model.specs.declared.NumberAnswer.{NumberAnswer}
 use Rattle.model.specs.declared.ListAnswer.{ListAnswer}
 use Rattle.model.specs.declared.RowAnswer.{RowAnswer}
 use Rattle.model.specs.declared.FewestAnswer.{FewestAnswer}
+use Rattle.model.specs.declared.QuickestAnswer.{QuickestAnswer}
 
 -- read: a file, and the lent output before and afterwards; read_desk, the second way, asks the same; write: rows, and the same.
 abbrev pub AsksRead : List ℕ → List ℕ → ReadAnswer → List ℕ → Type 0
@@ -49,3 +50,7 @@ AsksRow xs s t lent r after = outcome (ofRow r) after ≡ rowAsked xs s t lent
 -- fewest: rows, two cues, and the work area before and afterwards.
 abbrev pub AsksFewest : List ℕ → ℕ → ℕ → List ℕ → FewestAnswer → List ℕ → Type 0
 AsksFewest xs s t work r after = outcome (ofFewest r) after ≡ fewestAsked xs s t work
+
+-- quickest: rows, two cues, a wait file, and the work area before and afterwards.
+abbrev pub AsksQuickest : List ℕ → ℕ → ℕ → List ℕ → List ℕ → QuickestAnswer → List ℕ → Type 0
+AsksQuickest xs s t file work r after = outcome (ofQuickest r) after ≡ quickestAsked xs s t file work

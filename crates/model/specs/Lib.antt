@@ -1,5 +1,6 @@
 -- What a reader must believe, in the order in which document 01 is best followed: values, the file, the rows and their checks, blocks, the
--- unfolding, numbers, lists, rows behind follow-ons, the fewest follow-ons, the blocks of the desk, the questions, and what is promised of them.
+-- unfolding, numbers, lists, rows behind follow-ons, the fewest follow-ons, the blocks of the desk, waits and the quickest way, the questions, and what is
+-- promised of them.
 -- Quotations in comments are from document 01, unless 02 is named.
 pub mod Choice
 pub mod Limits
@@ -16,6 +17,9 @@ pub mod Behind
 pub mod Chains
 pub mod Summaries
 pub mod Desk
+pub mod Tables
+pub mod Waits
+pub mod Quickest
 pub mod Answers
 pub mod Questions
 pub mod Asking

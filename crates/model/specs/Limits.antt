@@ -29,6 +29,10 @@ maxLabel = 255
 abbrev pub maxFollowed : ℕ
 maxFollowed = 254
 
+-- "its wait of 0 to 6,000 tenths of a second" (02, Paper 5).
+abbrev pub maxWait : ℕ
+maxWait = 6000
+
 -- "Blocks run 0, 1, 2 and on without a gap, at most 128."
 abbrev pub maxBlocks : ℕ
 maxBlocks = 128

@@ -4,7 +4,7 @@
 use Prim.Native.Nat.{ℕ, min}
 use mathlib.Core.Bool.{Bool}
 use mathlib.Core.List.{List, [], _∷_}
-use lib.ListN.{length, take}
+use lib.ListN.{length, take, replicate}
 use lib.Dec.{ltb}
 use Rattle.model.specs.Choice.{ifLt, ifEq, ifTrue}
 use Rattle.model.specs.Limits.{maxDepth, workSize}
@@ -19,7 +19,9 @@ use Rattle.model.specs.Lists.{cuesAfter, isOut, isInto, overwrite}
 use Rattle.model.specs.Behind.{Behind, Stands, Missing, behind}
 use Rattle.model.specs.Chains.{Distance, Far, Unreachable, fewest}
 use Rattle.model.specs.Summaries.{workAfter}
-use Rattle.model.specs.Answers.{Returned, returned, given, flag}
+use Rattle.model.specs.Waits.{WaitFile, WaitTable, Unfit, waitFile}
+use Rattle.model.specs.Quickest.{quickest}
+use Rattle.model.specs.Answers.{Returned, returned, given, flag, halves}
 use Rattle.model.specs.declared.Refusal.{Refusal}
 use Rattle.model.specs.declared.Verdict.{Verdict}
 use Rattle.model.specs.declared.Verdict.the-variants.{Accepted, Refused}
@@ -143,3 +145,24 @@ fewestIn bs s t work =
 
 unfoldable pub fewestAsked : List ℕ → ℕ → ℕ → List ℕ → Outcome
 fewestAsked xs s t work = onAccepted (verdict xs) (λ r. refuse r work) (fewestIn (blocksOf xs) s t work)
+
+-- 02, Paper 5, "The quickest answer": whether there is one, and the sum, 0 where there is none.
+unfoldable pub sumValues : Distance → List ℕ
+sumValues (Far n) = 1 ∷ halves n
+sumValues Unreachable = 0 ∷ halves 0
+
+-- "an answer leaves the first 16,384 at 0 and the rest unchanged".
+unfoldable pub cleared : List ℕ → List ℕ
+cleared work = overwrite (replicate workSize 0) work
+
+-- 15, 16 and 17 "all after 12". s is checked before t.
+unfoldable pub quickestUnder : WaitFile → List Block → ℕ → ℕ → List ℕ → Outcome
+quickestUnder (WaitTable waits) bs s t work = answer (sumValues (quickest waits (showLinks bs) (count bs) s t)) (cleared work)
+quickestUnder (Unfit number line) bs s t work = refuse (refusal number line) work
+
+unfoldable pub quickestIn : List Block → ℕ → ℕ → List ℕ → List ℕ → Outcome
+quickestIn bs s t file work =
+    withRoom workSize work (withCue bs s work (withCue bs t work (quickestUnder (waitFile file) bs s t work)))
+
+unfoldable pub quickestAsked : List ℕ → ℕ → ℕ → List ℕ → List ℕ → Outcome
+quickestAsked xs s t file work = onAccepted (verdict xs) (λ r. refuse r work) (quickestIn (blocksOf xs) s t file work)

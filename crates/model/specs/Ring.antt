@@ -1,4 +1,5 @@
--- The ring show of document 01, row by row and as a file, and the show of a single opening row, whose file older desks pad (02, Paper 1).
+-- The ring show of document 01, row by row and as a file, the show of a single opening row, whose file older desks pad (02, Paper 1), and wait files (02,
+-- Paper 5) with a show in which more links are quicker.
 use Prim.Native.Nat.{ℕ}
 use mathlib.Core.List.{List, [], _∷_, _++_}
 
@@ -79,3 +80,38 @@ ringPrinted = ringPrintedWith (50 ∷ [])
 
 abbrev pub notedPrinted : List ℕ
 notedPrinted = ringPrintedWith (50 ∷ 53 ∷ 53 ∷ [])
+
+-- Three own cues: one link of label 3 from cue 1 to cue 2, and two of label 1 by way of cue 3.
+abbrev pub detour : List ℕ
+detour =
+    0 ∷ 0 ∷ 0 ∷ 3 ∷ 0 ∷ 0 ∷ 0 ∷ 0 ∷ 0 ∷ 0 ∷ 0
+    ∷ 0 ∷ 1 ∷ 3 ∷ 1 ∷ 2 ∷ 0 ∷ 0 ∷ 0 ∷ 0 ∷ 0 ∷ 0
+    ∷ 0 ∷ 1 ∷ 1 ∷ 1 ∷ 3 ∷ 0 ∷ 0 ∷ 0 ∷ 0 ∷ 0 ∷ 0
+    ∷ 0 ∷ 1 ∷ 1 ∷ 3 ∷ 2 ∷ 0 ∷ 0 ∷ 0 ∷ 0 ∷ 0 ∷ 0 ∷ []
+
+-- A wait file with these bytes behind its names, which stand alone if there are none.
+abbrev pub waitsOf : List ℕ → List ℕ
+waitsOf lines = 108 ∷ 97 ∷ 98 ∷ 101 ∷ 108 ∷ 44 ∷ 119 ∷ 97 ∷ 105 ∷ 116 ∷ 10 ∷ lines
+
+-- 1,10; with 2,25 behind it; 1,6000 and 2,6000; 1,10 and 3,50.
+abbrev pub onesWait : List ℕ
+onesWait = waitsOf (49 ∷ 44 ∷ 49 ∷ 48 ∷ 10 ∷ [])
+
+abbrev pub ringWaits : List ℕ
+ringWaits = waitsOf (49 ∷ 44 ∷ 49 ∷ 48 ∷ 10 ∷ 50 ∷ 44 ∷ 50 ∷ 53 ∷ 10 ∷ [])
+
+abbrev pub longWaits : List ℕ
+longWaits = waitsOf (49 ∷ 44 ∷ 54 ∷ 48 ∷ 48 ∷ 48 ∷ 10 ∷ 50 ∷ 44 ∷ 54 ∷ 48 ∷ 48 ∷ 48 ∷ 10 ∷ [])
+
+abbrev pub detourWaits : List ℕ
+detourWaits = waitsOf (49 ∷ 44 ∷ 49 ∷ 48 ∷ 10 ∷ 51 ∷ 44 ∷ 53 ∷ 48 ∷ 10 ∷ [])
+
+-- 1,6001, 1,1 and a line without its wait; 2,1, 1,1 and 1,6001; 2,1 twice.
+abbrev pub cutWaits : List ℕ
+cutWaits = waitsOf (49 ∷ 44 ∷ 54 ∷ 48 ∷ 48 ∷ 49 ∷ 10 ∷ 49 ∷ 44 ∷ 49 ∷ 10 ∷ 49 ∷ 10 ∷ [])
+
+abbrev pub outsideWaits : List ℕ
+outsideWaits = waitsOf (50 ∷ 44 ∷ 49 ∷ 10 ∷ 49 ∷ 44 ∷ 49 ∷ 10 ∷ 49 ∷ 44 ∷ 54 ∷ 48 ∷ 48 ∷ 49 ∷ 10 ∷ [])
+
+abbrev pub twiceWaits : List ℕ
+twiceWaits = waitsOf (50 ∷ 44 ∷ 49 ∷ 10 ∷ 50 ∷ 44 ∷ 49 ∷ 10 ∷ [])

@@ -10,9 +10,10 @@ use Rattle.model.specs.Blocks.{Link, blocksOf, total}
 use Rattle.model.specs.Verdicts.{refusal}
 use Rattle.model.specs.Unfolding.{showLinks}
 use Rattle.model.specs.Answers.{returned, given}
-use Rattle.model.specs.Questions.{answer, refuse, readAsked, writeAsked, countAsked, locateAsked, numberAsked, outAsked, inAsked, rowAsked, fewestAsked}
+use Rattle.model.specs.Questions.{answer, refuse, readAsked, writeAsked, countAsked, locateAsked, numberAsked, outAsked, inAsked, rowAsked, fewestAsked, quickestAsked}
 use Rattle.model.specs.Printed.{triples, printed}
 use Rattle.model.specs.Ring.{ring, notedRing, ringFile, notedFile, ringPrinted, notedPrinted, opening, openingFile, paddedFile}
+use Rattle.model.specs.Ring.{detour, waitsOf, onesWait, ringWaits, longWaits, detourWaits, cutWaits, outsideWaits, twiceWaits}
 
 -- Lent lists hold 7s before the call, so that a place which must not change is seen.
 abbrev pub lentPath : List ℕ
@@ -31,6 +32,10 @@ oneWay n = (0 ∷ n ∷ replicate 6 4294967295) ++ (4294967295 ∷ 0 ∷ replica
 -- The work area after fewest was asked of the ring show: blocks 0, 1 and 2, zeros, and two numbers beyond.
 abbrev pub ringWork : List ℕ
 ringWork = oneWay 2 ++ oneWay 4 ++ replicate 64 4294967295 ++ replicate 16192 0 ++ (7 ∷ 7 ∷ [])
+
+-- The work area after a quickest answer.
+abbrev pub clearedWork : List ℕ
+clearedWork = replicate 16384 0 ++ (7 ∷ 7 ∷ [])
 
 pub record Starred : Type 0 where
   -- *totals 1, 3, 5 for blocks 0, 1, 2
@@ -102,3 +107,39 @@ pub record Starred : Type 0 where
   pub noted-in : inAsked notedRing 1 0 (7 ∷ 7 ∷ []) ≡ answer (1 ∷ 0 ∷ []) (2 ∷ 7 ∷ [])
   pub noted-row : rowAsked notedRing 2 1 lentPath ≡ answer (8 ∷ 0 ∷ []) lentPath
   pub noted-print : printed notedFile ≡ notedPrinted
+  -- 02, Paper 5: the ring under the waits 1,10 and 2,25, to cue 2 and to cue 3 from each cue
+  pub quickest-1-2 : quickestAsked ring 1 2 ringWaits lentWork ≡ answer (1 ∷ 40 ∷ 0 ∷ []) clearedWork
+  pub quickest-2-2 : quickestAsked ring 2 2 ringWaits lentWork ≡ answer (1 ∷ 0 ∷ 0 ∷ []) clearedWork
+  pub quickest-3-2 : quickestAsked ring 3 2 ringWaits lentWork ≡ answer (1 ∷ 20 ∷ 0 ∷ []) clearedWork
+  pub quickest-4-2 : quickestAsked ring 4 2 ringWaits lentWork ≡ answer (1 ∷ 10 ∷ 0 ∷ []) clearedWork
+  pub quickest-5-2 : quickestAsked ring 5 2 ringWaits lentWork ≡ answer (1 ∷ 30 ∷ 0 ∷ []) clearedWork
+  pub quickest-1-3 : quickestAsked ring 1 3 ringWaits lentWork ≡ answer (1 ∷ 20 ∷ 0 ∷ []) clearedWork
+  pub quickest-2-3 : quickestAsked ring 2 3 ringWaits lentWork ≡ answer (1 ∷ 45 ∷ 0 ∷ []) clearedWork
+  pub quickest-3-3 : quickestAsked ring 3 3 ringWaits lentWork ≡ answer (1 ∷ 0 ∷ 0 ∷ []) clearedWork
+  pub quickest-4-3 : quickestAsked ring 4 3 ringWaits lentWork ≡ answer (1 ∷ 55 ∷ 0 ∷ []) clearedWork
+  pub quickest-5-3 : quickestAsked ring 5 3 ringWaits lentWork ≡ answer (1 ∷ 10 ∷ 0 ∷ []) clearedWork
+  -- label 2 without a line waits 0; the names alone: every wait is 0; all waits 6,000
+  pub unlined-1-2 : quickestAsked ring 1 2 onesWait lentWork ≡ answer (1 ∷ 40 ∷ 0 ∷ []) clearedWork
+  pub unlined-2-1 : quickestAsked ring 2 1 onesWait lentWork ≡ answer (1 ∷ 0 ∷ 0 ∷ []) clearedWork
+  pub unlined-4-3 : quickestAsked ring 4 3 onesWait lentWork ≡ answer (1 ∷ 30 ∷ 0 ∷ []) clearedWork
+  pub no-waits-1-2 : quickestAsked ring 1 2 (waitsOf []) lentWork ≡ answer (1 ∷ 0 ∷ 0 ∷ []) clearedWork
+  pub no-waits-2-1 : quickestAsked ring 2 1 (waitsOf []) lentWork ≡ answer (1 ∷ 0 ∷ 0 ∷ []) clearedWork
+  pub no-waits-4-3 : quickestAsked ring 4 3 (waitsOf []) lentWork ≡ answer (1 ∷ 0 ∷ 0 ∷ []) clearedWork
+  pub long-waits-1-2 : quickestAsked ring 1 2 longWaits lentWork ≡ answer (1 ∷ 24000 ∷ 0 ∷ []) clearedWork
+  pub long-waits-2-1 : quickestAsked ring 2 1 longWaits lentWork ≡ answer (1 ∷ 6000 ∷ 0 ∷ []) clearedWork
+  pub long-waits-4-3 : quickestAsked ring 4 3 longWaits lentWork ≡ answer (1 ∷ 24000 ∷ 0 ∷ []) clearedWork
+  -- a note is not followed, whatever waits; a cue is 0 from itself
+  pub noted-quickest-1-2 : quickestAsked notedRing 1 2 ringWaits lentWork ≡ answer (1 ∷ 40 ∷ 0 ∷ []) clearedWork
+  pub noted-quickest-2-1 : quickestAsked notedRing 2 1 ringWaits lentWork ≡ answer (0 ∷ 0 ∷ 0 ∷ []) clearedWork
+  pub noted-quickest-4-3 : quickestAsked notedRing 4 3 ringWaits lentWork ≡ answer (0 ∷ 0 ∷ 0 ∷ []) clearedWork
+  pub noted-quickest-3-3 : quickestAsked notedRing 3 3 ringWaits lentWork ≡ answer (1 ∷ 0 ∷ 0 ∷ []) clearedWork
+  -- more links can be quicker, where fewest is 1
+  pub detour-1-2 : quickestAsked detour 1 2 detourWaits lentWork ≡ answer (1 ∷ 20 ∷ 0 ∷ []) clearedWork
+  -- 15 at line 4, 16 at line 4 and 17 at line 3, each ahead of the next; 15 where s is t too, and behind 12; no names; a short work area
+  pub cut-line : quickestAsked ring 1 2 cutWaits lentWork ≡ refuse (refusal 15 4) lentWork
+  pub outside-range : quickestAsked ring 1 2 outsideWaits lentWork ≡ refuse (refusal 16 4) lentWork
+  pub not-above : quickestAsked ring 1 2 twiceWaits lentWork ≡ refuse (refusal 17 3) lentWork
+  pub cut-line-1-1 : quickestAsked ring 1 1 cutWaits lentWork ≡ refuse (refusal 15 4) lentWork
+  pub cut-line-6-1 : quickestAsked ring 6 1 cutWaits lentWork ≡ refuse (refusal 12 0) lentWork
+  pub no-names : quickestAsked ring 1 2 [] lentWork ≡ refuse (refusal 15 1) lentWork
+  pub short-work : quickestAsked ring 6 1 cutWaits (drop 3 lentWork) ≡ refuse (refusal 11 0) (drop 3 lentWork)

@@ -61,3 +61,11 @@ pub enum FewestAnswer {
     None,
     Refused(Refusal),
 }
+
+// The quickest way from one cue to another: the sum of its waits in tenths of a second, or none. A refusal is a number and a place as everywhere, the place
+// in 64 bits: it may be a line of the wait file, which has any number of lines.
+pub enum QuickestAnswer {
+    Tenths(u64),
+    None,
+    Refused(u32, u64),
+}

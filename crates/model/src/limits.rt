@@ -14,6 +14,8 @@ pub const MAX_LABEL: u32 = 255;
 
 pub const MAX_FOLLOWED: u32 = 254;
 
+pub const MAX_WAIT: u32 = 6000;
+
 pub const MAX_BLOCKS: u32 = 128;
 
 pub const MAX_BYTES: usize = 65536;

@@ -6,21 +6,22 @@ use mathlib.Core.Bool.{Bool, false}
 use mathlib.Core.Logic.{_⊎_, inl, inr}
 use mathlib.Core.List.{List}
 use lib.ListN.{getD}
-use Rattle.model.specs.Limits.{summarySize, summaryWidth}
+use Rattle.model.specs.Limits.{summarySize, summaryWidth, maxFollowed}
 use Rattle.model.specs.Blocks.{Link, Block, blockAt, joinsOf, blocksOf}
 use Rattle.shows.specs.WellFormed.{Cue}
 use Rattle.basics.proofs.Members.{getD-mem}
 use Rattle.shows.proofs.AtBlock.{joins-small, own-small}
 use Rattle.shows.proofs.BlockAt.{joinsOf-at, ownOf-at}
 use Rattle.distances.specs.Walks.{Price, Linked}
+use Rattle.distances.specs.Quickest.{priced}
 use Rattle.distances.specs.Tells.{met-by, by-link, by-use}
 use Rattle.verdicts.specs.Index.{linkAt, linksFrom, useAt, usesFrom}
 use Rattle.blocks.specs.Loaded.{Loaded, LinkRows, UseRows, columnAt, LinkRow, UseRow}
 use Rattle.blocks.proofs.Loaded.{mem-linksFrom, mem-usesFrom, linksFrom-mem, usesFrom-mem, loaded-show}
-use Rattle.searches.specs.Rounds.{orb, One, Still, Round, quiet}
+use Rattle.searches.specs.Rounds.{orb, Edges, One, Still, Round, quiet}
 use Rattle.searches.specs.Starts.{Meets, estimatesSize}
-use Rattle.searches.specs.Edges.{Span, numbers, UseEdge, Mesh, LinkEdge, LinkEnds, UseEdges, BlockEdge}
-use Rattle.searches.proofs.Rounds.{lowered-wide, round-then, span-on, round-loops, round-same}
+use Rattle.searches.specs.Edges.{Span, numbers, UseEdge, Mesh, Between, LinkEdge, LinkEnds, UseEdges, BlockEdge}
+use Rattle.searches.proofs.Rounds.{lowered-wide, round-then, span-on, span-back, round-loops, round-same}
 
 -- One use, by the row r that names its cues and the weights from place q on.
 module _ (xs work : List ℕ) (r q : ℕ) where
@@ -34,34 +35,82 @@ module _ (xs work : List ℕ) (r q : ℕ) where
           let e : i ≡ j = omega arith in
           let s : u ≡ v = eu ∙ ap (λ (k : ℕ). columnAt xs r k) e ∙ sym ev in rw s (omega arith)
 
-  -- Two cues: the edges from one to the other.
+  -- Two of its cues: the edges there and back.
+  pub between-both : (i j a b x y : ℕ) {d e f : List ℕ} {s c t : Bool} → a ≡ columnAt xs r i → b ≡ columnAt xs r j
+      → x ≡ getD work (q + summaryWidth * i + j) 0 → y ≡ getD work (q + summaryWidth * j + i) 0 → Round (One a b x) d s e → Round (One b a y) e c f
+      → t ≡ orb s c → Round (Between xs work r q i j) d t f
+  unfolding Between
+  between-both i j a b x y ea eb ex ey o o′ t =
+      round-then lowered-wide (λ u v w (eu, ev, ew). inl (eu ∙ ea, ev ∙ eb, ew ∙ ex)) (λ u v w (eu, ev, ew). inr (eu ∙ eb, ev ∙ ea, ew ∙ ey))
+      (λ u v w l. back u v w l) o o′ t
+    where
+      back : (u v w : ℕ) → Between xs work r q i j u v w → One a b x u v w ⊎ One b a y u v w
+      back u v w (inl (eu, ev, ew)) = inl (eu ∙ sym ea, ev ∙ sym eb, ew ∙ sym ex)
+      back u v w (inr (eu, ev, ew)) = inr (eu ∙ sym eb, ev ∙ sym ea, ew ∙ sym ey)
+
+  between-mesh : (m i j : ℕ) → i < m → j < m → (u v w : ℕ) → Between xs work r q i j u v w → Mesh xs work r q m u v w
+  unfolding Between Mesh
+  between-mesh m i j hi hj u v w (inl o) = (i, j, hi, hj, o)
+  between-mesh m i j hi hj u v w (inr o) = (j, i, hj, hi, o)
+
+  -- All edges of a use that names two cues, or three.
+  pub mesh-two : {d e : List ℕ} {t : Bool} → Round (Between xs work r q 0 1) d t e → Round (Mesh xs work r q 2) d t e
+  unfolding Between Mesh
+  mesh-two o = round-loops (between-mesh 2 0 1 (omega arith) (omega arith)) (λ u v w (i, j, hi, hj, o). back u v w i j hi hj o) o
+    where
+      back : (u v w i j : ℕ) → i < 2 → j < 2 → One (columnAt xs r i) (columnAt xs r j) (getD work (q + summaryWidth * i + j) 0) u v w
+          → Between xs work r q 0 1 u v w ⊎ (u ≡ v)
+      back u v w zero zero hi hj (eu, ev, ew) = inr (eu ∙ sym ev)
+      back u v w zero (suc zero) hi hj o = inl (inl o)
+      back u v w (suc zero) zero hi hj o = inl (inr o)
+      back u v w (suc zero) (suc zero) hi hj (eu, ev, ew) = inr (eu ∙ sym ev)
+      back u v w zero (suc (suc j)) hi hj o = absurd (omega arith)
+      back u v w (suc zero) (suc (suc j)) hi hj o = absurd (omega arith)
+      back u v w (suc (suc i)) j hi hj o = absurd (omega arith)
+
+  pub mesh-three : {d e f g : List ℕ} {a b c s t : Bool} → Round (Between xs work r q 0 1) d a e → Round (Between xs work r q 0 2) e b f
+      → Round (Between xs work r q 1 2) f c g → s ≡ orb a b → t ≡ orb s c → Round (Mesh xs work r q 3) d t g
+  unfolding Between Mesh
+  mesh-three x y z p o =
+      round-loops (λ u v w l. into u v w l) (λ u v w (i, j, hi, hj, l). back u v w i j hi hj l)
+      (round-then lowered-wide {X = Three} (λ u v w l. inl l) (λ u v w l. inr l) (λ u v w l. l)
+      (round-then lowered-wide {X = λ u v w. B 0 1 u v w ⊎ B 0 2 u v w} (λ u v w l. inl l) (λ u v w l. inr l) (λ u v w l. l) x y p) z o)
+    where
+      B : ℕ → ℕ → Edges
+      B i j u v w = Between xs work r q i j u v w
+
+      Three : Edges
+      Three u v w = (B 0 1 u v w ⊎ B 0 2 u v w) ⊎ B 1 2 u v w
+
+      into : (u v w : ℕ) → Three u v w → Mesh xs work r q 3 u v w
+      into u v w (inl (inl l)) = between-mesh 3 0 1 (omega arith) (omega arith) u v w l
+      into u v w (inl (inr l)) = between-mesh 3 0 2 (omega arith) (omega arith) u v w l
+      into u v w (inr l) = between-mesh 3 1 2 (omega arith) (omega arith) u v w l
+
+      back : (u v w i j : ℕ) → i < 3 → j < 3 → One (columnAt xs r i) (columnAt xs r j) (getD work (q + summaryWidth * i + j) 0) u v w
+          → Three u v w ⊎ (u ≡ v)
+      back u v w zero zero hi hj (eu, ev, ew) = inr (eu ∙ sym ev)
+      back u v w zero (suc zero) hi hj l = inl (inl (inl (inl l)))
+      back u v w zero (suc (suc zero)) hi hj l = inl (inl (inr (inl l)))
+      back u v w (suc zero) zero hi hj l = inl (inl (inl (inr l)))
+      back u v w (suc zero) (suc zero) hi hj (eu, ev, ew) = inr (eu ∙ sym ev)
+      back u v w (suc zero) (suc (suc zero)) hi hj l = inl (inr (inl l))
+      back u v w (suc (suc zero)) zero hi hj l = inl (inl (inr (inr l)))
+      back u v w (suc (suc zero)) (suc zero) hi hj l = inl (inr (inr l))
+      back u v w (suc (suc zero)) (suc (suc zero)) hi hj (eu, ev, ew) = inr (eu ∙ sym ev)
+      back u v w zero (suc (suc (suc j))) hi hj l = absurd (omega arith)
+      back u v w (suc zero) (suc (suc (suc j))) hi hj l = absurd (omega arith)
+      back u v w (suc (suc zero)) (suc (suc (suc j))) hi hj l = absurd (omega arith)
+      back u v w (suc (suc (suc i))) j hi hj l = absurd (omega arith)
+
+  -- Two cues, by the numbers as they are read.
   pub mesh-pair : (a b x y : ℕ) {d e f : List ℕ} {s c t : Bool} → a ≡ columnAt xs r 0 → b ≡ columnAt xs r 1 → x ≡ getD work (q + 1) 0
       → y ≡ getD work (q + summaryWidth) 0 → Round (One a b x) d s e → Round (One b a y) e c f → t ≡ orb s c → Round (Mesh xs work r q 2) d t f
-  unfolding Mesh
   mesh-pair a b x y ea eb ex ey o o′ t =
-      round-loops {W = λ u v w. One a b x u v w ⊎ One b a y u v w} (λ u v w i. into u v w i)
-      (λ u v w (i, j, hi, hj, (eu, ev, ew)). back u v w i j hi hj eu ev ew)
-      (round-then lowered-wide (λ u v w i. inl i) (λ u v w i. inr i) (λ u v w i. i) o o′ t)
-    where
-      forth : x ≡ getD work (q + summaryWidth * 0 + 1) 0
-      forth = let z : q + 1 ≡ q + summaryWidth * 0 + 1 = omega arith in ex ∙ ap (λ (k : ℕ). getD work k 0) z
-
-      up : y ≡ getD work (q + summaryWidth * 1 + 0) 0
-      up = let z : q + summaryWidth ≡ q + summaryWidth * 1 + 0 = omega arith in ey ∙ ap (λ (k : ℕ). getD work k 0) z
-
-      into : (u v w : ℕ) → One a b x u v w ⊎ One b a y u v w → Mesh xs work r q 2 u v w
-      into u v w (inl (eu, ev, ew)) = (0, 1, omega arith, omega arith, (eu ∙ ea, ev ∙ eb, ew ∙ forth))
-      into u v w (inr (eu, ev, ew)) = (1, 0, omega arith, omega arith, (eu ∙ eb, ev ∙ ea, ew ∙ up))
-
-      back : (u v w i j : ℕ) → i < 2 → j < 2 → u ≡ columnAt xs r i → v ≡ columnAt xs r j → w ≡ getD work (q + summaryWidth * i + j) 0
-          → (One a b x u v w ⊎ One b a y u v w) ⊎ (u ≡ v)
-      back u v w zero zero hi hj eu ev ew = inr (eu ∙ sym ev)
-      back u v w zero (suc zero) hi hj eu ev ew = inl (inl (eu ∙ sym ea, ev ∙ sym eb, ew ∙ sym forth))
-      back u v w (suc zero) zero hi hj eu ev ew = inl (inr (eu ∙ sym eb, ev ∙ sym ea, ew ∙ sym up))
-      back u v w (suc zero) (suc zero) hi hj eu ev ew = inr (eu ∙ sym ev)
-      back u v w zero (suc (suc j)) hi hj eu ev ew = absurd (omega arith)
-      back u v w (suc zero) (suc (suc j)) hi hj eu ev ew = absurd (omega arith)
-      back u v w (suc (suc i)) j hi hj eu ev ew = absurd (omega arith)
+      let forth : q + 1 ≡ q + summaryWidth * 0 + 1 = omega arith in
+      let up : q + summaryWidth ≡ q + summaryWidth * 1 + 0 = omega arith in
+      mesh-two
+      (between-both 0 1 a b x y ea eb (ex ∙ ap (λ (k : ℕ). getD work k 0) forth) (ey ∙ ap (λ (k : ℕ). getD work k 0) up) o o′ t)
 
 module _ {xs t : List ℕ} (g : Loaded xs t) where
   abbrev bs : List Block
@@ -145,6 +194,16 @@ link-taken price l x y z h only ex ey o =
     round-same lowered-wide (λ u v w i. (sym ex ∙ sym (i .0), sym ey ∙ sym (i .1), rw (i .2) h))
     (λ u v w i. (sym (i .0) ∙ sym ex, sym (i .1) ∙ sym ey, only w (i .2))) o
 
+-- A link that waits: a note, and one that is followed.
+pub link-unpriced : (waits : List ℕ) (l : Link) (d : List ℕ) → maxFollowed < l .label → Round (LinkEdge (priced waits) l) d false d
+link-unpriced waits l d h = link-note (priced waits) l d (λ w p. absurd (omega arith))
+
+pub link-waits : (waits : List ℕ) (l : Link) (label x y z : ℕ) {d e : List ℕ} {c : Bool} → label ≡ l .label → label ≤ maxFollowed
+    → z ≡ getD waits label 0 → x ≡ l .from → y ≡ l .to → Round (One x y z) d c e → Round (LinkEdge (priced waits) l) d c e
+link-waits waits l label x y z el h ez ex ey o =
+    let z′ : z ≡ getD waits (l .label) 0 = ez ∙ ap (λ (k : ℕ). getD waits k 0) el in
+    link-taken (priced waits) l x y z (omega arith, z′) (λ w p. p .1 ∙ sym z′) ex ey o
+
 -- Rows of links, and of uses: one more, and all of a block's.
 module _ (price : Price) (xs : List ℕ) where
   abbrev pub LinkSpan : ℕ → ℕ → ℕ → ℕ → ℕ → Type 0
@@ -178,6 +237,10 @@ module _ (xs : List ℕ) where
     pub uses-on : (a r : ℕ) {d e f : List ℕ} {s c t : Bool} → a ≤ r → Round (UseSpan a r) d s e
         → Round (UseEdge (blocksOf xs) work (useAt xs (blocksOf xs) r)) e c f → t ≡ orb s c → Round (UseSpan a (r + 1)) d t f
     uses-on a r h s z o = span-on lowered-wide (λ r. UseEdge (blocksOf xs) work (useAt xs (blocksOf xs) r)) a r h s z o
+
+    pub uses-back : (r p z : ℕ) {d e f : List ℕ} {s c t : Bool} → p ≡ r + 1 → p ≤ z → Round (UseSpan p z) d s e
+        → Round (UseEdge (blocksOf xs) work (useAt xs (blocksOf xs) r)) e c f → t ≡ orb s c → Round (UseSpan r z) d t f
+    uses-back r p z e h s x o = span-back lowered-wide (λ r. UseEdge (blocksOf xs) work (useAt xs (blocksOf xs) r)) r p z e h s x o
 
     pub uses-done : {t : List ℕ} (k : ℕ) {a z : ℕ} {d e : List ℕ} {c : Bool} → UseRows xs t k a z → Round (UseSpan a z) d c e
         → Round (UseEdges (blocksOf xs) work (blockAt (blocksOf xs) k .uses)) d c e

@@ -7,8 +7,9 @@ pub mod Lines
 pub mod Edges
 -- 2. Settled estimates are final: they tell the least weights (distances/proofs/Closure).
 pub mod Settled
--- 3. From copy to copy, over rows: what the next copy begins with, what its estimates tell, all the way up and down.
+-- 3. From copy to copy, over rows: what the next copy begins with, what stands in the work area by blocks, what its estimates tell, all the way up and down.
 pub mod Joins
+pub mod Parts
 pub mod Telling
 pub mod Ways
 pub mod Answering

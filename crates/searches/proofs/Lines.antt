@@ -12,7 +12,7 @@ use Rattle.model.specs.Limits.{summaryWidth}
 use Rattle.blocks.specs.Loaded.{columnAt}
 use Rattle.searches.specs.Rounds.{orb, Lowered, more, Still, Round, quiet, moved, Fell, same, less}
 use Rattle.searches.specs.Starts.{MetAt, Merged, Gathered}
-use Rattle.searches.specs.Lines.{Least, Line, Lines, Alike}
+use Rattle.searches.specs.Lines.{Least, Capped, Line, Lines, Alike, Even}
 use Rattle.searches.specs.Edges.{Mesh}
 use Rattle.searches.proofs.Lowering.{true-not-false}
 use Rattle.searches.proofs.Rounds.{runs-begin}
@@ -26,6 +26,12 @@ least-sum inf y x w room s r h e (sw, sr, S) (ry, rs, R) = record { old = ry; ne
     from (inl p) q = inl p
     from (inr (p, l)) (inl q) = inr (omega arith, omega arith)
     from (inr (p, l)) (inr (q, k)) = absurd (omega arith)
+
+pub least-capped : (inf y x w z r : ℕ) → y ≤ inf → Capped inf x w z → ((z < y) × (r ≡ z)) ⊎ ((y ≤ z) × (r ≡ y)) → Least inf y x w r
+least-capped inf y x w z r h (inl e) (inl (l, f)) = record { old = omega arith; new = omega arith; from = inr (omega arith, omega arith) }
+least-capped inf y x w z r h (inl e) (inr (l, f)) = record { old = omega arith; new = omega arith; from = inl f }
+least-capped inf y x w z r h (inr (e, k)) (inl (l, f)) = absurd (omega arith)
+least-capped inf y x w z r h (inr (e, k)) (inr (l, f)) = record { old = omega arith; new = omega arith; from = inl f }
 
 -- An estimate from inf on lowers no other.
 pub line-skip : (inf n : ℕ) (work : List ℕ) (q x : ℕ) (d : List ℕ) → inf ≤ x → ((c : ℕ) → getD d c 0 ≤ inf) → Line inf work q x d n d
@@ -88,6 +94,29 @@ alike-on false u t a b i x y s ex ey p o = record { same = λ e j h. go e j h (�
     go : t ≡ false → (j : ℕ) → j < i + 1 → Dec (j ≡ i) → getD a j 0 ≡ getD b j 0
     go e j h (yes q) = rw q (sym ex ∙ p (sym o ∙ e) ∙ ey)
     go e j h (no n) = s .same refl j (omega arith)
+
+-- A list against one number, one place more.
+pub even-begin : (t : Bool) (x : ℕ) (a : List ℕ) → Even t x a 0
+even-begin t x a = record { same = λ e j h. absurd (omega arith) }
+
+pub even-on : (s u t : Bool) (x : ℕ) (a : List ℕ) (i y : ℕ) → i < length a → Even s x a i → (u ≡ false → y ≡ x) → t ≡ orb s u
+    → Even t x (set a i y) (i + 1)
+unfolding orb
+even-on true u t x a i y l s p o = record { same = λ e j h. absurd (true-not-false o e) }
+even-on false u t x a i y l s p o = record { same = λ e j h. go e j h (ℕ-discrete j i) }
+  where
+    go : t ≡ false → (j : ℕ) → j < i + 1 → Dec (j ≡ i) → getD (set a i y) j 0 ≡ x
+    go e j h (yes q) = rw q (getD-set-same a i y 0 l ∙ p (sym o ∙ e))
+    go e j h (no n) = getD-set-other a i j y 0 n ∙ s .same refl j (omega arith)
+
+-- Cues that have all the same estimate improve none.
+pub round-even : (xs work : List ℕ) (r q m x : ℕ) (d g₀ g : List ℕ) (t : Bool) → Gathered xs r d m g₀ g → Even t x g m → t ≡ false
+    → Round (Mesh xs work r q m) d false d
+unfolding Mesh
+round-even xs work r q m x d g₀ g t got level e =
+    quiet refl refl
+    (λ u v w (i, j, hi, hj, (eu, ev, ew)). rw (eu, ev)
+    (omega (arith, got .at i hi, got .at j hj, level .same e i hi, level .same e j hj)))
 
 -- The cues of a use: estimates d, those of its cues g, and those h that the lines make of them.
 module _ (inf width : ℕ) (xs work : List ℕ) (r q m : ℕ) (d g₀ g h : List ℕ) (few : m ≤ width) (blank : (i : ℕ) → m ≤ i → i < width → getD g₀ i 0 ≡ inf)

@@ -8,6 +8,7 @@ use mathlib.Core.Logic.{_⊎_, inl, inr}
 use mathlib.Core.List.{List, [], _∷_}
 use lib.ListN.{length, getD, set}
 use lib.Seq.{getD-set-same, getD-set-other}
+use Rattle.searches.specs.Lines.{Capped}
 use Rattle.searches.specs.Rounds.{orb, sum, One, Lowered, none, more, Still, Round, quiet, moved, Fell, same, less}
 
 -- Either of two tests.
@@ -79,12 +80,34 @@ module _ (d : List ℕ) (u v w x y z m : ℕ) (c : Bool) (ex : x ≡ getD d u 0)
   round-both (inl (l, e)) (inr (l′, f)) = absurd (omega arith)
   round-both (inr (l, e)) (inl (l′, f)) = absurd (omega arith)
 
+-- The same where the sum is cut off at inf, which no estimate is above.
+pub round-capped : (inf : ℕ) (d : List ℕ) (u v w x y z m : ℕ) (c : Bool) → x ≡ getD d u 0 → y ≡ getD d v 0 → y ≤ inf → Capped inf x w z
+    → ((z < y) × (m ≡ z)) ⊎ ((y ≤ z) × (m ≡ y)) → ((z < y) × (c ≡ true)) ⊎ ((y ≤ z) × (c ≡ false)) → Round (One u v w) d c (set d v m)
+round-capped inf d u v w x y z m c ex ey h (inl e) l f = round-both d u v w x y w m c ex ey refl (rw e at l) (rw e at f)
+round-capped inf d u v w x y z m c ex ey h (inr (e, k)) l f = round-both d u v w x y w m c ex ey refl (lesser l) (kept f)
+  where
+    lesser : ((z < y) × (m ≡ z)) ⊎ ((y ≤ z) × (m ≡ y)) → ((x + w < y) × (m ≡ x + w)) ⊎ ((y ≤ x + w) × (m ≡ y))
+    lesser (inl (a, b)) = absurd (omega arith)
+    lesser (inr (a, b)) = inr (omega arith, b)
+
+    kept : ((z < y) × (c ≡ true)) ⊎ ((y ≤ z) × (c ≡ false)) → ((x + w < y) × (c ≡ true)) ⊎ ((y ≤ x + w) × (c ≡ false))
+    kept (inl (a, b)) = absurd (omega arith)
+    kept (inr (a, b)) = inr (omega arith, b)
+
 -- Estimates that fell or did not, one after the other.
 pub fell-begin : (d : List ℕ) → Fell d false d
 fell-begin d = same refl refl
 
 pub fell-put : (d : List ℕ) (v y : ℕ) → y < getD d v 0 → Fell d true (set d v y)
 fell-put d v y h = less refl (sum-set d v y h)
+
+-- The lesser of the two is put in, and c says whether the estimate falls.
+pub fell-both : (d : List ℕ) (v y z m : ℕ) (c : Bool) → y ≡ getD d v 0 → ((z < y) × (m ≡ z)) ⊎ ((y ≤ z) × (m ≡ y))
+    → ((z < y) × (c ≡ true)) ⊎ ((y ≤ z) × (c ≡ false)) → Fell d c (set d v m)
+fell-both d v y z m c ey (inl (l, e)) (inl (l′, f)) = rw (e, f) (fell-put d v z (rw ey at l))
+fell-both d v y z m c ey (inr (l, e)) (inr (l′, f)) = rw (e, f, ey, set-same d v) (fell-begin d)
+fell-both d v y z m c ey (inl (l, e)) (inr (l′, f)) = absurd (omega arith)
+fell-both d v y z m c ey (inr (l, e)) (inl (l′, f)) = absurd (omega arith)
 
 pub fell-on : {d e f : List ℕ} {b c t : Bool} → Fell d b e → Fell e c f → t ≡ orb b c → Fell d t f
 unfolding orb

@@ -74,6 +74,17 @@ module _ {S : Type 0} {G : Game S} (wide : Wider G) where
       at u v w (p, k, l, m) (yes e) = inr (rw e at m)
       at u v w (p, k, l, m) (no n) = inl (p, k, omega arith, m)
 
+  -- One more at the front of the span, which begins at p so far.
+  pub span-back : (X : ℕ → Edges) (q p z : ℕ) {d e f : S} {b c t : Bool} → p ≡ q + 1 → p ≤ z → RoundOf G (Span X p z) d b e
+      → RoundOf G (X q) e c f → t ≡ orb b c → RoundOf G (Span X q z) d t f
+  span-back X q p z s h x y o =
+      round-then (λ u v w i. (i .0, omega (arith, i .1), i .2, i .3)) (λ u v w i. (q, omega arith, omega arith, i))
+      (λ u v w i. at u v w i (ℕ-discrete (i .0) q)) x y o
+    where
+      at : (u v w : ℕ) (i : Span X q z u v w) → Dec (i .0 ≡ q) → Span X p z u v w ⊎ X q u v w
+      at u v w (k, l, m, n) (yes e) = inr (rw e at n)
+      at u v w (k, l, m, n) (no e) = inl (k, omega arith, m, n)
+
   -- Edges that have nothing to do may be left out.
   pub round-idle : {W X : Edges} {d e : S} {t : Bool} → ((u v w : ℕ) → W u v w → X u v w)
       → ((u v w : ℕ) → X u v w → W u v w ⊎ G .Idle d u v w) → RoundOf G W d t e → RoundOf G X d t e

@@ -9,7 +9,7 @@ use lib.ListN.{length, getD, set}
 use lib.Seq.{getD-set-same, getD-set-other}
 use Rattle.blocks.specs.Loaded.{columnAt}
 use Rattle.searches.specs.Starts.{Beginnings, Nowhere, Cell, Either, EachOf, Meets, MetAt, Started, Merged, Gathered}
-use Rattle.searches.proofs.Lowering.{inside}
+use Rattle.searches.proofs.Lowering.{inside, set-same}
 
 -- The first n numbers of a list are f's, and one more.
 pub agree-on : (f : ℕ → ℕ) (d : List ℕ) (n : ℕ) → n < length d → ((a : ℕ) → a < n → getD d a 0 ≡ f a)
@@ -46,6 +46,11 @@ merged-put v y d h =
 pub merged-kept : (v y : ℕ) (d : List ℕ) → getD d v 0 ≤ y → Merged (Cell v y) d d
 merged-kept v y d h =
     record { fallen = λ a x b. omega (arith, b .1, ap (λ (c : ℕ). getD d c 0) (b .0)); lower = λ a. omega arith; from = λ a. inl refl }
+
+-- The lesser of the two is put in.
+pub merged-both : (v y z m : ℕ) (d : List ℕ) → y ≡ getD d v 0 → ((z < y) × (m ≡ z)) ⊎ ((y ≤ z) × (m ≡ y)) → Merged (Cell v z) d (set d v m)
+merged-both v y z m d ey (inl (l, e)) = rw e (merged-put v z d (rw ey at l))
+merged-both v y z m d ey (inr (l, e)) = rw (e, ey, set-same d v) (merged-kept v z d (rw ey at l))
 
 -- Nothing put in; and one after the other.
 pub merged-nothing : {S : Beginnings} (d : List ℕ) → ((a x : ℕ) → S a x → ⊥) → Merged S d d
@@ -126,6 +131,10 @@ started-first {S = S} s m = started-same (λ a x b. to a x b) (λ a x b. inr b) 
 -- A cue that a row names, as read there.
 pub meets-within : {xs : List ℕ} {r m n : ℕ} (i c v : ℕ) → Meets xs r m n → i < m → c ≡ columnAt xs r i → v ≡ c → v < n
 meets-within i c v h l x y = omega (arith, h .within i l)
+
+-- Fewer of the cues that a row names, in a list of the same length.
+pub meets-fewer : {xs : List ℕ} {r m n k : ℕ} (i : ℕ) → Meets xs r m n → i ≤ m → k ≡ n → Meets xs r i k
+meets-fewer i h l e = record { there = h .there; few = omega (arith, h .few); within = λ j k. omega (arith, h .within j (omega arith)) }
 
 -- The estimates of some cues, one more.
 pub gathered-begin : (xs : List ℕ) (r : ℕ) (d e : List ℕ) → Gathered xs r d 0 e e

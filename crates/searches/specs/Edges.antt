@@ -2,6 +2,7 @@
 -- area. And estimates relaxed over them.
 use Prim.Native.Nat.{ℕ, _+_, _*_, _≤_, _<_}
 use mathlib.Core.Path.{_≡_}
+use mathlib.Core.Logic.{_⊎_}
 use mathlib.Core.List.{List, List·Memᴰ}
 use lib.ListN.{length, getD}
 use Rattle.model.specs.Limits.{summarySize, summaryWidth}
@@ -31,6 +32,12 @@ UseEdge bs work p u v w =
 unfoldable pub Mesh : List ℕ → List ℕ → ℕ → ℕ → ℕ → Edges
 Mesh xs work r q m u v w =
     (i j : ℕ) × (i < m) × (j < m) × One (columnAt xs r i) (columnAt xs r j) (getD work (q + summaryWidth * i + j) 0) u v w
+
+-- Those between two of these cues, there and back.
+unfoldable pub Between : List ℕ → List ℕ → ℕ → ℕ → ℕ → ℕ → Edges
+Between xs work r q i j u v w =
+    One (columnAt xs r i) (columnAt xs r j) (getD work (q + summaryWidth * i + j) 0) u v w
+    ⊎ One (columnAt xs r j) (columnAt xs r i) (getD work (q + summaryWidth * j + i) 0) u v w
 
 -- The edge of a link, if its label has a price. (Those of some links are `Linked price`.)
 unfoldable pub LinkEdge : Price → Link → Edges

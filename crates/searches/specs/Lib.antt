@@ -4,4 +4,5 @@ pub mod Starts
 pub mod Lines
 pub mod Edges
 pub mod Joins
+pub mod Parts
 pub mod Copies

@@ -14,6 +14,10 @@ pub record Least (inf y x w r : ℕ) : Type 0 where
   pub new : r ≤ x + w
   pub from : (r ≡ y) ⊎ ((r ≡ x + w) × (r < inf))
 
+-- z is the sum of an estimate x and a weight w, or inf where that is no estimate.
+abbrev pub Capped : ℕ → ℕ → ℕ → ℕ → Type 0
+Capped inf x w z = (z ≡ x + w) ⊎ ((z ≡ inf) × (inf ≤ x + w))
+
 -- The first n of the estimates d became those of e, by the weights from place q on and an estimate
 -- x; the others are the same.
 pub record Line (inf : ℕ) (work : List ℕ) (q x : ℕ) (d : List ℕ) (n : ℕ) (e : List ℕ) : Type 0 where
@@ -31,3 +35,7 @@ pub record Lines (inf width : ℕ) (work : List ℕ) (q : ℕ) (g d : List ℕ) 
 -- Unless a test says that they differ, the first n of two lists are the same.
 pub record Alike (differ : Bool) (a b : List ℕ) (n : ℕ) : Type 0 where
   pub same : differ ≡ false → (j : ℕ) → j < n → getD a j 0 ≡ getD b j 0
+
+-- Unless a test says that one of them is not x, the first n of a list are.
+pub record Even (differ : Bool) (x : ℕ) (a : List ℕ) (n : ℕ) : Type 0 where
+  pub same : differ ≡ false → (j : ℕ) → j < n → getD a j 0 ≡ x

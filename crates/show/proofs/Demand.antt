@@ -1,4 +1,4 @@
--- Demands 2 and 3, and what Paper 4 demands, as theorems about the entry points' answers: what they ensure says just this.
+-- Demands 2 and 3, and what Papers 4 and 5 demand, as theorems about the entry points' answers: what they ensure says just this.
 use Prim.Native.Nat.{ℕ}
 use mathlib.Core.Path.{_≡_, refl}
 use mathlib.Core.List.{List}
@@ -11,9 +11,10 @@ use Rattle.model.specs.declared.WriteAnswer.the-variants.{Written}
 use Rattle.shows.proofs.Accepted.{accepted-show}
 use Rattle.demands.proofs.Acceptance.{accepted-exactly}
 use Rattle.demands.proofs.Words.{words}
+use Rattle.demands.proofs.Answered.{read-answers, desk-answers, write-answers, count-answers, locate-answers, number-answers, out-answers, in-answers, row-answers, fewest-answers, quickest-answers}
 use Rattle.demands.proofs.Ring.{ring-accepted, noted-accepted, ring-stands}
 use Rattle.demands.proofs.Blocks.{are-blocks}
-use Rattle.demands.proofs.Refusals.{write-refuses, count-refuses, locate-refuses, number-refuses, out-refuses, in-refuses, row-refuses, fewest-refuses}
+use Rattle.demands.proofs.Refusals.{write-refuses, count-refuses, locate-refuses, number-refuses, out-refuses, in-refuses, row-refuses, fewest-refuses, quickest-refuses}
 use Rattle.demands.proofs.Reading.{first-way, is-read}
 use Rattle.demands.proofs.Writing.{is-written}
 use Rattle.demands.proofs.Padding.{padded-file}
@@ -25,11 +26,14 @@ use Rattle.demands.proofs.Lists.{list-out, list-in, pages-out, pages-in}
 use Rattle.demands.proofs.RowBehind.{is-row-behind}
 use Rattle.demands.proofs.Shortest.{is-fewest, leaves-summaries}
 use Rattle.demands.proofs.Notes.{chain-links, old-figure, ring-unnoted, ring-noted}
+use Rattle.demands.proofs.QuickestAsked.{quickest-exact}
+use Rattle.demands.proofs.Askable.{ring-askable}
+use Rattle.demands.proofs.WaitCases.{some-lawful, some-malformed, some-outside, some-fallen}
 use Rattle.demands.proofs.DeskTable.{table-fact}
 use Rattle.demands.proofs.DeskReading.{is-desk-read, own-lines, desk-lawful, writes-whole}
 use Rattle.demands.proofs.DeskExample.{desk-file}
 use Rattle.demands.proofs.DeskWork.{has-desk-summaries}
-use Rattle.show.specs.Demand.{RightAgainstUnfolding, Demand2, Demand3, Demand4}
+use Rattle.show.specs.Demand.{RightAgainstUnfolding, Demand2, Demand3, Demand4, Demand5}
 
 -- Demand 2: of rows that keep the rules, of the rules, and of the round trips.
 right : (xs : List ℕ) → verdict xs ≡ Accepted → RightAgainstUnfolding xs
@@ -52,6 +56,20 @@ pub demand-2 : Demand2
 demand-2 =
     record {
       words = words;
+      answered =
+          record {
+            read = read-answers;
+            read-desk = desk-answers;
+            write = write-answers;
+            count = count-answers;
+            locate = locate-answers;
+            number = number-answers;
+            list-out = out-answers;
+            list-in = in-answers;
+            row = row-answers;
+            fewest = fewest-answers;
+            quickest = quickest-answers;
+          };
       acceptance =
           record {
             read = is-read;
@@ -67,6 +85,7 @@ demand-2 =
             list-in = in-refuses;
             row = row-refuses;
             fewest = fewest-refuses;
+            quickest = quickest-refuses;
           };
       a-show = accepted-exactly ring .0 ring-accepted;
       a-padded-file = padded-file;
@@ -107,4 +126,16 @@ demand-4 =
       round-trip = writes-whole;
       work-area = has-desk-summaries;
       a-file = desk-file;
+    }
+
+-- Document 02, Paper 5.
+pub demand-5 : Demand5
+demand-5 =
+    record {
+      exact = quickest-exact;
+      a-question = ring-askable;
+      a-file = some-lawful;
+      a-malformed-file = some-malformed;
+      an-outside-file = some-outside;
+      a-fallen-file = some-fallen;
     }

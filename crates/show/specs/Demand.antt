@@ -1,17 +1,17 @@
--- Demands 2 and 3, and what document 02, Paper 4, demands, of the answers that the entry points give, in the words of documents 01 and 02. What an entry
+-- Demands 2 and 3, and what document 02, Papers 4 and 5, demand, of the answers that the entry points give, in the words of documents 01 and 02. What an entry
 -- point is asked and answers is known by its promise (crates/model/specs/Asking), which is what its function ensures; the words are those of
--- crates/demands/specs, a page for each part; for the text of a file, of crates/shows/specs/Files; for chains and summaries, of
+-- crates/demands/specs, a page for each part; for the text of a file, of crates/shows/specs/Files and SmallFiles; for chains and summaries, of
 -- crates/distances/specs/Demand. Other words of the model and its laws are pinned by `Words` and by the statements that they stand in.
 use Prim.Native.Nat.{ℕ, _*_, _≤_, _<_}
 use mathlib.Core.Bool.{Bool}
 use mathlib.Core.List.{List, [], _∷_}
-use lib.ListN.{length, take}
+use lib.ListN.{length, take, replicate}
 use Rattle.model.specs.Limits.{rowSize, maxDepth}
 use Rattle.model.specs.Blocks.{blocksOf, lastBlock, count}
 use Rattle.model.specs.Unfolding.{showLinks}
 use Rattle.model.specs.Summaries.{blockLinks}
-use Rattle.model.specs.Answers.{ofWrite, ofCount, ofLocate, ofNumber, ofList, ofRow, ofFewest}
-use Rattle.model.specs.Ring.{ring, notedRing, opening, paddedFile}
+use Rattle.model.specs.Answers.{ofWrite, ofCount, ofLocate, ofNumber, ofList, ofRow, ofFewest, ofQuickest}
+use Rattle.model.specs.Ring.{ring, notedRing, opening, paddedFile, ringWaits, cutWaits, outsideWaits, twiceWaits}
 use Rattle.model.specs.declared.ReadAnswer.{ReadAnswer}
 use Rattle.model.specs.declared.ReadAnswer.the-variants.{Read}
 use Rattle.model.specs.declared.WriteAnswer.{WriteAnswer}
@@ -22,11 +22,12 @@ use Rattle.model.specs.declared.NumberAnswer.{NumberAnswer}
 use Rattle.model.specs.declared.ListAnswer.{ListAnswer}
 use Rattle.model.specs.declared.RowAnswer.{RowAnswer}
 use Rattle.model.specs.declared.FewestAnswer.{FewestAnswer}
-use Rattle.model.specs.Asking.{AsksRead, AsksDeskRead, AsksWrite, AsksCount, AsksLocate, AsksNumber, AsksOut, AsksIn, AsksRow, AsksFewest}
+use Rattle.model.specs.declared.QuickestAnswer.{QuickestAnswer}
+use Rattle.model.specs.Asking.{AsksRead, AsksDeskRead, AsksWrite, AsksCount, AsksLocate, AsksNumber, AsksOut, AsksIn, AsksRow, AsksFewest, AsksQuickest}
 use Rattle.demands.specs.Acceptance.{nthRow, IsRow, Lawful}
 use Rattle.demands.specs.Words.{Words}
 use Rattle.demands.specs.Blocks.{AreBlocks}
-use Rattle.demands.specs.Refusals.{TooShort, Refuses}
+use Rattle.demands.specs.Refusals.{TooShort, Refuses, HasAnswer}
 use Rattle.shows.specs.Files.{SpellsFile}
 use Rattle.demands.specs.Files.{IsRead, IsWritten, NoRoomFor, Unpadded}
 use Rattle.demands.specs.RoundTrips.{WritesBack, ReadsBack, ReadsAgain}
@@ -38,9 +39,25 @@ use Rattle.demands.specs.RowBehind.{StandsAs, IsRowBehind}
 use Rattle.demands.specs.Fewest.{IsFewest}
 use Rattle.demands.specs.WorkArea.{IsWorkArea}
 use Rattle.demands.specs.Notes.{IsNote, NoNotes, followedLinks, followedInside, ChainLinks, OldFigure}
+use Rattle.demands.specs.Waits.{LawfulWaits, Malformed, Outside, NotRising}
+use Rattle.demands.specs.Quickest.{Askable, QuickestExact}
 use Rattle.demands.specs.Desk.{TableFact, DeskLawful, IsDeskRead, OwnLines, WritesWhole, HasDeskSummaries}
 
 -- Demand 2.
+
+-- Every question has an answer, which all else here speaks of.
+pub record Answered : Type 0 where
+  pub read : (file out : List ℕ) → HasAnswer (AsksRead file out)
+  pub read-desk : (file out : List ℕ) → HasAnswer (AsksDeskRead file out)
+  pub write : (xs out : List ℕ) → HasAnswer (AsksWrite xs out)
+  pub count : (xs : List ℕ) → HasAnswer (λ (r : CountAnswer) (after : List ℕ). AsksCount xs r)
+  pub locate : (xs : List ℕ) (n : ℕ) (lent : List ℕ) → HasAnswer (AsksLocate xs n lent)
+  pub number : (xs path : List ℕ) (c : ℕ) → HasAnswer (λ (r : NumberAnswer) (after : List ℕ). AsksNumber xs path c r)
+  pub list-out : (xs : List ℕ) (v n : ℕ) (page : List ℕ) → HasAnswer (AsksOut xs v n page)
+  pub list-in : (xs : List ℕ) (v n : ℕ) (page : List ℕ) → HasAnswer (AsksIn xs v n page)
+  pub row : (xs : List ℕ) (s t : ℕ) (lent : List ℕ) → HasAnswer (AsksRow xs s t lent)
+  pub fewest : (xs : List ℕ) (s t : ℕ) (work : List ℕ) → HasAnswer (AsksFewest xs s t work)
+  pub quickest : (xs : List ℕ) (s t : ℕ) (f work : List ℕ) → HasAnswer (AsksQuickest xs s t f work)
 
 -- Acceptance is exact: reading answers exactly if every sentence of the rules is kept and the output is long enough, and each of its refusals is that of
 -- the first sentence that is broken, with its place; writing answers exactly if the rows keep the rules and their file fits.
@@ -50,7 +67,7 @@ pub record AcceptanceExact : Type 0 where
 
 -- So are the refusals of every question about rows: 4 to 10 by the first sentence that is broken, 11 and 12 behind them; and a refusal leaves the lent list
 -- as it was. A question stands here with the room that it needs, the cues that it is asked about, and what it alone can refuse with: 13 in `IsNumber`, 14 in
--- `IsRowBehind`. Count and number write no lent list.
+-- `IsRowBehind`, 15 to 17 in `QuickestExact`. Count and number write no lent list.
 pub record RefusalsExact : Type 0 where
   pub write : (xs out after : List ℕ) (r : WriteAnswer) → AsksWrite xs out r after → Refuses xs (NoRoomFor xs out) [] [] out (ofWrite r) after
   pub count : (xs : List ℕ) (r : CountAnswer) → AsksCount xs r → Refuses xs ⊥ [] [] [] (ofCount r) []
@@ -65,6 +82,8 @@ pub record RefusalsExact : Type 0 where
       → Refuses xs (TooShort 127 lent) (s ∷ t ∷ []) (14 ∷ []) lent (ofRow r) after
   pub fewest : (xs : List ℕ) (s t : ℕ) (work after : List ℕ) (r : FewestAnswer) → AsksFewest xs s t work r after
       → Refuses xs (TooShort 16384 work) (s ∷ t ∷ []) [] work (ofFewest r) after
+  pub quickest : (xs : List ℕ) (s t : ℕ) (f work after : List ℕ) (r : QuickestAnswer) → AsksQuickest xs s t f work r after
+      → Refuses xs (TooShort 16384 work) (s ∷ t ∷ []) (15 ∷ 16 ∷ 17 ∷ []) work (ofQuickest r) after
 
 -- Round trips are exact, of what the buffers hold: read, then write what was left; write, then read what was left; and read, write and read again
 -- (02, Paper 1).
@@ -105,6 +124,7 @@ pub record RightAgainstUnfolding (xs : List ℕ) : Type 0 where
 -- All of it; the words mean what they say, there is a show, a padded file of one, and a row behind a follow-on.
 pub record Demand2 : Type 1 where
   pub words : Words
+  pub answered : Answered
   pub acceptance : AcceptanceExact
   pub refusals : RefusalsExact
   pub a-show : Lawful ring
@@ -150,3 +170,16 @@ pub record Demand4 : Type 0 where
       → (s t : ℕ) (work after′ : List ℕ) (r : FewestAnswer) → 1 ≤ s → s ≤ cues → 1 ≤ t → t ≤ cues → 16384 ≤ length work
       → AsksFewest (take (rows * rowSize) after) s t work r after′ → HasDeskSummaries after′
   pub a-file : (file xs : List ℕ) × SpellsFile file xs × DeskLawful xs
+
+-- Document 02, Paper 5: wait files and the quickest way.
+
+-- Each answer; there is a question that meets none of refusals 4 to 12, a lawful wait file, with its lines, and one for each of
+-- 15, 16 and 17: behind lines of 16 and 17 a malformed one, behind one of 17 one of 16, and a label twice.
+pub record Demand5 : Type 0 where
+  pub exact : (xs : List ℕ) (s t : ℕ) (f work after : List ℕ) (r : QuickestAnswer) → AsksQuickest xs s t f work r after
+      → QuickestExact xs s t f work r after
+  pub a-question : Askable ring 1 2 (replicate 16384 0)
+  pub a-file : LawfulWaits ringWaits ((1 ∷ 10 ∷ []) ∷ (2 ∷ 25 ∷ []) ∷ [])
+  pub a-malformed-file : Malformed cutWaits 4
+  pub an-outside-file : Outside outsideWaits 4
+  pub a-fallen-file : NotRising twiceWaits 3

@@ -4,7 +4,7 @@
 ghost use mathlib.Core.Path.{_≡_};
 ghost use Rattle.model.specs.Answers.{ofList};
 ghost use Rattle.model.specs.Questions.{outcome};
-ghost use Rattle.model.specs.Asking.{AsksRead, AsksDeskRead, AsksWrite, AsksCount, AsksLocate, AsksNumber, AsksOut, AsksIn, AsksRow, AsksFewest};
+ghost use Rattle.model.specs.Asking.{AsksRead, AsksDeskRead, AsksWrite, AsksCount, AsksLocate, AsksNumber, AsksOut, AsksIn, AsksRow, AsksFewest, AsksQuickest};
 ghost use Rattle.answers.specs.Asked.{listAsked};
 use blocks::INDEX;
 use loading::Loading;
@@ -13,6 +13,7 @@ use model::FewestAnswer;
 use model::ListAnswer;
 use model::LocateAnswer;
 use model::NumberAnswer;
+use model::QuickestAnswer;
 use model::ReadAnswer;
 use model::RowAnswer;
 use model::Verdict;
@@ -132,5 +133,24 @@ pub fn fewest(rows: &[u32], s: u32, t: u32, work: &mut [u32]) -> FewestAnswer
     match verdicts::check(rows, &mut table) {
         Verdict::Accepted => answers::fewest_in(rows, &table, s, t, work),
         Verdict::Refused(refusal) => FewestAnswer::Refused(refusal),
+    }
+}
+
+// A place of 32 bits in 64.
+fn long(place: u32) -> u64
+    ensures { λ r. ⌜ r ≡ place ⌝ }
+{
+    place as u64
+}
+
+// The quickest way from cue s to cue t under a wait file: the smallest sum of waits over all chains in tenths of a second, or none; notes are not followed.
+// Afterwards the first 16,384 numbers of the work area, of 64 bits each, are 0.
+pub fn quickest(rows: &[u32], s: u32, t: u32, file: &[u8], work: &mut [u64]) -> QuickestAnswer
+    ensures { λ r. ⌜ AsksQuickest (now (rows .entry)) s t (now (file .entry)) (now (work .entry)) r (now (work .exit)) ⌝ }
+{
+    let mut table = [0u32; INDEX];
+    match verdicts::check(rows, &mut table) {
+        Verdict::Accepted => answers::quickest_in(rows, &table, s, t, file, work),
+        Verdict::Refused(refusal) => QuickestAnswer::Refused(refusal.number, long(refusal.place)),
     }
 }

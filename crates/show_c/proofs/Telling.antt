@@ -1,5 +1,5 @@
 -- Laws of the C functions.
-use Prim.Native.Nat.{ℕ, _+_, _*_, _≤_, _<_}
+use Prim.Native.Nat.{ℕ, _+_, _*_, _/_, _%_, _≤_, _<_, min}
 use native.Mathlib.Omega.{arith}
 use mathlib.Core.Path.{_≡_, refl, sym, _∙_, ap}
 use mathlib.Core.Bool.{Bool, true, false}
@@ -8,7 +8,7 @@ use lib.ListN.{length, set}
 use Rattle.model.specs.Verdicts.{refusal, verdict, Numbers, readFile, fileVerdict, numbersOf}
 use Rattle.model.specs.Rows.{rowCount}
 use Rattle.model.specs.Lists.{overwrite}
-use Rattle.model.specs.Answers.{Returned, returned, given, ofRead, ofCount, ofList, flag}
+use Rattle.model.specs.Answers.{Returned, returned, given, ofRead, ofCount, ofList, flag, halves, ofQuickest}
 use Rattle.model.specs.Desk.{withDesk, deskFileVerdict}
 use Rattle.model.specs.Questions.{Outcome, outcome, refuse, onAccepted, withRoom, readInto, readAsked, deskReadAsked, countAsked}
 use Rattle.shows.proofs.DeskTable.{with-length}
@@ -21,6 +21,8 @@ use Rattle.model.specs.declared.CountAnswer.{CountAnswer}
 use Rattle.model.specs.declared.CountAnswer.the-variants.{Cues, Refused as CountRefused}
 use Rattle.model.specs.declared.ListAnswer.{ListAnswer}
 use Rattle.model.specs.declared.ListAnswer.the-variants.{Page}
+use Rattle.model.specs.declared.QuickestAnswer.{QuickestAnswer}
+use Rattle.model.specs.declared.QuickestAnswer.the-variants.{Tenths, Refused as Untimed}
 use Rattle.basics.proofs.Choices.{lt-then, lt-else}
 use Rattle.shows.proofs.Accepted.{accepted-show}
 use Rattle.shows.proofs.RoundTrips.{accepted-file}
@@ -105,6 +107,17 @@ pub told-page : (a : ListAnswer) (n m : ℕ) (b : Bool) (c : ℕ) (g g′ : List
     → Told c g g′ (ofList a)
 unfolding ofList
 told-page a n m b c g g′ k p q = told-value ofList a (Page n b) c g g′ (n ∷ m ∷ []) p (rw k) q
+
+-- The halves of a sum are numbers of their own, and a refusal may have a place of more than 32 bits.
+pub told-tenths : (a : QuickestAnswer) (n x y c : ℕ) (g g′ : List ℕ) → (c ≡ 0) × (g′ ≡ overwrite (1 ∷ x ∷ y ∷ []) g) → a ≡ Tenths n
+    → x ≡ n % 4294967296 → y ≡ n / 4294967296 → Told c g g′ (ofQuickest a)
+unfolding ofQuickest halves
+told-tenths a n x y c g g′ p q k l = told-value ofQuickest a (Tenths n) c g g′ (1 ∷ x ∷ y ∷ []) p (rw (k, l)) q
+
+pub told-placed : (a : QuickestAnswer) (n p c : ℕ) (g g′ : List ℕ) → g′ ≡ g → c ≡ n * 4294967296 + min p 4294967295 → a ≡ Untimed n p
+    → Told c g g′ (ofQuickest a)
+unfolding ofQuickest code givenAfter returned refusal overwrite
+told-placed a n p c g g′ u q i = rw (i, u) (q, refl)
 
 -- Whether `given` is long enough, for a question that writes no list, and for one that does.
 module _ (g : List ℕ) (v : Verdict) where

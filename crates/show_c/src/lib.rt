@@ -2,19 +2,20 @@
 // for an answer, whose values then stand first in `given`, or the refusal's number and place. The promises are those of the library.
 ghost use mathlib.Core.Path.{_≡_};
 ghost use mathlib.Core.List.{[], _∷_};
-ghost use Prim.Native.Nat.{_+_, _*_, _≤_, _<_};
+ghost use Prim.Native.Nat.{_+_, _*_, _/_, _%_, _≤_, _<_, min};
 ghost use lib.ListN.{length};
 ghost use Rattle.model.specs.Lists.{overwrite};
 ghost use Rattle.model.specs.Answers.{flag, ofRead, ofList};
 ghost use Rattle.model.specs.Verdicts.{verdict, fileVerdict};
 ghost use Rattle.model.specs.Desk.{deskFileVerdict};
-ghost use Rattle.model.specs.Questions.{readAsked, deskReadAsked, writeAsked, countAsked, locateAsked, numberAsked, outAsked, inAsked, rowAsked, fewestAsked};
+ghost use Rattle.model.specs.Questions.{readAsked, deskReadAsked, writeAsked, countAsked, locateAsked, numberAsked, outAsked, inAsked, rowAsked, fewestAsked, quickestAsked};
 ghost use Rattle.show_c.specs.Interface.{givenSize, code, IsRefused, shortOf, Told, Answers, AnswersInto};
 use model::CountAnswer;
 use model::FewestAnswer;
 use model::ListAnswer;
 use model::LocateAnswer;
 use model::NumberAnswer;
+use model::QuickestAnswer;
 use model::ReadAnswer;
 use model::Refusal;
 use model::RowAnswer;
@@ -35,6 +36,36 @@ fn refused(r: Refusal) -> u64
     ensures { λ c. ⌜ c ≡ r .number * 4294967296 + r .place ⌝ }
 {
     long(r.number) * 4294967296 + long(r.place)
+}
+
+// A place of 64 bits in 32: one that has no room there is the largest that has.
+fn capped(place: u64) -> u64
+    ensures { λ r. ⌜ r ≡ min place 4294967295 ⌝ }
+{
+    if place < 4294967295 {
+        return place;
+    }
+    4294967295
+}
+
+// A refusal with such a place, as one number.
+fn refused_at(number: u32, place: u64) -> u64
+    ensures { λ c. ⌜ c ≡ number * 4294967296 + min place 4294967295 ⌝ }
+{
+    long(number) * 4294967296 + capped(place)
+}
+
+// The lower and the upper half of a number of 64 bits.
+fn low(x: u64) -> u32
+    ensures { λ r. ⌜ r ≡ x % 4294967296 ⌝ }
+{
+    (x % 4294967296) as u32
+}
+
+fn high(x: u64) -> u32
+    ensures { λ r. ⌜ r ≡ x / 4294967296 ⌝ }
+{
+    (x / 4294967296) as u32
 }
 
 // What is said of rows where `given` is too short.
@@ -274,5 +305,27 @@ pub extern "C" fn show_fewest(
         FewestAnswer::Steps(n) => tell_2(given, 1, n),
         FewestAnswer::None => tell_2(given, 0, 0),
         FewestAnswer::Refused(r) => refused(r),
+    }
+}
+
+// given: whether there is a chain without notes (0 or 1), and the lower and the upper 32 bits of the smallest sum of waits (0 and 0 where there is none)
+#[no_mangle]
+pub extern "C" fn show_quickest(
+    rows: &[u32],
+    s: u32,
+    t: u32,
+    file: &[u8],
+    work: &mut [u64],
+    given: &mut [u32],
+) -> u64
+    ensures { λ c. ⌜ AnswersInto c given work (verdict (now (rows .entry))) (quickestAsked (now (rows .entry)) s t (now (file .entry))) ⌝ }
+{
+    if given.len() < GIVEN_SIZE {
+        return short_rows(rows);
+    }
+    match show::quickest(rows, s, t, file, work) {
+        QuickestAnswer::Tenths(n) => tell_3(given, 1, low(n), high(n)),
+        QuickestAnswer::None => tell_3(given, 0, 0, 0),
+        QuickestAnswer::Refused(number, place) => refused_at(number, place),
     }
 }

@@ -24,6 +24,9 @@ pub mod TracedByPath
 pub mod Lines
 pub mod FlatRows
 pub mod Files
+pub mod TableLines
+pub mod SmallFiles
+pub mod Waits
 pub mod RoundTrips
 -- the built-in table, and rows behind it
 pub mod DeskTable

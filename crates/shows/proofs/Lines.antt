@@ -107,7 +107,7 @@ lines-flatten (b ∷ bs) = go (lines-flatten bs) (ℕ-discrete b lineFeed)
     go h (no e) = ap flatten (eq-else b lineFeed _ _ e) ∙ into-flatten b (linesOf bs) ∙ ap (λ (r : List ℕ). b ∷ r) h
 
 -- Bytes with no line feed before a line make a line with it.
-line-behind : (bs : List ℕ) {l : List ℕ} → Each Plain bs → OneLine l → OneLine (bs ++ l)
+pub line-behind : (bs : List ℕ) {l : List ℕ} → Each Plain bs → OneLine l → OneLine (bs ++ l)
 line-behind [] p o = o
 line-behind (b ∷ bs) p o = longer (p .0) (line-behind bs (p .1) o)
 

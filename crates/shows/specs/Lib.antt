@@ -5,4 +5,6 @@ pub mod Copies
 pub mod Numbering
 pub mod Lists
 pub mod Files
+pub mod SmallFiles
+pub mod Waits
 pub mod Origins

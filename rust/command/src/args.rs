@@ -4,6 +4,7 @@ use std::ffi::{OsStr, OsString};
 
 use crate::commands::{Behind, Command, Question, COMMANDS, DESK};
 use crate::help;
+use crate::input::STANDARD;
 use crate::problem::Problem;
 use crate::way::Way;
 use crate::words::shown;
@@ -78,13 +79,18 @@ fn question(
     if let Some(name) = command.takes.get(rest.len()) {
         return Err(format!("{name} is missing"));
     }
-    if let Some(word) = rest.get(command.takes.len()) {
+    let most = command.takes.len() + usize::from(command.may_take.is_some());
+    if let Some(word) = rest.get(most) {
         return Err(too_many(word));
     }
     let has = |option: &str| options.iter().any(|word| *word == option);
     let behind = Behind { words: rest, option: command.option.is_some_and(has) };
     let way = if has(DESK) { Way::Desk } else { Way::Alone };
-    Ok(Asked::Of { file: file.into(), way, question: (command.question)(&behind)? })
+    let question = (command.question)(&behind)?;
+    if *file == STANDARD && question.waits().is_some_and(|waits| waits == STANDARD) {
+        return Err("FILE and WAITS are both -; only one of them can be standard input".into());
+    }
+    Ok(Asked::Of { file: file.into(), way, question })
 }
 
 fn is_help(word: &OsStr) -> bool {

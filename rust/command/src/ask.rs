@@ -1,5 +1,6 @@
 //! A question about a file: asked of the library, and its answer printed.
 
+use std::ffi::OsStr;
 use std::io::Write;
 
 use show::{Linked, Loaded, Refused, Rows, MAX_FILE, PATH_LEN, ROWS_LEN, WORK_LEN};
@@ -11,7 +12,9 @@ use crate::input::Input;
 use crate::links::{Labelled, MOST_CUES};
 use crate::picture::{self, Undrawn};
 use crate::problem::Problem;
+use crate::waits::Waits;
 use crate::way::Way;
+use crate::words::Clock;
 
 /// A show that the library accepts, and the file that it was read from.
 struct Show<'a> {
@@ -58,9 +61,15 @@ impl<'a> Show<'a> {
             Question::In(cue) => list("from", self.linked(Rows::linked_in, cue)?, out)?,
             Question::Fewest(s, t) => self.fewest(s, t, out)?,
             Question::Row(s, t) => self.row(s, t, out)?,
+            Question::Quickest { ref waits, s, t } => {
+                self.quickest(&Input::read_waits(waits)?, s, t, out)?
+            }
             Question::Links => self.links(out)?,
             Question::Write => self.write(out)?,
-            Question::Picture { unfolded } => out.write_all(self.picture(unfolded)?.as_bytes())?,
+            Question::Picture { unfolded, ref waits } => {
+                let waits = waits.as_deref().map(waits_of).transpose()?;
+                out.write_all(self.picture(unfolded, waits.as_ref())?.as_bytes())?
+            }
         }
         Ok(())
     }
@@ -81,6 +90,20 @@ impl<'a> Show<'a> {
         match fewest.map_err(|said| self.no_cue(said, &[s, t]))? {
             Some(steps) => writeln!(out, "fewest\n{steps}")?,
             None => writeln!(out, "fewest\nnone")?,
+        }
+        Ok(())
+    }
+
+    /// Prints the quickest way, in tenths of a second and as it stands on a clock.
+    fn quickest(&self, waits: &Input, s: u32, t: u32, out: &mut impl Write) -> Result<(), Problem> {
+        let quickest = self.read.rows.quickest(s, t, &waits.bytes, &mut vec![0; WORK_LEN]);
+        let quickest = quickest.map_err(|said| match said {
+            Refused::NoSuchCue => self.no_cue(said, &[s, t]),
+            _ => refused(waits, explain::waits(&waits.bytes, said)),
+        });
+        match quickest? {
+            Some(tenths) => writeln!(out, "quickest,time\n{tenths},{}", Clock(tenths))?,
+            None => writeln!(out, "quickest,time\nnone,-")?,
         }
         Ok(())
     }
@@ -119,11 +142,12 @@ impl<'a> Show<'a> {
         Ok(())
     }
 
-    fn picture(&self, unfolded: bool) -> Result<String, Problem> {
+    fn picture(&self, unfolded: bool, waits: Option<&Waits>) -> Result<String, Problem> {
+        let title = &self.input.title;
         if !unfolded {
-            return Ok(picture::blocks(&self.input.title, &self.read));
+            return Ok(picture::blocks(title, &self.read, waits));
         }
-        picture::unfolded(&self.input.title, &self.read).map_err(|undrawn| match undrawn {
+        picture::unfolded(title, &self.read, waits).map_err(|undrawn| match undrawn {
             Undrawn::TooLarge(said) => Problem::Failed { name: self.input.name.clone(), said },
             Undrawn::Refused(said) => self.no_cue(said, &[]),
         })
@@ -144,6 +168,12 @@ impl<'a> Show<'a> {
     fn no_path(&self, said: Refused, path: &[u32], own: u32) -> Problem {
         refused(self.input, explain::path(said, rows_of(&self.read), path, own))
     }
+}
+
+/// The waits of the file of this name.
+fn waits_of(file: &OsStr) -> Result<Waits, Problem> {
+    let input = Input::read_waits(file)?;
+    Waits::of_file(&input.bytes).map_err(|said| refused(&input, explain::waits(&input.bytes, said)))
 }
 
 /// A list of cues, one in a line.

@@ -28,6 +28,15 @@ pub enum Question {
     Fewest(u32, u32),
     /// The row behind the follow-on from the first cue to the second.
     Row(u32, u32),
+    /// The quickest way from the first cue to the second.
+    Quickest {
+        /// The name of the wait file, or `-`.
+        waits: OsString,
+        /// The first cue.
+        s: u32,
+        /// The second cue.
+        t: u32,
+    },
     /// All links of the unfolded show.
     Links,
     /// Its rows as a file.
@@ -36,7 +45,20 @@ pub enum Question {
     Picture {
         /// Whether it is that of the unfolded show.
         unfolded: bool,
+        /// The name of the wait file, or `-`, where waits are drawn too.
+        waits: Option<OsString>,
     },
+}
+
+impl Question {
+    /// The name of the wait file that it needs, or `-`.
+    pub fn waits(&self) -> Option<&OsString> {
+        match self {
+            Question::Quickest { waits, .. } => Some(waits),
+            Question::Picture { waits, .. } => waits.as_ref(),
+            _ => None,
+        }
+    }
 }
 
 /// A command.
@@ -47,6 +69,8 @@ pub struct Command {
     pub option: Option<&'static str>,
     /// The names of the words behind FILE.
     pub takes: &'static [&'static str],
+    /// The name of a word that may stand behind those.
+    pub may_take: Option<&'static str>,
     /// What it is for, in a line.
     pub says: &'static str,
     /// What it prints.
@@ -68,16 +92,18 @@ impl Command {
     pub fn usage(&self) -> String {
         let options: String = self.options().map(|option| format!(" [{option}]")).collect();
         let takes: String = self.takes.iter().map(|name| format!(" {name}")).collect();
-        format!("show {}{options} FILE{takes}", self.word)
+        let may_take = self.may_take.map_or(String::new(), |name| format!(" [{name}]"));
+        format!("show {}{options} FILE{takes}{may_take}", self.word)
     }
 }
 
 /// All commands, in the order in which `--help` lists them.
-pub const COMMANDS: [Command; 11] = [
+pub const COMMANDS: [Command; 12] = [
     Command {
         word: "check",
         option: None,
         takes: &[],
+        may_take: None,
         says: "whether the file is right, and how large the show is",
         prints: "`blocks,rows,cues` and the three numbers if the file is right.\n\
             If it is not, the line and the column that are wrong are said, and how.",
@@ -87,6 +113,7 @@ pub const COMMANDS: [Command; 11] = [
         word: "count",
         option: None,
         takes: &[],
+        may_take: None,
         says: "how many cues the show has",
         prints: "`cues` and how many cues the show has.",
         question: |_| Ok(Question::Count),
@@ -95,6 +122,7 @@ pub const COMMANDS: [Command; 11] = [
         word: "locate",
         option: None,
         takes: &["N"],
+        may_take: None,
         says: "where cue N is",
         prints: "`depth,block,own,path` and, for cue N: how many uses lead to its copy,\n\
             the block of which that is a copy, which of its own cues it is, and the path.\n\
@@ -105,6 +133,7 @@ pub const COMMANDS: [Command; 11] = [
         word: "number",
         option: None,
         takes: &["PATH", "CUE"],
+        may_take: None,
         says: "the number of own cue CUE in the copy PATH",
         prints: "`cue` and the number that own cue CUE has in the copy to which PATH leads.\n\
             PATH is positions of uses, such as 1.2 or 1,2; the empty path, to the show\n\
@@ -115,6 +144,7 @@ pub const COMMANDS: [Command; 11] = [
         word: "out",
         option: None,
         takes: &["CUE"],
+        may_take: None,
         says: "the cues that follow on from CUE",
         prints: "`to` and the cues that follow on from CUE by one link, notes included, rising, one\n\
             in a line.",
@@ -124,6 +154,7 @@ pub const COMMANDS: [Command; 11] = [
         word: "in",
         option: None,
         takes: &["CUE"],
+        may_take: None,
         says: "the cues from which CUE follows on",
         prints: "`from` and the cues from which CUE follows on by one link, notes included, rising,\n\
             one in a line.",
@@ -133,15 +164,32 @@ pub const COMMANDS: [Command; 11] = [
         word: "fewest",
         option: None,
         takes: &["S", "T"],
+        may_take: None,
         says: "the fewest follow-ons from cue S to cue T, or none",
         prints: "`fewest` and the fewest follow-ons that lead from cue S to cue T, or `none`.\n\
             Notes, links with label 255, are not followed.",
         question: |behind| Ok(Question::Fewest(behind.number(0)?, behind.number(1)?)),
     },
     Command {
+        word: "quickest",
+        option: None,
+        takes: &["WAITS", "S", "T"],
+        may_take: None,
+        says: "the quickest way from cue S to cue T, or none",
+        prints: "`quickest,time` and how long the quickest way from cue S to cue T takes, where each link\n\
+            waits as long as WAITS says for its label: in tenths of a second, and as minutes and\n\
+            seconds, from an hour on with the hours before them. So 40,0:04.0 is four seconds. Where\n\
+            no chain leads from S to T it is `none,-`. Notes, links with label 255, are not followed.",
+        question: |behind| {
+            let (s, t) = (behind.number(1)?, behind.number(2)?);
+            Ok(Question::Quickest { waits: behind.words[0].clone(), s, t })
+        },
+    },
+    Command {
         word: "row",
         option: None,
         takes: &["S", "T"],
+        may_take: None,
         says: "the link row behind the follow-on from cue S to cue T",
         prints: "`row,line,depth,path` and the names of the columns; then, for a link row that joins\n\
             cue S to cue T: its number, its line in the file, how many uses lead to the copy in\n\
@@ -155,6 +203,7 @@ pub const COMMANDS: [Command; 11] = [
         word: "links",
         option: None,
         takes: &[],
+        may_take: None,
         says: "all links of the unfolded show",
         prints: "`from,to,label` and all links of the unfolded show, rising, each once; for a\n\
             show of over 1,000 cues `cues` and how many it has. So does the unfolding program.",
@@ -164,6 +213,7 @@ pub const COMMANDS: [Command; 11] = [
         word: "write",
         option: None,
         takes: &[],
+        may_take: None,
         says: "the file as the library writes it",
         prints: "the file that the library writes for the rows of FILE: values have no zeros in front.\n\
             With --desk that is a whole file, in which the desk's rows stand before its own; it is\n\
@@ -174,16 +224,21 @@ pub const COMMANDS: [Command; 11] = [
         word: "picture",
         option: Some("--unfolded"),
         takes: &[],
+        may_take: Some("WAITS"),
         says: "the blocks, or the unfolded show, as text for Graphviz",
         prints: "text from which `dot -Tsvg` of Graphviz draws the blocks of the show or,\n\
             with --unfolded, its copies, cues and links. Notes, links with label 255, are dashed.\n\
+            With WAITS each other link has the wait of its label behind it, in seconds.\n\
             Over 1,000 cues or 10,000 links are not drawn unfolded: the exit status is 2, since that\n\
             is no refusal of the library.",
-        question: |behind| Ok(Question::Picture { unfolded: behind.option }),
+        question: |behind| {
+            let waits = behind.words.first().map(|word| (*word).clone());
+            Ok(Question::Picture { unfolded: behind.option, waits })
+        },
     },
 ];
 
-/// The words behind FILE, as many as the command takes, and whether its option is there.
+/// The words behind FILE, as many as the command takes or may take, and whether its option is there.
 pub struct Behind<'a> {
     /// The words.
     pub words: &'a [&'a OsString],

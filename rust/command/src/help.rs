@@ -14,6 +14,8 @@ usage: show COMMAND [--desk] FILE ...
 
 const FOOT: &str = "
 FILE      a show file; - is standard input. A name that begins with a dash is written with ./ before it.
+WAITS     a wait file, or -: the line `label,wait`, then a line for each label that waits, with the label,
+          1 to 254, and its wait, 0 to 6000 tenths of a second. Labels rise; one without a line waits 0.
 --desk    FILE is read behind the sixteen blocks that come with the desk, 0 to 15: its first row opens
           block 16, and it can use them. Rows and blocks are counted with them; lines are those of FILE.
 N, CUE, S, T
@@ -48,6 +50,6 @@ pub fn all() -> String {
 /// The help for one command.
 pub fn of(command: &Command) -> String {
     let rest =
-        "`show --help` says what FILE, --desk and the other words are, and what an exit status means.";
+        "`show --help` says what FILE, WAITS, --desk and the other words are, and what an exit status means.";
     format!("usage: {}\n\nprints {}\n\n{rest}\n", command.usage(), command.prints)
 }

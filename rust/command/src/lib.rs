@@ -1,8 +1,8 @@
 //! The command `show`: a show file is checked, asked and drawn from a shell.
 //!
 //! Every answer and every refusal is the library's. What is worked out here is words: `explain`
-//! says what is wrong at the place of a refusal, `links` sets the labels to the links, and `picture`
-//! draws.
+//! says what is wrong at the place of a refusal, `links` sets the labels to the links, `waits` the waits
+//! to the labels, and `picture` draws.
 
 pub mod args;
 pub mod ask;
@@ -14,6 +14,7 @@ pub mod input;
 pub mod links;
 pub mod picture;
 pub mod problem;
+pub mod waits;
 pub mod way;
 pub mod words;
 

@@ -39,9 +39,11 @@ pub const MAX_JOINS: usize = 8;
 pub const MAX_LABEL: u32 = 255;
 /// Label of a link that chains follow, at most; with 255 it is a note.
 pub const MAX_FOLLOWED: u32 = 254;
+/// Wait of a label, at most, in tenths of a second.
+pub const MAX_WAIT: u32 = 6_000;
 /// Least length of a list lent for a path.
 pub const PATH_LEN: usize = 127;
-/// Least length of a work area.
+/// Least length of a work area, of 32-bit or of 64-bit numbers.
 pub const WORK_LEN: usize = 16_384;
 /// Numbers of a work area for each block.
 pub const SUMMARY_LEN: usize = 64;
@@ -141,6 +143,21 @@ extern "C" {
         s: u32,
         t: u32,
         work: *mut u32,
+        work_len: usize,
+        given: *mut u32,
+        given_len: usize,
+    ) -> u64;
+
+    /// The quickest way from cue s to cue t under a wait file; notes are not followed. given: 1 and the lower and
+    /// upper 32 bits of the sum of its waits in tenths of a second, or 0, 0 and 0.
+    pub fn show_quickest(
+        rows: *const u32,
+        rows_len: usize,
+        s: u32,
+        t: u32,
+        waits: *const u8,
+        waits_len: usize,
+        work: *mut u64,
         work_len: usize,
         given: *mut u32,
         given_len: usize,

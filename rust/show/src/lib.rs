@@ -23,7 +23,8 @@
 //! ```
 //!
 //! A file whose blocks use those that come with the desk is read by [`Rows::read_desk`], any other by
-//! [`Rows::read`].
+//! [`Rows::read`]. How long the follow-ons of each label wait stands in a wait file of the house;
+//! [`Rows::quickest`] is asked under one.
 //!
 //! Every call may be made from any number of threads at once: the library has no state. No call was
 //! seen to need more than 83 kB of stack; [`STACK_LEN`] is what the tests hold it to.
@@ -37,8 +38,8 @@ pub use linked::Linked;
 pub use refused::{Place, Refused};
 pub use show_sys::{
     DESK_BLOCKS, DESK_MAX_OWN_ROWS, DESK_ROWS, MAX_BLOCKS, MAX_CUES, MAX_FILE, MAX_FOLLOWED,
-    MAX_JOINS, MAX_LABEL, MAX_OWN, MAX_ROWS, MAX_VALUE, NO_CHAIN, PATH_LEN, ROWS_LEN, ROW_LEN,
-    STACK_LEN, SUMMARY_LEN, WORK_LEN,
+    MAX_JOINS, MAX_LABEL, MAX_OWN, MAX_ROWS, MAX_VALUE, MAX_WAIT, NO_CHAIN, PATH_LEN, ROWS_LEN,
+    ROW_LEN, STACK_LEN, SUMMARY_LEN, WORK_LEN,
 };
 
 /// The version of this crate, which is that of the library's header too.
@@ -320,6 +321,58 @@ impl<'a> Rows<'a> {
         };
         let [found, steps, _] = ask(call, Place::Row)?;
         Ok((found == 1).then_some(steps))
+    }
+
+    /// The quickest way from cue `s` to cue `t`, in tenths of a second, or nothing where no chain of links leads
+    /// from the one to the other: the smallest sum over all chains of the waits that their links' labels have
+    /// in a wait file. It is 0 where `s` is `t`, and nothing exactly where [`fewest`](Rows::fewest) is.
+    ///
+    /// `waits` is the file: the line `label,wait`, then a line for each label that waits, its label of 1 to
+    /// [`MAX_FOLLOWED`] and its wait of 0 to [`MAX_WAIT`] tenths; labels rise from line to line. A label without a
+    /// line waits 0. Links with label 255 are notes and are not followed. The file may have any length.
+    ///
+    /// `work` has at least [`WORK_LEN`] numbers, whatever they are, or it is [`Refused::TooShort`]. Afterwards
+    /// the first [`WORK_LEN`] are 0, and the others as they were. Also [`Refused::NoSuchCue`], of `s` or `t`, and then, at
+    /// lines of the wait file, [`Refused::BadWaitLine`], [`Refused::WaitOutOfRange`] and
+    /// [`Refused::WaitsOutOfOrder`], also where `s` is `t`.
+    ///
+    /// ```
+    /// use show::{Refused, Rows, WORK_LEN};
+    ///
+    /// // From cue 1 to cue 2 by a link with label 3, or over cue 3 by two with label 1.
+    /// let numbers = [
+    ///     [0, 0, 0, 3, 0, 0, 0, 0, 0, 0, 0],
+    ///     [0, 1, 3, 1, 2, 0, 0, 0, 0, 0, 0],
+    ///     [0, 1, 1, 1, 3, 0, 0, 0, 0, 0, 0],
+    ///     [0, 1, 1, 3, 2, 0, 0, 0, 0, 0, 0],
+    /// ];
+    /// let (rows, mut work) = (Rows::new(numbers.as_flattened()), [0; WORK_LEN]);
+    /// let waits = b"label,wait\n1,10\n3,50\n";
+    /// assert_eq!(rows.quickest(1, 2, waits, &mut work)?, Some(20));
+    /// assert_eq!(rows.quickest(1, 2, b"label,wait\n1,10\n", &mut work)?, Some(0));
+    /// assert_eq!(rows.quickest(2, 1, waits, &mut work)?, None);
+    /// assert_eq!(rows.quickest(2, 2, waits, &mut work)?, Some(0));
+    ///
+    /// let refused = rows.quickest(1, 2, b"label,wait\n3,50\n1,10\n", &mut work).unwrap_err();
+    /// assert_eq!(refused, Refused::WaitsOutOfOrder(3));
+    /// assert_eq!(refused.to_string(), "line 3: the labels of the wait file do not rise");
+    /// # Ok::<(), show::Refused>(())
+    /// ```
+    pub fn quickest(
+        &self,
+        s: u32,
+        t: u32,
+        waits: &[u8],
+        work: &mut [u64],
+    ) -> Result<Option<u64>, Refused> {
+        let (rows, rows_len) = self.lent();
+        let (from, from_len) = (waits.as_ptr(), waits.len());
+        let (len, to) = (work.len(), work.as_mut_ptr());
+        let call = |given, given_len| unsafe {
+            show_sys::show_quickest(rows, rows_len, s, t, from, from_len, to, len, given, given_len)
+        };
+        let [found, low, high] = ask(call, Place::Row)?;
+        Ok((found == 1).then_some(u64::from(high) << 32 | u64::from(low)))
     }
 
     /// The row behind the follow-on from cue `s` to cue `t`: a link row that joins them, and the copy

@@ -3,12 +3,12 @@
 use core::error::Error;
 use core::fmt::{Display, Formatter, Result};
 
-/// Where a refusal is: in rows that were lent, or in a file that was read.
+/// Where a refusal is: in rows that were lent, in a file that was read, or in a wait file.
 #[derive(Clone, Copy, Debug, PartialEq, Eq, Hash)]
 pub enum Place {
     /// A row, from 1.
     Row(u32),
-    /// A line of the file, from 1; the first is the line of names, so row r of the file is line r + 1.
+    /// A line of the file, from 1; the first is the line of names, so row r of a show file is line r + 1.
     Line(u32),
 }
 
@@ -47,6 +47,14 @@ pub enum Refused {
     NoSuchPath,
     /// 14: no link leads from the one cue to the other.
     NoSuchLink,
+    /// 15: this line of the wait file is not two values; 1 where its first line is not the names. Of 15 to 17
+    /// each is looked for in the whole file before the next, and a line from 4,294,967,295 on is told as that
+    /// number.
+    BadWaitLine(u32),
+    /// 16: in this line of the wait file the label or the wait is out of its range.
+    WaitOutOfRange(u32),
+    /// 17: in this line of the wait file the label is not above that of the line before.
+    WaitsOutOfOrder(u32),
     /// A refusal that this version of the crate does not know.
     Other {
         /// Its number.
@@ -75,6 +83,9 @@ impl Refused {
             12 => Refused::NoSuchCue,
             13 => Refused::NoSuchPath,
             14 => Refused::NoSuchLink,
+            15 => Refused::BadWaitLine(place),
+            16 => Refused::WaitOutOfRange(place),
+            17 => Refused::WaitsOutOfOrder(place),
             _ => Refused::Other { number, place },
         }
     }
@@ -96,15 +107,21 @@ impl Refused {
             Refused::NoSuchCue => 12,
             Refused::NoSuchPath => 13,
             Refused::NoSuchLink => 14,
+            Refused::BadWaitLine(_) => 15,
+            Refused::WaitOutOfRange(_) => 16,
+            Refused::WaitsOutOfOrder(_) => 17,
             Refused::Other { number, .. } => number,
         }
     }
 
-    /// The row or the line, for refusals that have one.
+    /// The row or the line, for refusals that have one. The line of refusals 15 to 17 is one of the wait file.
     pub const fn place(&self) -> Option<Place> {
         match *self {
             Refused::BadNames => Some(Place::Line(1)),
-            Refused::BadLine(line) => Some(Place::Line(line)),
+            Refused::BadLine(line)
+            | Refused::BadWaitLine(line)
+            | Refused::WaitOutOfRange(line)
+            | Refused::WaitsOutOfOrder(line) => Some(Place::Line(line)),
             Refused::CannotFollow(place)
             | Refused::OutOfRange(place)
             | Refused::NamedTwice(place)
@@ -136,6 +153,11 @@ impl Refused {
             Refused::NoSuchCue => "the show has no cue of this number",
             Refused::NoSuchPath => "no copy has this path, or its block has no such own cue",
             Refused::NoSuchLink => "no link leads from the one cue to the other",
+            Refused::BadWaitLine(_) => {
+                "the line of the wait file is not two values, or the first is not label,wait"
+            }
+            Refused::WaitOutOfRange(_) => "a label or a wait of the wait file is out of its range",
+            Refused::WaitsOutOfOrder(_) => "the labels of the wait file do not rise",
             Refused::Other { .. } => "an unknown refusal",
         }
     }

@@ -7,7 +7,8 @@ use second::library;
 use second::subject::Subject;
 use show::{Loaded, Page, Place, Refused, Rows};
 
-/// An answer as its C function gives it. Refusals of rows are placed at rows, those of a file at lines.
+/// An answer as its C function gives it. Refusals of rows are placed at rows, those of a file at lines; those
+/// of a wait file, from 15 on, at its lines.
 fn told<const N: usize>(
     answer: Result<[u32; N], Refused>,
     given: &mut [u32],
@@ -23,6 +24,7 @@ fn told<const N: usize>(
     let place = match refused.place() {
         None => 0,
         Some(place @ (Place::Row(n) | Place::Line(n))) => {
+            let at = if refused.number() < 15 { at } else { Place::Line };
             assert_eq!(place, at(n));
             n
         }
@@ -118,8 +120,35 @@ fn row(rows: &[u32], s: u32, t: u32, path: &mut [u32], given: &mut [u32]) -> u64
     told(answer.map(|origin| [origin.row, origin.path.len() as u32]), given, Place::Row)
 }
 
-const CRATE: Subject =
-    Subject { read, read_desk, write, count, locate, number, list_out, list_in, fewest, row };
+fn quickest(
+    rows: &[u32],
+    s: u32,
+    t: u32,
+    waits: &[u8],
+    work: &mut [u64],
+    given: &mut [u32],
+) -> u64 {
+    if short(given) {
+        return library::quickest(rows, s, t, waits, work, given);
+    }
+    let answer = Rows::new(rows).quickest(s, t, waits, work);
+    let halves = |tenths: u64| [1, tenths as u32, (tenths >> 32) as u32];
+    told(answer.map(|tenths| tenths.map_or([0; 3], halves)), given, Place::Row)
+}
+
+const CRATE: Subject = Subject {
+    read,
+    read_desk,
+    write,
+    count,
+    locate,
+    number,
+    list_out,
+    list_in,
+    fewest,
+    row,
+    quickest,
+};
 
 fn compare(name: &str, case: impl FnOnce(&mut Checker)) {
     let mut checker = Checker::new(&CRATE);

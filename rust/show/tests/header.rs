@@ -33,6 +33,7 @@ fn lengths_and_limits() {
         ("SHOW_MAX_JOINS", show::MAX_JOINS),
         ("SHOW_MAX_LABEL", show::MAX_LABEL as usize),
         ("SHOW_MAX_FOLLOWED", show::MAX_FOLLOWED as usize),
+        ("SHOW_MAX_WAIT", show::MAX_WAIT as usize),
         ("SHOW_MAX_CUES", show::MAX_CUES as usize),
         ("SHOW_PATH_LEN", show::PATH_LEN),
         ("SHOW_WORK_LEN", show::WORK_LEN),
@@ -70,6 +71,9 @@ fn refusals() {
         ("SHOW_NO_SUCH_CUE", Refused::NoSuchCue),
         ("SHOW_NO_SUCH_PATH", Refused::NoSuchPath),
         ("SHOW_NO_SUCH_LINK", Refused::NoSuchLink),
+        ("SHOW_BAD_WAIT_LINE", Refused::BadWaitLine(7)),
+        ("SHOW_WAIT_OUT_OF_RANGE", Refused::WaitOutOfRange(7)),
+        ("SHOW_WAITS_OUT_OF_ORDER", Refused::WaitsOutOfOrder(7)),
     ];
     for ((name, refused), number) in refusals.into_iter().zip(1..) {
         assert_eq!((value(name), refused.number()), (number, number as u32));
@@ -89,6 +93,9 @@ fn a_refusal_says_its_place() {
     );
     assert_eq!(said(Refused::BadLine(2)), "line 2: the line is not eleven values");
     assert_eq!(said(Refused::TooShort), "a lent list is too short");
+    let wait = "line 9: a label or a wait of the wait file is out of its range";
+    assert_eq!(said(Refused::WaitOutOfRange(9)), wait);
+    assert_eq!(Refused::BadWaitLine(1).place(), Some(Place::Line(1)));
     assert_eq!(said(Refused::Other { number: 99, place: 1 }), "an unknown refusal");
 }
 

@@ -15,6 +15,7 @@ use second::subject::{self, Lent, Subject};
 /// Memory for every question's answer.
 struct Memory {
     numbers: Vec<u32>,
+    wide: Vec<u64>,
     bytes: Vec<u8>,
     given: [u32; 3],
 }
@@ -22,13 +23,14 @@ struct Memory {
 impl Memory {
     fn new() -> Memory {
         let numbers = vec![0; WORK.max(11 * ROWS)];
-        Memory { numbers, bytes: vec![0; 65_536], given: [0; 3] }
+        Memory { numbers, wide: vec![0; WORK], bytes: vec![0; 65_536], given: [0; 3] }
     }
 
     fn ask(&mut self, subject: &Subject, input: &Input, question: &Question) {
         let (room, all) = (question.room(), self.numbers.len());
         let mut lent = Lent {
             numbers: &mut self.numbers[..room.min(all)],
+            wide: &mut self.wide,
             bytes: &mut self.bytes,
             given: &mut self.given,
         };
@@ -51,7 +53,7 @@ struct Worst {
 
 fn print_line(question: &str, input: &str, library: f64, plain: f64) -> f64 {
     let ratio = library / plain;
-    println!("{question:<10} {input:<38} {library:>12.0} {plain:>12.0} {ratio:>7.2}");
+    println!("{question:<10} {input:<44} {library:>12.0} {plain:>12.0} {ratio:>7.2}");
     ratio
 }
 
@@ -104,7 +106,7 @@ fn time_unfolding(library: &Subject) {
 fn main() {
     let library = library::subject();
     let mut worst = Worst::default();
-    println!("{:<10} {:<38} {:>12} {:>12} {:>7}", "question", "input", "library", "plain", "ratio");
+    println!("{:<10} {:<44} {:>12} {:>12} {:>7}", "question", "input", "library", "plain", "ratio");
     for entry in entries() {
         time(&entry, &library, &mut worst);
     }

@@ -5,7 +5,7 @@ use std::fmt::Write;
 use std::ops::RangeInclusive;
 
 use second::gen::prng::Prng;
-use second::gen::{damage, padding, random};
+use second::gen::{damage, padding, random, waits};
 use second::limits::{Refusal, COLUMNS, GIVEN, PATH, WORK};
 use second::naive::ask::Show;
 use second::naive::file::print;
@@ -17,6 +17,8 @@ const WHOLE: usize = 100;
 const DAMAGED: usize = 30;
 /// Cues of a show, few enough that all pairs can be asked.
 const CUES: RangeInclusive<u32> = 3..=8;
+/// Pairs that are asked for the quickest way, each with a wait file.
+const TIMED: usize = 7;
 
 /// Numbers with spaces between. Many equal ones in a row are written as `7x5`.
 fn list(numbers: &[u32]) -> String {
@@ -28,8 +30,8 @@ fn list(numbers: &[u32]) -> String {
 }
 
 /// The question's name and what it is given. The program knows a question by its first letter.
-fn asked(question: &Question) -> (&str, Vec<u32>) {
-    match *question {
+fn asked(question: &Question) -> (&str, String) {
+    let (word, numbers) = match *question {
         Question::Read { .. } => ("read", vec![]),
         Question::Write { .. } => ("write", vec![]),
         Question::Count => ("count", vec![]),
@@ -39,7 +41,18 @@ fn asked(question: &Question) -> (&str, Vec<u32>) {
         Question::List { v, n, .. } => ("in", vec![v, n]),
         Question::Fewest { s, t, .. } => ("fewest", vec![s, t]),
         Question::Row { s, t, .. } => ("behind", vec![s, t]),
-    }
+        Question::Quickest { s, t, ref waits, .. } => {
+            return ("quickest", format!("{s} {t} {}", in_line(waits)))
+        }
+    };
+    (word, list(&numbers))
+}
+
+/// A wait file in a line, with a semicolon for each line feed.
+fn in_line(waits: &[u8]) -> String {
+    let text = std::str::from_utf8(waits).expect("a wait file of digits");
+    assert!(!text.contains([';', '|']));
+    text.replace('\n', ";")
 }
 
 /// Every question but reading and writing, about a show or about refused rows. The last numbers
@@ -74,6 +87,25 @@ fn pairs(cues: u32, needed: usize, ask: fn(u32, u32, usize) -> Question) -> Vec<
     all
 }
 
+/// The quickest way between some pairs, each with its wait file: one without room, one without a cue, one of four
+/// with a file that may be refused.
+fn timed(prng: &mut Prng, show: Option<&Show>) -> Vec<Question> {
+    let cues = show.map_or(1, Show::count);
+    let broken = waits::mixed();
+    let mut all = Vec::new();
+    for place in 0..TIMED {
+        let (s, t) = (prng.within(1, cues), prng.within(1, cues));
+        let (s, room) =
+            (if place == 1 { cues + 1 } else { s }, WORK + place - usize::from(place == 0));
+        let waits = match prng.one_in(4) {
+            true => prng.pick(&broken).0.clone(),
+            false => waits::short(prng),
+        };
+        all.push(Question::Quickest { s, t, waits, room });
+    }
+    all
+}
+
 /// The data so far. A work area with the content of the last case is not written again.
 #[derive(Default)]
 struct Data {
@@ -93,14 +125,14 @@ impl Data {
         let content = if read { String::new() } else { list(&numbers) };
         let fewest = matches!(question, Question::Fewest { .. });
         let again = fewest && !content.is_empty() && content == self.content;
-        let (given, said, room) = (list(&given), list(&said), question.room());
+        let (said, room) = (list(&said), question.room());
         let shown = if again { "=" } else { &content };
         writeln!(self.text, "{name}|{word}|{given}|{room}|{said}|{shown}").expect("a string");
         self.content = content;
     }
 
     /// A show with all questions. The last case has the name. One file in four is padded.
-    fn show(&mut self, name: &str, rows: &[u32], zeros: &mut Prng) {
+    fn show(&mut self, name: &str, rows: &[u32], zeros: &mut Prng, times: &mut Prng) {
         let unpadded = print(rows.as_chunks().0);
         let file = match zeros.one_in(4) {
             true => padding::by_chance(zeros, &unpadded),
@@ -112,7 +144,8 @@ impl Data {
         let answer = |question: &Question| {
             show.as_ref().map_err(|refusal| *refusal)?.answer(question, GIVEN)
         };
-        for question in questions(show.as_ref().ok()) {
+        let all = questions(show.as_ref().ok());
+        for question in all.into_iter().chain(timed(times, show.as_ref().ok())) {
             self.case("", &question, answer(&question));
         }
         for room in [unpadded.len() - 1, unpadded.len() + 1] {
@@ -150,12 +183,12 @@ fn damaged(prng: &mut Prng) -> Vec<u32> {
 
 fn main() {
     let mut data = Data::default();
-    let (prng, zeros) = (&mut Prng::new(SEED, 0), &mut Prng::new(SEED, 1));
+    let [prng, zeros, times] = &mut [0, 1, 2].map(|stream| Prng::new(SEED, stream));
     for case in 1..=WHOLE {
-        data.show(&format!("random show {case}"), &small(prng), zeros);
+        data.show(&format!("random show {case}"), &small(prng), zeros, times);
     }
     for case in 1..=DAMAGED {
-        data.show(&format!("changed rows {case}"), &damaged(prng), zeros);
+        data.show(&format!("changed rows {case}"), &damaged(prng), zeros, times);
     }
     print!("{}", data.text);
 }

@@ -47,6 +47,12 @@ impl<'a> Checker<'a> {
         self.hold(input, call, expected)
     }
 
+    /// Compares a call with the same call on another implementation, which must leave the same.
+    pub fn compare_to(&mut self, other: &Subject, input: &Input, call: Call) -> Option<Outcome> {
+        let expected = Outcome::actual(other, input, &call)?;
+        self.hold(input, call, expected)
+    }
+
     fn hold(&mut self, input: &Input, call: Call, expected: Outcome) -> Option<Outcome> {
         let actual = Outcome::actual(self.subject, input, &call)?;
         self.census[(expected.returned >> 32) as usize] += 1;

@@ -12,9 +12,10 @@ pub mod random;
 pub mod report;
 pub mod round;
 pub mod table;
+pub mod waits;
 
 /// Every fixed case.
 pub fn fixed() -> impl Iterator<Item = &'static big::Case> {
-    let cases = [big::CASES, padded::CASES, behind::CASES, notes::CASES, desk::CASES];
+    let cases = [big::CASES, padded::CASES, behind::CASES, notes::CASES, desk::CASES, waits::CASES];
     cases.into_iter().flatten()
 }

@@ -20,6 +20,7 @@ pub struct Outcome {
     pub returned: u64,
     pub given: Vec<u32>,
     pub numbers: Vec<u32>,
+    pub wide: Vec<u64>,
     pub bytes: Vec<u8>,
 }
 
@@ -27,12 +28,17 @@ impl Outcome {
     /// Lent memory before a call, filled with a pattern.
     fn before(call: &Call) -> Outcome {
         let room = call.question.room();
-        let for_bytes = matches!(call.question, Question::Write { .. });
+        let [numbers, wide, bytes] = match call.question {
+            Question::Write { .. } => [0, 0, room],
+            Question::Quickest { .. } => [0, room, 0],
+            _ => [room, 0, 0],
+        };
         Outcome {
             returned: 0,
             given: pattern(call.given, 0xB1B1_0000),
-            numbers: pattern(if for_bytes { 0 } else { room }, 0xA5A5_0000),
-            bytes: pattern_bytes(if for_bytes { room } else { 0 }),
+            numbers: pattern(numbers, 0xA5A5_0000),
+            wide: pattern_wide(wide),
+            bytes: pattern_bytes(bytes),
         }
     }
 
@@ -44,6 +50,7 @@ impl Outcome {
             Ok(answer) => {
                 outcome.given[..answer.given.len()].copy_from_slice(&answer.given);
                 outcome.numbers[..answer.numbers.len()].copy_from_slice(&answer.numbers);
+                outcome.wide[..answer.wide.len()].copy_from_slice(&answer.wide);
                 outcome.bytes[..answer.bytes.len()].copy_from_slice(&answer.bytes);
             }
         }
@@ -55,6 +62,7 @@ impl Outcome {
         let mut outcome = Outcome::before(call);
         let mut lent = Lent {
             numbers: lent(&mut outcome.numbers),
+            wide: lent(&mut outcome.wide),
             bytes: lent(&mut outcome.bytes),
             given: lent(&mut outcome.given),
         };
@@ -70,6 +78,11 @@ fn lent<T>(memory: &mut [T]) -> &mut [T] {
 
 fn pattern(length: usize, begin: u32) -> Vec<u32> {
     (begin..).take(length + GUARD).collect()
+}
+
+/// Each number has something in both of its halves.
+fn pattern_wide(length: usize) -> Vec<u64> {
+    (0xC3C3_0000_D2D2_0000..).take(length + GUARD).collect()
 }
 
 fn pattern_bytes(length: usize) -> Vec<u8> {

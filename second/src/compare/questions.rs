@@ -2,11 +2,13 @@
 
 use super::checker::Subjected;
 use super::outcome::Call;
-use crate::gen::notes;
+use super::outcome::Outcome;
 use crate::gen::prng::Prng;
-use crate::limits::{GIVEN, PATH, WORK};
+use crate::gen::{notes, waits};
+use crate::limits::{GIVEN, PATH, WAIT, WORK};
 use crate::plain;
-use crate::question::{Input, Question};
+use crate::question::{Answer, Input, Question};
+use crate::subject;
 
 /// Shows of at most this many cues are asked everything.
 const SMALL: u32 = 24;
@@ -36,11 +38,16 @@ impl Subjected<'_, '_> {
         for question in on_cues(one, other).into_iter().chain(on_cues(0, 1)) {
             self.ask_rooms(prng, question);
         }
+        for (s, t) in [(one, other), (one, one), (0, 1)] {
+            let waits = some_waits(prng);
+            self.ask_rooms(prng, Question::Quickest { s, t, waits, room: 0 });
+        }
         if self.known.is_ok() {
             self.ask_cues(prng, count);
             self.ask_paths(prng);
             self.ask_lists(prng, count);
             self.ask_fewest(prng, count);
+            self.ask_quickest(prng, count);
         }
     }
 
@@ -118,8 +125,24 @@ impl Subjected<'_, '_> {
         }
     }
 
+    /// Every pair of a small show, or some pairs, under wait files that may be broken.
+    fn ask_quickest(&mut self, prng: &mut Prng, count: u32) {
+        let files = [(); 3].map(|()| some_waits(prng));
+        for (s, t) in self.pairs(prng, count) {
+            let (waits, room) = (prng.pick(&files).clone(), WORK + (t % 2) as usize);
+            self.ask(Question::Quickest { s, t, waits, room });
+        }
+    }
+
     /// Every pair of a small show, or some pairs.
     fn ask_fewest(&mut self, prng: &mut Prng, count: u32) {
+        for (s, t) in self.pairs(prng, count) {
+            self.ask(Question::Fewest { s, t, room: WORK + (s % 2) as usize });
+        }
+    }
+
+    /// Every pair of a small show, or some pairs; and pairs with numbers that are no cues.
+    fn pairs(&self, prng: &mut Prng, count: u32) -> Vec<(u32, u32)> {
         let mut pairs: Vec<(u32, u32)> = vec![(0, 1), (1, 0), (count + 1, 1), (1, count + 1)];
         if count <= SMALL {
             pairs.extend((1..=count).flat_map(|s| (1..=count).map(move |t| (s, t))));
@@ -127,9 +150,7 @@ impl Subjected<'_, '_> {
             let random = |_| (prng.within(1, count), prng.within(1, count));
             pairs.extend((0..SAMPLE).map(random));
         }
-        for (s, t) in pairs {
-            self.ask(Question::Fewest { s, t, room: WORK + (s % 2) as usize });
-        }
+        pairs
     }
 
     /// Every pair of a small show, or some pairs and some that are linked; and pairs with numbers
@@ -167,8 +188,25 @@ impl Subjected<'_, '_> {
         let without = Input::Rows(notes::left_out(rows));
         for (s, t) in pairs {
             let call = Call { question: Question::Fewest { s, t, room: WORK }, given: GIVEN };
-            self.checker.compare_with(&without, &self.input, call);
+            let fewest = self.checker.compare_with(&without, &self.input, call);
+            let waits = waits::lawful(prng);
+            let question = Question::Quickest { s, t, waits, room: WORK };
+            let call = Call { question, given: GIVEN };
+            self.checker.compare_with(&without, &self.input, call.clone());
+            self.checker.compare_to(&subject::plain(), &self.input, call);
+            self.ask_by_steps(prng, s, t, fewest);
         }
+    }
+
+    /// Where all labels wait alike, the quickest way is as many waits long as there are steps.
+    fn ask_by_steps(&mut self, prng: &mut Prng, s: u32, t: u32, fewest: Option<Outcome>) {
+        let Some(Outcome { returned: 0, given, .. }) = fewest else { return };
+        let wait = *prng.pick(&[0, 1, 7, WAIT]);
+        let tenths = u64::from(given[1]) * u64::from(wait);
+        let given = [given[0], tenths as u32, (tenths >> 32) as u32];
+        let question = Question::Quickest { s, t, waits: waits::every(wait), room: WORK + 1 };
+        let answer = Answer { wide: vec![0; WORK], ..Answer::given(&given) };
+        self.checker.compare(&self.input, Call { question, given: GIVEN }, &Ok(answer));
     }
 }
 
@@ -200,6 +238,14 @@ fn on_cues(one: u32, other: u32) -> [Question; 6] {
         Question::Fewest { s: one, t: other, room: 0 },
         Question::Row { s: one, t: other, room: 0 },
     ]
+}
+
+/// A wait file: two in three are lawful.
+fn some_waits(prng: &mut Prng) -> Vec<u8> {
+    match prng.one_in(3) {
+        true => waits::damaged(prng),
+        false => waits::lawful(prng),
+    }
 }
 
 /// A path and an own cue with something changed.

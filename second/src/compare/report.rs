@@ -29,6 +29,7 @@ pub fn text(failure: &Failure) -> String {
     let _ = writeln!(text, "expected: {}", head(expected));
     let _ = writeln!(text, "actual:   {}", head(actual));
     differences(&mut text, "number", &expected.numbers, &actual.numbers);
+    differences(&mut text, "64-bit number", &expected.wide, &actual.wide);
     differences(&mut text, "byte", &expected.bytes, &actual.bytes);
     text
 }

@@ -1,5 +1,5 @@
 //! Shows to ask about: the named ones, random ones, those with notes, those on the desk's blocks,
-//! padded files, and damaged files and rows.
+//! padded files, damaged files and rows, and wait files.
 
 pub mod behind;
 pub mod build;
@@ -11,3 +11,4 @@ pub mod notes;
 pub mod padding;
 pub mod prng;
 pub mod random;
+pub mod waits;

@@ -8,6 +8,7 @@ use super::desk;
 use super::file::{parse, print};
 use super::print::at_line;
 use super::unfold::{unfold, Unfolding};
+use super::waits::Waits;
 use crate::limits::{Refusal, Row, COLUMNS, GIVEN, JOINS, NO_CHAIN, PATH, STRIDE, WORK};
 use crate::question::{Answer, Question};
 
@@ -65,12 +66,12 @@ impl Show {
             Question::Read { .. } => self.rows.len() * COLUMNS,
             Question::Write { .. } => print(&self.rows).len(),
             Question::Locate { .. } | Question::Row { .. } => PATH,
-            Question::Fewest { .. } => WORK,
+            Question::Fewest { .. } | Question::Quickest { .. } => WORK,
             Question::Count | Question::Number { .. } | Question::List { .. } => 0,
         }
     }
 
-    /// The answer, or the first of the refusals 11 to 14.
+    /// The answer, or the first of the refusals 11 to 17.
     pub fn answer(&self, question: &Question, given: usize) -> Result<Answer, Refusal> {
         if question.room() < self.room_needed(question) || given < GIVEN {
             return Err(Refusal::new(11, 0));
@@ -90,6 +91,9 @@ impl Show {
             Question::List { outward, v, n, room } => self.list(outward, v, n, room),
             Question::Fewest { s, t, .. } => self.fewest(s, t),
             Question::Row { s, t, .. } => self.row(s, t).ok_or(Refusal::new(14, 0))?,
+            Question::Quickest { s, t, ref waits, .. } => {
+                self.quickest(s, t, &Waits::of_file(waits)?)
+            }
         })
     }
 
@@ -126,6 +130,14 @@ impl Show {
         let steps = self.unfolding().steps_from(s)[t as usize];
         let given = [steps.is_some().into(), steps.unwrap_or(0)];
         Answer::with_numbers(&given, self.work())
+    }
+
+    /// The sum in two halves, and a work area of zeros.
+    fn quickest(&self, s: u32, t: u32, waits: &Waits) -> Answer {
+        let sum = self.unfolding().sums_from(s, waits)[t as usize];
+        let tenths = sum.unwrap_or(0);
+        let given = [sum.is_some().into(), tenths as u32, (tenths >> 32) as u32];
+        Answer { wide: vec![0; WORK], ..Answer::given(&given) }
     }
 
     fn row(&self, s: u32, t: u32) -> Option<Answer> {

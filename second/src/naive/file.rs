@@ -11,10 +11,11 @@ pub fn parse(file: &[u8]) -> Result<Vec<Row>, Refusal> {
     if lines.next() != Some(NAMES) {
         return Err(Refusal::new(2, 1));
     }
-    lines.zip(2..).map(|(line, number)| row_of(line).ok_or(Refusal::new(3, number))).collect()
+    lines.zip(2..).map(|(line, number)| values_of(line).ok_or(Refusal::new(3, number))).collect()
 }
 
-fn row_of(line: &[u8]) -> Option<Row> {
+/// The values of a line with its line feed, if there are so many.
+pub fn values_of<const N: usize>(line: &[u8]) -> Option<[u32; N]> {
     let text = std::str::from_utf8(line).ok()?.strip_suffix('\n')?;
     let values: Option<Vec<u32>> = text.split(',').map(value_of).collect();
     values?.try_into().ok()

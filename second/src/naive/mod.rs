@@ -9,6 +9,7 @@ pub mod desk;
 pub mod file;
 pub mod print;
 pub mod unfold;
+pub mod waits;
 
 #[cfg(test)]
 mod tests;

@@ -2,6 +2,7 @@
 
 mod desk;
 mod notes;
+mod waits;
 
 use super::ask::Show;
 use super::behind::origins;

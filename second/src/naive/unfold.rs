@@ -3,6 +3,7 @@
 use std::collections::{BTreeSet, HashSet, VecDeque};
 
 use super::check::{Block, Link};
+use super::waits::Waits;
 
 /// A numbered cue: where its copy stands and which own cue of its block it is.
 #[derive(Clone, Debug, PartialEq, Eq)]
@@ -112,5 +113,25 @@ impl Unfolding {
             edge = next;
         }
         steps
+    }
+
+    /// The smallest sum of waits over all chains from s to every cue: sums are lowered along one link
+    /// after the other, again and again, until no link lowers one. No chain has a note.
+    pub fn sums_from(&self, s: u32, waits: &Waits) -> Vec<Option<u64>> {
+        let mut sums = vec![None; self.out.len()];
+        sums[s as usize] = Some(0);
+        let mut lowered = true;
+        while lowered {
+            lowered = false;
+            for link in self.links.iter().filter(|link| link.is_followed()) {
+                let Some(before) = sums[link.from as usize] else { continue };
+                let (sum, known) = (before + waits.of(link.label), sums[link.to as usize]);
+                if known.is_none_or(|known| sum < known) {
+                    sums[link.to as usize] = Some(sum);
+                    lowered = true;
+                }
+            }
+        }
+        sums
     }
 }

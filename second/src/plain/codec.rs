@@ -63,7 +63,7 @@ fn line<'a>(mut text: &'a [u8], row: &mut Row) -> Option<&'a [u8]> {
 
 /// Takes a value and the byte after it off the text. Five digits fit without a test, so the
 /// largest value is looked at once, behind them.
-fn value(text: &[u8], end: u8) -> Option<(u32, &[u8])> {
+pub fn value(text: &[u8], end: u8) -> Option<(u32, &[u8])> {
     let (first, mut text) = text.split_first()?;
     let mut number = u32::from(first.wrapping_sub(b'0'));
     if number > 9 {

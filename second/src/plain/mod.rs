@@ -8,7 +8,9 @@ mod desk;
 mod fewest;
 mod frame;
 mod lists;
+mod quickest;
 mod row;
+mod search;
 
 use crate::limits::{returned, Refusal, Row, GIVEN};
 use check::{Room, Show, EMPTY};
@@ -62,6 +64,18 @@ pub fn fewest(rows: &[u32], s: u32, t: u32, work: &mut [u32], given: &mut [u32])
 /// The row behind a link from s to t; given: row, depth.
 pub fn row(rows: &[u32], s: u32, t: u32, path: &mut [u32], given: &mut [u32]) -> u64 {
     returned(row::row(rows, s, t, path, given))
+}
+
+/// The smallest sum of waits from s to t; given: found, low and high half of the sum.
+pub fn quickest(
+    rows: &[u32],
+    s: u32,
+    t: u32,
+    waits: &[u8],
+    work: &mut [u64],
+    given: &mut [u32],
+) -> u64 {
+    returned(quickest::quickest(rows, s, t, waits, work, given))
 }
 
 /// The show in lent rows, once there is room for the answer.

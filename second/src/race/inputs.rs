@@ -1,8 +1,10 @@
 //! What is timed: for each question, the inputs of the table of figures.
 
 use crate::gen::prng::Prng;
-use crate::gen::{desk, known, notes, padding, random};
-use crate::limits::{COLUMNS, DESK_ROWS, JOINS, OWN_ROWS, PATH, TOTAL, WORK};
+use crate::gen::{desk, known, notes, padding, random, waits};
+use crate::limits::{
+    COLUMNS, DESK_ROWS, FOLLOWED, JOINS, OWN_ROWS, PATH, TOTAL, WAIT, WAIT_NAMES, WORK,
+};
 use crate::naive::file::print;
 use crate::question::{Input, Question};
 
@@ -99,6 +101,7 @@ pub fn entries() -> Vec<Entry> {
     entries.extend(usual.iter().map(|show| entry("number", show, numbers(&show.1))));
     entries.extend(lists(&usual));
     entries.extend(fewest(&usual, &lengths));
+    entries.extend(quickest(&usual, &lengths));
     entries.extend(behind(&usual, &lengths));
     entries
 }
@@ -151,10 +154,10 @@ fn pair(s: u32, t: u32) -> Question {
     Question::Fewest { s, t, room: WORK }
 }
 
-fn some_pairs(rows: &[u32]) -> Vec<Question> {
+fn some_pairs(rows: &[u32], ask: impl Fn(u32, u32) -> Question) -> Vec<Question> {
     let cues = some_cues(rows);
     let ends = cues.iter().cycle().skip(3);
-    cues.iter().zip(ends).map(|(s, t)| pair(*s, *t)).collect()
+    cues.iter().zip(ends).map(|(s, t)| ask(*s, *t)).collect()
 }
 
 /// The same show with notes among its links.
@@ -182,10 +185,35 @@ fn fewest(usual: &[Named; 4], lengths: &[Named; 3]) -> Vec<Entry> {
         entry("fewest", &long_ring, vec![pair(1, 2)]),
     ];
     let shows = [&long_pairs].into_iter().chain(lengths).chain(&hard);
-    entries.extend(shows.map(|show| entry("fewest", show, some_pairs(&show.1))));
+    entries.extend(shows.map(|show| entry("fewest", show, some_pairs(&show.1, pair))));
     entries.push(entry("fewest", &bad_order, vec![pair(255, 1)]));
     let noted = noted(&lengths[2]);
-    entries.push(entry("fewest", &noted, some_pairs(&noted.1)));
+    entries.push(entry("fewest", &noted, some_pairs(&noted.1, pair)));
+    entries
+}
+
+/// A wait file with a line for each label, and its waits apart from each other.
+fn all_waits() -> Vec<u8> {
+    let wait = |label: u32| (label, label * 1_009 % (WAIT + 1));
+    waits::of(&(1..=FOLLOWED).map(wait).collect::<Vec<_>>())
+}
+
+/// The shows of the lines `fewest`, under a wait file of all labels and under one of none.
+fn quickest(usual: &[Named; 4], lengths: &[Named; 3]) -> Vec<Entry> {
+    let mut entries = Vec::new();
+    for (lines, waits) in [("254 waits", all_waits()), ("no waits", WAIT_NAMES.to_vec())] {
+        for fewest in fewest(usual, lengths) {
+            let under = |question: &Question| match *question {
+                Question::Fewest { s, t, room } => {
+                    Question::Quickest { s, t, waits: waits.clone(), room }
+                }
+                ref other => other.clone(),
+            };
+            let asked = fewest.asked.iter().map(under).collect();
+            let input = format!("{}, {lines}", fewest.input);
+            entries.push(Entry { question: "quickest", input, lent: fewest.lent, asked });
+        }
+    }
     entries
 }
 

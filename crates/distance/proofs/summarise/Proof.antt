@@ -2,7 +2,8 @@
 use borrow.Author.Needs.{needs}
 use native.Mathlib.Omega.{arith}
 use mathlib.Core.Path.{refl}
-use Rattle.distance.proofs.Area.{block-count, area-done}
+use Rattle.searches.proofs.Parts.{block-count}
+use Rattle.distance.proofs.Area.{area-done}
 use Rattle.distance.proofs.summarise.Statement.{statement}
 use Rattle.distance.proofs.summarise.Tie as tie
 

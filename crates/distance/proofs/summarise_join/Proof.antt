@@ -3,7 +3,7 @@ use borrow.Author.Needs.{needs}
 use native.Mathlib.Omega.{arith}
 use mathlib.Core.Path.{refl, _∙_}
 use Rattle.distance.proofs.Summaries.{join-filled}
-use Rattle.distance.proofs.Area.{part-lent, part-put}
+use Rattle.searches.proofs.Parts.{part-lent, part-put}
 use Rattle.distance.proofs.summarise_join.Statement.{statement}
 use Rattle.distance.proofs.summarise_join.Tie as tie
 

@@ -2,7 +2,7 @@
 
 use std::fmt::{Display, Formatter};
 
-use super::{Column, NAMES};
+use super::Column;
 use crate::words::{Grouped, Many};
 
 /// Each cause: the number of the refusal, a name, what its sentence says, and the sentence.
@@ -26,7 +26,8 @@ macro_rules! causes {
                 }
             }
 
-            /// The number of the refusal; 0 where this is not a cause of one refusal alone.
+            /// The number of the refusal; 0 where this is not a cause of one refusal alone. A cause of refusal 2 or
+            /// 3 in a wait file is one of refusal 15.
             pub fn number(&self) -> u32 {
                 match self {
                     $(Cause::$name { .. } => $number,)*
@@ -50,24 +51,24 @@ causes! {
     1 TooLong(bytes: Grouped) "the file has {bytes} bytes; a show file has at most 65,536"
     1 TooLongToRead() "there are more than 65,536 bytes, the most that a show file has"
 
-    2 Empty() "the file is empty; its first line must be {NAMES}"
-    2 ByteOrderMark() "a byte order mark stands before the names; a show file has none"
-    2 TwoBytes() "each character has two bytes (UTF-16); in a show file it has one"
-    2 NamesBlank() "the line is empty; it must be {NAMES}"
+    2 Empty(names: &'static str) "the file is empty; its first line must be {names}"
+    2 ByteOrderMark(file: &'static str) "a byte order mark stands before the names; {file} has none"
+    2 TwoBytes(file: &'static str) "each character has two bytes (UTF-16); in {file} it has one"
+    2 NamesBlank(names: &'static str) "the line is empty; it must be {names}"
     2 NamesReturn() "a carriage return stands behind the names; a line feed alone ends a line"
     2 NamesUnended() "the line feed behind the names is missing"
-    2 NamesCut() "the file ends inside the names, which are {NAMES}"
-    2 NamesMissing() "values stand in the place of the names, which are {NAMES}"
+    2 NamesCut(names: &'static str) "the file ends inside the names, which are {names}"
+    2 NamesMissing(names: &'static str) "values stand in the place of the names, which are {names}"
     2 NamesSemicolons() "a semicolon stands between names; it must be a comma"
     2 NamesTabs() "a tab stands between names; it must be a comma"
     2 NamesCapitals() "the names have capital letters; all of them are small"
     2 NamesSpaces() "the names have spaces; there is none between them or around them"
     2 NamesQuotes() "the names have quote marks; they are written without any"
     2 NamesComma() "a comma stands behind the last name; the line ends without one"
-    2 NamesCount(names: Many) "the line has {names}; the eleven are {NAMES}"
-    2 NameWrong(name: String) "'{name}' stands here; the names are {NAMES}"
+    2 NamesCount(found: Many, many: &'static str, names: &'static str) "the line has {found}; the {many} are {names}"
+    2 NameWrong(name: String, names: &'static str) "'{name}' stands here; the names are {names}"
 
-    3 Blank() "the line is empty; each line behind the names is a row"
+    3 Blank(is: &'static str) "the line is empty; each line behind the names is {is}"
     3 NamesAgain() "the names stand here again; only the first line has them"
     3 Space() "a space stands in this value; a value is digits alone"
     3 Tab() "a tab stands in this value; a value is digits alone, with a comma behind it"
@@ -83,10 +84,10 @@ causes! {
     3 NoValue() "there is no value here; a value is one to five digits"
     3 Digits(digits: usize) "{digits} digits; a value has at most five, zeros in front counted"
     3 Over(value: u32) "{value}; a value is 0 to 65,535"
-    3 TooFew(values: Many) "the line has {values}; a row has eleven"
-    3 TooMany(values: Many) "the line has {values}; a row has eleven"
-    3 CommaBehind() "a comma stands behind the last value; a row ends without one"
-    3 Cut(values: Many) "the file ends behind {values} of this row; a row has eleven and a line feed"
+    3 TooFew(values: Many, has: &'static str) "the line has {values}; {has}"
+    3 TooMany(values: Many, has: &'static str) "the line has {values}; {has}"
+    3 CommaBehind(line: &'static str) "a comma stands behind the last value; a {line} ends without one"
+    3 Cut(values: Many, line: &'static str, has: &'static str) "the file ends behind {values} of this {line}; {has} and a line feed"
     3 Unended() "the line feed is missing; one ends every line, also the last"
 
     4 NoRows() "there are no rows behind the names; a show has 1 to 1,024"
@@ -153,4 +154,10 @@ causes! {
     14 Loop(cue: u32) "no link leads from cue {cue} to itself; a link is between two cues"
     14 LinkBack(s: u32, t: u32) "no link leads from cue {s} to cue {t}; one leads from {t} to {s}"
     14 NoLink(s: u32, t: u32) "no link leads from cue {s} to cue {t}; `show out` lists what follows on from {s}"
+
+    16 WaitLabel(label: u32) "{label}; a label that waits is 1 to 254"
+    16 WaitOver(wait: u32) "{wait}; a wait is 0 to 6,000 tenths of a second"
+
+    17 SameLabel(label: u32) "{label}; the line before has this label too, and labels rise from line to line"
+    17 LabelFalls(label: u32, before: u32) "{label}; labels rise from line to line, and the line before has {before} here"
 }

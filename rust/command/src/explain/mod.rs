@@ -1,16 +1,19 @@
 //! What is wrong at the place of a refusal, in words.
 //!
 //! The library decides: it says whether there is a refusal, its number and its line. What is here
-//! only explains it. [`found`] reads the text of the file by the same rules up to the first thing
-//! that is wrong, and says which column that is and why. If that were not what the library refuses,
-//! the library's own words would be said in its place; the tests see to it that this never happens.
+//! only explains it. [`found`], and for a wait file [`waits_found`], reads the text of the file by the
+//! same rules up to the first thing that is wrong, and says which column that is and why. If that were
+//! not what the library refuses, the library's own words would be said in its place; the tests see to
+//! it that this never happens.
 
 mod blocks;
 mod cause;
+mod form;
 mod names;
 mod question;
 mod rows;
 mod text;
+mod waits;
 
 use std::fmt::{Display, Formatter};
 
@@ -20,11 +23,12 @@ use crate::blocks::Row;
 use crate::way::Way;
 
 pub use cause::Cause;
+pub use form::{Form, WAIT_NAMES};
 
-/// The names of the columns, as they stand in the first line.
+/// The names of the columns of a show file, as they stand in its first line.
 pub const NAMES: &str = "block,kind,label,a,b,c,d,e,f,g,h";
 
-/// A column of a row, by its place from 0.
+/// A column of a row, or of a line of a wait file, by its place from 0.
 #[derive(Clone, Copy, Debug, PartialEq, Eq, PartialOrd, Ord)]
 pub struct Column(pub usize);
 
@@ -41,9 +45,10 @@ impl Column {
     }
 }
 
+/// Its name in a show file.
 impl Display for Column {
     fn fmt(&self, f: &mut Formatter) -> std::fmt::Result {
-        f.write_str(NAMES.split(',').nth(self.0).unwrap_or_default())
+        f.write_str(Form::Show.column(*self))
     }
 }
 
@@ -53,6 +58,8 @@ type Fault = (Option<Column>, Cause);
 /// An explained refusal.
 #[derive(Clone, Debug, PartialEq, Eq)]
 pub struct Explained {
+    /// The kind of file that the line is of.
+    pub form: Form,
     /// Its number.
     pub number: u32,
     /// The line of the file, where it has one.
@@ -66,18 +73,20 @@ pub struct Explained {
 impl Explained {
     /// A fault in a line.
     fn at(line: usize, (column, cause): Fault) -> Explained {
-        Explained { line: Some(line as u32), column, ..Explained::of(cause) }
+        let line = u32::try_from(line).unwrap_or(u32::MAX);
+        Explained { line: Some(line), column, ..Explained::of(cause) }
     }
 
     /// A fault that is in no line.
     fn of(cause: Cause) -> Explained {
-        Explained { number: cause.number(), line: None, column: None, cause }
+        Explained { form: Form::Show, number: cause.number(), line: None, column: None, cause }
     }
 
     /// A refusal in the words of the library.
     fn in_words(refused: Refused) -> Explained {
         let (number, line) = (refused.number(), line_of(refused));
         Explained {
+            form: Form::Show,
             number,
             line,
             column: None,
@@ -91,7 +100,7 @@ impl Display for Explained {
         if let Some(line) = self.line {
             write!(f, "line {line}")?;
             if let Some(column) = self.column {
-                write!(f, ", {column}")?;
+                write!(f, ", {}", self.form.column(column))?;
             }
             write!(f, ": ")?;
         }
@@ -119,6 +128,16 @@ pub fn link(refused: Refused, s: u32, t: u32, count: u32, back: bool) -> Explain
 /// Explains the refusal of a question about a path and an own cue.
 pub fn path(refused: Refused, rows: &[Row], path: &[u32], own: u32) -> Explained {
     agreed(question::path(rows, path, own), refused)
+}
+
+/// Explains the refusal of a wait file.
+pub fn waits(file: &[u8], refused: Refused) -> Explained {
+    agreed(waits_found(file), refused)
+}
+
+/// What is wrong first in a wait file; nothing where it is one.
+pub fn waits_found(file: &[u8]) -> Option<Explained> {
+    waits::found(file)
 }
 
 /// What is wrong first in the text of a file that is read so; nothing where it is a show file.

@@ -1,24 +1,30 @@
-//! Refusals 1 and 3: the length of a file, and lines that are not eleven values.
+//! Refusals 1, 3 and 15: the length of a show file, and lines that are not eleven values, or in a wait file two.
 
-use show::{MAX_FILE, MAX_VALUE, ROW_LEN};
+use show::{MAX_FILE, MAX_VALUE};
 
-use super::names::{self, TEXT};
-use super::{Cause, Column, Explained, Fault};
+use super::names;
+use super::{Cause, Column, Explained, Fault, Form};
 use crate::blocks::Row;
 use crate::words::{Grouped, Many};
 
 /// Digits of a value, at most.
 const MOST_DIGITS: usize = 5;
 
-/// The rows of a file, or what is wrong first in its text.
+/// The rows of a show file, or what is wrong first in its text.
 pub fn rows(file: &[u8], size: Option<u64>) -> Result<Vec<Row>, Explained> {
     if file.len() > MAX_FILE {
         return Err(Explained::of(too_long(size)));
     }
+    lines(file, Form::Show)
+}
+
+/// The values of the lines behind the names, or what is wrong first in the text of a file.
+pub fn lines<const N: usize>(file: &[u8], form: Form) -> Result<Vec<[u32; N]>, Explained> {
     let mut lines = file.split_inclusive(|byte| *byte == b'\n').zip(1..);
     let first = lines.next().map_or(&b""[..], |(line, _)| line);
-    names::checked(first).map_err(|fault| Explained::at(1, fault))?;
-    lines.map(|(line, number)| row(line).map_err(|fault| Explained::at(number, fault))).collect()
+    names::checked(first, form).map_err(|fault| Explained::at(1, fault))?;
+    let values = |(line, number)| values(line, form).map_err(|fault| Explained::at(number, fault));
+    lines.map(values).collect()
 }
 
 fn too_long(size: Option<u64>) -> Cause {
@@ -29,27 +35,27 @@ fn too_long(size: Option<u64>) -> Cause {
 }
 
 /// The values of a line, or what is wrong with it, from left to right.
-fn row(line: &[u8]) -> Result<Row, Fault> {
-    whole(line)?;
-    let mut row = [0; ROW_LEN];
+fn values<const N: usize>(line: &[u8], form: Form) -> Result<[u32; N], Fault> {
+    whole(line, form)?;
+    let mut values = [0; N];
     let mut rest = line;
-    for (place, value) in row.iter_mut().enumerate() {
+    for (place, value) in values.iter_mut().enumerate() {
         let end = rest.iter().position(|byte| !byte.is_ascii_digit()).unwrap_or(rest.len());
         let (digits, behind) = rest.split_at(end);
         if digits.is_empty() {
-            return Err(absent(place, behind));
+            return Err(absent(place, behind, form));
         }
         *value = value_of(digits).map_err(|cause| (Some(Column(place)), cause))?;
-        rest = ended(place, line, behind)?;
+        rest = ended(place, line, behind, form)?;
     }
-    Ok(row)
+    Ok(values)
 }
 
 /// Lines that are wrong as a whole.
-fn whole(line: &[u8]) -> Result<(), Fault> {
+fn whole(line: &[u8], form: Form) -> Result<(), Fault> {
     match line {
-        b"\n" => Err((None, Cause::Blank {})),
-        _ if names::text_of(line) == TEXT => Err((None, Cause::NamesAgain {})),
+        b"\n" => Err((None, Cause::Blank { is: form.is() })),
+        _ if names::text_of(line) == form.names().as_bytes() => Err((None, Cause::NamesAgain {})),
         _ => Ok(()),
     }
 }
@@ -66,39 +72,45 @@ fn value_of(digits: &[u8]) -> Result<u32, Cause> {
 }
 
 /// What stands where a value should begin.
-fn absent(place: usize, rest: &[u8]) -> Fault {
+fn absent(place: usize, rest: &[u8], form: Form) -> Fault {
     match rest.first() {
-        None => (None, Cause::Cut { values: values(place) }),
+        None => (None, cut(place, form)),
         Some(b',' | b'\n') => (Some(Column(place)), Cause::NoValue {}),
         Some(byte) => stray(place, *byte, rest),
     }
 }
 
 /// The rest of a line behind a value and what ends it, or what stands there.
-fn ended<'a>(place: usize, line: &[u8], rest: &'a [u8]) -> Result<&'a [u8], Fault> {
-    let last = place + 1 == ROW_LEN;
+fn ended<'a>(place: usize, line: &[u8], rest: &'a [u8], form: Form) -> Result<&'a [u8], Fault> {
+    let last = place + 1 == form.values();
     match rest {
         [b',', rest @ ..] if !last => Ok(rest),
         [b'\n', rest @ ..] if last => Ok(rest),
         [] if last => Err((None, Cause::Unended {})),
-        [] => Err((None, Cause::Cut { values: values(place + 1) })),
-        [b'\n', ..] => Err((None, Cause::TooFew { values: values(place + 1) })),
-        [b',', ..] => Err((None, too_many(line))),
+        [] => Err((None, cut(place + 1, form))),
+        [b'\n', ..] => Err((None, Cause::TooFew { values: many(place + 1), has: form.has() })),
+        [b',', ..] => Err((None, too_many(line, form))),
         [byte, ..] => Err(stray(place, *byte, rest)),
     }
 }
 
-/// A line with a comma behind its eleventh value.
-fn too_many(line: &[u8]) -> Cause {
+/// A file that ends behind so many values of a line.
+fn cut(values: usize, form: Form) -> Cause {
+    Cause::Cut { values: many(values), line: form.line(), has: form.has() }
+}
+
+/// A line with a comma behind its last value.
+fn too_many(line: &[u8], form: Form) -> Cause {
     let commas = names::text_of(line).iter().filter(|byte| **byte == b',').count();
+    let has = form.has();
     match names::text_of(line).strip_suffix(b",") {
-        Some(_) if commas == ROW_LEN => Cause::CommaBehind {},
-        Some(_) => Cause::TooMany { values: values(commas) },
-        None => Cause::TooMany { values: values(commas + 1) },
+        Some(_) if commas == form.values() => Cause::CommaBehind { line: form.line() },
+        Some(_) => Cause::TooMany { values: many(commas), has },
+        None => Cause::TooMany { values: many(commas + 1), has },
     }
 }
 
-fn values(many: usize) -> Many {
+fn many(many: usize) -> Many {
     Many(many as u32, "value")
 }
 

@@ -3,6 +3,7 @@
 
 use super::dot::{raised, Picture};
 use crate::blocks::{Block, Use};
+use crate::waits::Waits;
 
 /// What the shapes mean.
 const KEY: [&str; 2] = [
@@ -14,9 +15,9 @@ const KEY: [&str; 2] = [
 const MEETING: &str = "fontsize=10, dir=none, style=dashed, color=\"#707070\", weight=4";
 
 /// One frame for each block.
-pub fn drawn(name: &str, blocks: &[Block]) -> String {
+pub fn drawn(name: &str, blocks: &[Block], waits: Option<&Waits>) -> String {
     let links = blocks.iter().flat_map(|block| &block.links);
-    let mut picture = Picture::new(&format!("{name}: the blocks"), &KEY, links);
+    let mut picture = Picture::new(&format!("{name}: the blocks"), &KEY, links, waits);
     for (block, k) in blocks.iter().zip(0..) {
         let show = if k + 1 == blocks.len() { ", the show" } else { "" };
         picture.frame(&k.to_string(), &format!("block {k}{show}: total {}", block.total));

@@ -1,6 +1,8 @@
 //! Lines of Graphviz text, set in by how deep they stand.
 
 use crate::blocks::Link;
+use crate::waits::Waits;
+use crate::words::Seconds;
 
 /// What all pictures have in common: rows from left to right, round cues.
 const LOOK: [&str; 4] = [
@@ -16,29 +18,35 @@ const END: &str = "<BR ALIGN=\"LEFT\"/>";
 /// What a dashed arrow means; said only where there is one.
 const NOTE: &str = "dashed arrow: note, which is not followed";
 
+/// What stands behind a label; said only where something does.
+const WAIT: &str = "behind a label: its wait in seconds";
+
 /// The grounds of frames, the next one for each frame inside another.
 const GROUNDS: [&str; 3] = ["#f4f1ea", "#e6edf5", "#e9f3e6"];
 
 /// A picture in the making.
-pub struct Picture {
+pub struct Picture<'a> {
     text: String,
     depth: usize,
+    waits: Option<&'a Waits>,
 }
 
-impl Picture {
+impl<'w> Picture<'w> {
     /// An empty picture with its title and what its shapes mean. Nothing is said of notes if none of
     /// its links is one.
     pub fn new<'a>(
         title: &str,
         key: &[&str],
         links: impl IntoIterator<Item = &'a Link>,
-    ) -> Picture {
-        let mut picture = Picture { text: String::new(), depth: 0 };
+        waits: Option<&'w Waits>,
+    ) -> Picture<'w> {
+        let mut picture = Picture { text: String::new(), depth: 0, waits };
         picture.open("digraph");
         LOOK.iter().for_each(|line| picture.line(line));
         let head = format!("<FONT POINT-SIZE=\"16\">{}</FONT>{END}", escaped(title));
         let note = links.into_iter().any(Link::is_note).then_some(&NOTE);
-        let rest: String = key.iter().chain(note).map(|line| format!("{line}{END}")).collect();
+        let lines = key.iter().chain(waits.map(|_| &WAIT)).chain(note);
+        let rest: String = lines.map(|line| format!("{line}{END}")).collect();
         picture.line(&format!("fontsize=12; label=<{head}{rest}>;"));
         picture
     }
@@ -50,11 +58,14 @@ impl Picture {
         self.text.push('\n');
     }
 
-    /// Adds a link with its label, between two cues that are called so. That of a note is dashed.
+    /// Adds a link with its label, and with its wait where waits are drawn, between two cues that are
+    /// called so. That of a note is dashed; a note has no wait.
     pub fn arrow(&mut self, link: &Link, called: impl Fn(u32) -> String) {
         let (from, to) = (called(link.from), called(link.to));
         let dashed = if link.is_note() { ", style=dashed" } else { "" };
-        self.line(&format!("{from} -> {to} [label=\"{}\"{dashed}];", link.label));
+        let wait = self.waits.and_then(|waits| waits.of(link.label));
+        let wait = wait.map_or(String::new(), |tenths| format!(", {} s", Seconds(tenths)));
+        self.line(&format!("{from} -> {to} [label=\"{}{wait}\"{dashed}];", link.label));
     }
 
     /// Opens a frame around what follows.

@@ -9,6 +9,7 @@ use show::{Loaded, Refused};
 
 use crate::blocks::{of_rows, rows_of, Link};
 use crate::links::{Labelled, MOST_CUES};
+use crate::waits::Waits;
 use crate::words::Grouped;
 
 #[cfg(test)]
@@ -32,17 +33,17 @@ impl From<Refused> for Undrawn {
     }
 }
 
-/// The blocks of a show.
-pub fn blocks(title: &str, show: &Loaded) -> String {
-    blocks::drawn(title, &of_rows(rows_of(show)))
+/// The blocks of a show, with the waits of their links where there are any to draw.
+pub fn blocks(title: &str, show: &Loaded, waits: Option<&Waits>) -> String {
+    blocks::drawn(title, &of_rows(rows_of(show)), waits)
 }
 
 /// The unfolded show: its copies and its links, or why it is not drawn.
-pub fn unfolded(title: &str, show: &Loaded) -> Result<String, Undrawn> {
+pub fn unfolded(title: &str, show: &Loaded, waits: Option<&Waits>) -> Result<String, Undrawn> {
     if show.cues > MOST_CUES {
         return Err(too_many(format!("{} cues", Grouped(show.cues.into())), MOST_CUES as usize));
     }
-    Ok(unfolded::drawn(title, &of_rows(rows_of(show)), &links(show)?))
+    Ok(unfolded::drawn(title, &of_rows(rows_of(show)), &links(show)?, waits))
 }
 
 /// The links, as long as they are not too many.

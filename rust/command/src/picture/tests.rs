@@ -8,6 +8,7 @@ use second::naive::file::print;
 use show::{Loaded, Rows, ROWS_LEN};
 
 use super::{blocks, unfolded, Undrawn};
+use crate::waits::Waits;
 
 const RING_BLOCKS: &str = include_str!("ring-blocks.dot");
 const RING_UNFOLDED: &str = include_str!("ring-unfolded.dot");
@@ -38,7 +39,7 @@ fn shows() -> Vec<Vec<u32>> {
 }
 
 fn drawn(numbers: &[u32]) -> String {
-    of(numbers, |show| unfolded("show", show)).expect("a picture")
+    of(numbers, |show| unfolded("show", show, None)).expect("a picture")
 }
 
 /// The frame that each cue stands in, innermost, by the cue's number.
@@ -82,12 +83,15 @@ fn names(picture: &str) -> Vec<String> {
 
 #[test]
 fn the_blocks_of_the_ring_are_drawn() {
-    assert_eq!(of(&known::ring(), |ring| blocks("ring", ring)), RING_BLOCKS);
+    assert_eq!(of(&known::ring(), |ring| blocks("ring", ring, None)), RING_BLOCKS);
 }
 
 #[test]
 fn the_ring_is_drawn_unfolded() {
-    assert_eq!(of(&known::ring(), |ring| unfolded("ring", ring)).as_deref(), Ok(RING_UNFOLDED));
+    assert_eq!(
+        of(&known::ring(), |ring| unfolded("ring", ring, None)).as_deref(),
+        Ok(RING_UNFOLDED)
+    );
     let frames = frames(RING_UNFOLDED);
     let expected = [(1, "show"), (2, "show"), (3, "1"), (4, "1_1"), (5, "1_2")];
     assert_eq!(frames, expected.map(|(cue, frame)| (cue, frame.to_string())));
@@ -142,7 +146,7 @@ fn every_link_of_a_block_is_drawn_with_its_label() {
                 |link: &Link| format!("b{k}c{} -> b{k}c{} {}", link.from, link.to, look(link));
             expected.extend(block.links.iter().map(drawn));
         }
-        let mut arrows = arrows(&of(&rows, |show| blocks("show", show)));
+        let mut arrows = arrows(&of(&rows, |show| blocks("show", show, None)));
         arrows.retain(|line| !line.contains("dir=none"));
         assert_eq!(arrows, expected);
     }
@@ -160,11 +164,75 @@ fn with_note(picture: &str, end: &str) -> String {
 #[test]
 fn a_note_of_the_ring_is_dashed() {
     let noted = known::ring_back(2, notes::NOTE);
-    assert_eq!(of(&noted, |ring| blocks("ring", ring)), with_note(RING_BLOCKS, "b2c1"));
-    let unfolded = of(&noted, |ring| unfolded("ring", ring));
+    assert_eq!(of(&noted, |ring| blocks("ring", ring, None)), with_note(RING_BLOCKS, "b2c1"));
+    let unfolded = of(&noted, |ring| unfolded("ring", ring, None));
     assert_eq!(unfolded, Ok(with_note(RING_UNFOLDED, "1")));
-    let followed = of(&known::ring_back(2, notes::NOTE - 1), |ring| blocks("ring", ring));
+    let followed = of(&known::ring_back(2, notes::NOTE - 1), |ring| blocks("ring", ring, None));
     assert_eq!(followed, RING_BLOCKS.replace("-> b2c1 [label=\"2\"]", "-> b2c1 [label=\"254\"]"));
+}
+
+/// The picture of the ring with the waits of its labels, and a line more that says what they are.
+fn with_waits(picture: &str) -> String {
+    let line = "behind a label: its wait in seconds<BR ALIGN=\"LEFT\"/>";
+    let waits = picture.replace("label=\"1\"];", "label=\"1, 1.0 s\"];");
+    let waits = waits.replace("label=\"2\"];", "label=\"2, 0.0 s\"];");
+    waits.replace("<BR ALIGN=\"LEFT\"/>>;", &format!("<BR ALIGN=\"LEFT\"/>{line}>;"))
+}
+
+#[test]
+fn the_waits_of_the_ring_are_drawn() {
+    let waits = Waits::of_file(b"label,wait\n1,10\n").expect("a wait file");
+    let ring = known::ring();
+    let drawn = of(&ring, |ring| blocks("ring", ring, Some(&waits)));
+    assert_eq!(drawn, arrows_alone(RING_BLOCKS, &with_waits(RING_BLOCKS)));
+    let drawn = of(&ring, |ring| unfolded("ring", ring, Some(&waits)));
+    assert_eq!(drawn, Ok(with_waits(RING_UNFOLDED)));
+}
+
+/// The changed lines that are arrows or the title, and the others as they were: an own cue may be called 1
+/// or 2, too.
+fn arrows_alone(picture: &str, changed: &str) -> String {
+    let lines = picture.lines().zip(changed.lines());
+    let line = |(line, changed): (&str, &str)| match line.contains(" -> ") || line.contains("<FONT")
+    {
+        true => format!("{changed}\n"),
+        false => format!("{line}\n"),
+    };
+    lines.map(line).collect()
+}
+
+#[test]
+fn every_link_is_drawn_with_the_wait_of_its_label() {
+    for (rows, case) in shows().iter().zip(0..) {
+        let file = second::gen::waits::lawful(&mut Prng::new(32, case));
+        let known = second::naive::waits::Waits::of_file(&file).expect("a wait file");
+        let waits = Waits::of_file(&file).expect("a wait file");
+        let show = Show::of_rows(rows).expect("an accepted show");
+        let look = |link: &Link| match link.is_followed() {
+            true => {
+                let tenths = known.of(link.label);
+                format!("[label=\"{}, {}.{} s\"];", link.label, tenths / 10, tenths % 10)
+            }
+            false => format!("[label=\"{}\", style=dashed];", link.label),
+        };
+        let links = show.unfolding().links.iter();
+        let expected: Vec<String> =
+            links.map(|link| format!("{} -> {} {}", link.from, link.to, look(link))).collect();
+        let drawn = of(rows, |show| unfolded("show", show, Some(&waits))).expect("a picture");
+        assert_eq!(arrows(&drawn), expected);
+        assert_eq!(drawn.matches("behind a label: its wait in seconds").count(), 1);
+    }
+}
+
+#[test]
+fn a_note_has_no_wait() {
+    let waits = Waits::of_file(b"label,wait\n1,10\n254,6000\n").expect("a wait file");
+    assert_eq!(
+        [0, 1, 2, 254, 255, 256].map(|label| waits.of(label)),
+        [None, Some(10), Some(0), Some(6000), None, None]
+    );
+    let noted = of(&known::ring_back(2, notes::NOTE), |ring| blocks("ring", ring, Some(&waits)));
+    assert!(noted.contains("b2c2 -> b2c1 [label=\"255\", style=dashed];"));
 }
 
 #[test]
@@ -183,18 +251,17 @@ fn a_copy_without_cues_has_no_frame() {
 
 #[test]
 fn a_title_is_written_out() {
-    let picture = of(&known::ring(), |ring| blocks("1 < 2 & 3", ring));
+    let picture = of(&known::ring(), |ring| blocks("1 < 2 & 3", ring, None));
     assert!(picture.contains(">1 &lt; 2 &amp; 3: the blocks<"));
 }
 
 #[test]
 fn large_shows_are_not_drawn_unfolded() {
     let too_large = |said: &str| Err(Undrawn::TooLarge(said.to_string()));
-    assert!(
-        of(&known::tower(10), |show| blocks("", show)).contains("block 9, the show: total 1023")
-    );
+    assert!(of(&known::tower(10), |show| blocks("", show, None))
+        .contains("block 9, the show: total 1023"));
     let said = "1,023 cues are too many to draw; at most 1,000 are drawn";
-    assert_eq!(of(&known::tower(10), |show| unfolded("", show)), too_large(said));
+    assert_eq!(of(&known::tower(10), |show| unfolded("", show, None)), too_large(said));
     let said = "the links are too many to draw; at most 10,000 are drawn";
-    assert_eq!(of(&known::millions(), |show| unfolded("", show)), too_large(said));
+    assert_eq!(of(&known::millions(), |show| unfolded("", show, None)), too_large(said));
 }

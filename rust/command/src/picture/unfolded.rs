@@ -2,13 +2,14 @@
 
 use super::dot::Picture;
 use crate::blocks::{Block, Link};
+use crate::waits::Waits;
 
 /// What the shapes mean.
 const KEY: &str = "frame: copy with its path; circle: cue; arrow: link with its label";
 
 /// Frames by the file, links as given.
-pub fn drawn(name: &str, blocks: &[Block], links: &[Link]) -> String {
-    let picture = Picture::new(&format!("{name}: unfolded"), &[KEY], links);
+pub fn drawn(name: &str, blocks: &[Block], links: &[Link], waits: Option<&Waits>) -> String {
+    let picture = Picture::new(&format!("{name}: unfolded"), &[KEY], links, waits);
     let mut copies = Copies { blocks, picture, numbered: 0 };
     copies.put_in(blocks.len() - 1, &[]);
     let mut picture = copies.picture;
@@ -21,7 +22,7 @@ pub fn drawn(name: &str, blocks: &[Block], links: &[Link]) -> String {
 /// Copies in the order of their cues.
 struct Copies<'a> {
     blocks: &'a [Block],
-    picture: Picture,
+    picture: Picture<'a>,
     numbered: u32,
 }
 

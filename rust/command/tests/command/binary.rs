@@ -12,6 +12,7 @@ use crate::common::{desk_run, file_of, noted_ring, ring, said, started};
 const RING: &str = "shows/ring.csv";
 const NOTED: &str = "shows/noted_ring.csv";
 const DESK: &str = "shows/desk_run.csv";
+const WAITS: &str = "shows/ring_waits.csv";
 const RING_FILE: &str = include_str!("../../../../shows/ring.csv");
 const BLOCKS: &str = include_str!("../../src/picture/ring-blocks.dot");
 const UNFOLDED: &str = include_str!("../../src/picture/ring-unfolded.dot");
@@ -38,6 +39,16 @@ const ANSWERS: &[(&[&str], &str)] = &[
     (&["out", NOTED, "2"], "to\n1\n"),
     (&["in", NOTED, "1"], "from\n2\n"),
     (&["fewest", "shows/tower31.csv", "1", "2"], "fewest\nnone\n"),
+    (&["quickest", RING, WAITS, "1", "2"], "quickest,time\n40,0:04.0\n"),
+    (&["quickest", RING, WAITS, "4", "3"], "quickest,time\n55,0:05.5\n"),
+    (&["quickest", RING, WAITS, "3", "3"], "quickest,time\n0,0:00.0\n"),
+    (&["quickest", NOTED, WAITS, "4", "3"], "quickest,time\nnone,-\n"),
+    (&["quickest", NOTED, WAITS, "1", "2"], "quickest,time\n40,0:04.0\n"),
+    (&["quickest", "shows/tower31.csv", WAITS, "1", "2"], "quickest,time\nnone,-\n"),
+    (
+        &["quickest", "shows/long_ring.csv", WAITS, "1", "2"],
+        "quickest,time\n10737418240,298261:37:04.0\n",
+    ),
     (&["count", "shows/tower31.csv"], "cues\n2147483647\n"),
     (
         &["row", RING, "2", "1"],
@@ -64,6 +75,7 @@ const ANSWERS: &[(&[&str], &str)] = &[
     (&["in", "--desk", DESK, "2"], "from\n1\n3\n6\n15\n"),
     (&["fewest", "--desk", DESK, "1", "3"], "fewest\n11\n"),
     (&["fewest", DESK, "1", "--desk", "2"], "fewest\n9\n"),
+    (&["quickest", "--desk", DESK, WAITS, "1", "3"], "quickest,time\n110,0:11.0\n"),
     (
         &["row", "--desk", DESK, "3", "1"],
         "row,line,depth,path,block,kind,label,a,b,c,d,e,f,g,h\n174,7,0,-,17,1,7,3,1,0,0,0,0,0,0\n",
@@ -83,8 +95,8 @@ const ANSWERS: &[(&[&str], &str)] = &[
     (&["picture", RING], BLOCKS),
     (&["picture", "--unfolded", RING], UNFOLDED),
     (&["picture", RING, "--unfolded"], UNFOLDED),
-    (&["--version"], "show 0.5.0\n"),
-    (&["-V"], "show 0.5.0\n"),
+    (&["--version"], "show 0.6.0\n"),
+    (&["-V"], "show 0.6.0\n"),
 ];
 
 #[test]
@@ -150,6 +162,19 @@ const WRONG: &[(&[&str], &str)] = &[
     (&["in", RING], "in: CUE is missing"),
     (&["fewest", RING, "1"], "fewest: T is missing"),
     (&["fewest", RING, "1", "2", "3"], "fewest: '3' is one word too many"),
+    (&["quickest", RING], "quickest: WAITS is missing"),
+    (&["quickest", RING, WAITS, "1"], "quickest: T is missing"),
+    (&["quickest", RING, WAITS, "1", "x"], "quickest: 'x' is no number"),
+    (&["quickest", RING, WAITS, "1", "2", "3"], "quickest: '3' is one word too many"),
+    (
+        &["quickest", "-", "-", "1", "2"],
+        "quickest: FILE and WAITS are both -; only one of them can be standard input",
+    ),
+    (
+        &["picture", "-", "-"],
+        "picture: FILE and WAITS are both -; only one of them can be standard input",
+    ),
+    (&["picture", RING, WAITS, WAITS], "picture: 'shows/ring_waits.csv' is one word too many"),
     (&["row", RING], "row: S is missing"),
     (&["row", RING, "2"], "row: T is missing"),
     (&["row", RING, "2", "x"], "row: 'x' is no number"),
@@ -209,7 +234,7 @@ fn help_says_what_comes_with_the_desk() {
 #[test]
 fn help_says_which_label_is_not_followed() {
     let note = format!("with label {}, are", show::MAX_FOLLOWED + 1);
-    for word in ["fewest", "picture"] {
+    for word in ["fewest", "quickest", "picture"] {
         assert!(said(&[word, "--help"], b"").1.contains(&note), "{word}");
     }
 }

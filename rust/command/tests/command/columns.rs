@@ -38,8 +38,14 @@ fn said(sentence: &str) -> Said {
     said
 }
 
+/// The values that a sentence allows, at the ends of their range, and those next to them.
+pub fn said_of(sentence: &str) -> (Vec<u32>, Vec<u32>) {
+    let Said { allowed, others } = said(sentence);
+    (allowed, others)
+}
+
 /// The bytes of a value of the file.
-fn value(file: &[u8], line: u32, column: Column) -> std::ops::Range<usize> {
+pub fn value(file: &[u8], line: u32, column: Column) -> std::ops::Range<usize> {
     let lines = file.split_inclusive(|byte| *byte == b'\n');
     let begin: usize = lines.clone().take(line as usize - 1).map(<[u8]>::len).sum();
     let text = lines.into_iter().nth(line as usize - 1).expect("there is such a line");

@@ -5,7 +5,7 @@ use std::process::{Child, Command, Output, Stdio};
 use std::thread;
 
 use second::naive::file::print;
-use show::{Refused, ROWS_LEN};
+use show::{Refused, Rows, ROWS_LEN, WORK_LEN};
 use show_command::ask;
 use show_command::commands::Question;
 use show_command::input::Input;
@@ -33,6 +33,19 @@ pub fn noted_ring() -> Vec<u8> {
 /// The file of the sample show on the desk's blocks.
 pub fn desk_run() -> Vec<u8> {
     file_of(&second::gen::desk::desk_run())
+}
+
+/// The library's refusal of a wait file.
+pub fn waits_refusal(file: &[u8]) -> Option<Refused> {
+    let ring = second::gen::known::ring();
+    Rows::new(&ring).quickest(1, 2, file, &mut [0; WORK_LEN]).err()
+}
+
+/// A file of this name, with these bytes, for the command to read.
+pub fn written(name: &str, bytes: &[u8]) -> String {
+    let path = format!("{}/{name}", env!("CARGO_TARGET_TMPDIR"));
+    std::fs::write(&path, bytes).expect("the folder can be written");
+    path
 }
 
 /// The library's refusal of a file that is read so.

@@ -36,12 +36,14 @@ pub fn of(way: Way, file: &[u8]) -> Option<Explained> {
     found
 }
 
-/// Causes that have to do with a file, but for the one that needs its size.
+/// Causes that have to do with a show file, but for the one that needs its size.
 fn of_files() -> impl Iterator<Item = &'static &'static str> {
     const OTHERS: [&str; 2] = ["Unexplained", "TooLong"];
     const QUESTIONS: [&str; 9] =
         ["NoCue", "LongPath", "NoUses", "NoUse", "NoOwn", "NotOwn", "Loop", "LinkBack", "NoLink"];
-    Cause::NAMES.iter().filter(|name| !OTHERS.contains(name) && !QUESTIONS.contains(name))
+    const WAITS: [&str; 4] = ["WaitLabel", "WaitOver", "SameLabel", "LabelFalls"];
+    let others = [&OTHERS[..], &QUESTIONS, &WAITS].concat();
+    Cause::NAMES.iter().filter(move |name| !others.contains(name))
 }
 
 #[test]

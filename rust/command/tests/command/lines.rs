@@ -36,15 +36,16 @@ fn eleven(line: &[u8], kept: usize) -> Vec<u8> {
 /// The line as its explanation wants it; nothing where that is not said of one line.
 fn mended(line: &[u8], cause: &Cause) -> Option<Vec<u8>> {
     Some(match *cause {
-        Cause::Blank {} | Cause::NamesAgain {} => ROW.as_bytes().to_vec(),
-        Cause::Return {} | Cause::CommaBehind {} | Cause::Unended {} => {
+        Cause::Blank { .. } | Cause::NamesAgain {} => ROW.as_bytes().to_vec(),
+        Cause::Return {} | Cause::CommaBehind { .. } | Cause::Unended {} => {
             [bare(line), b"\n"].concat()
         }
-        Cause::TooFew { values: Many(values, _) } | Cause::Cut { values: Many(values, _) } => {
+        Cause::TooFew { values: Many(values, _), .. }
+        | Cause::Cut { values: Many(values, _), .. } => {
             assert_eq!(bare(line).split(|byte| *byte == b',').count(), values as usize);
             eleven(line, values as usize)
         }
-        Cause::TooMany { values: Many(values, _) } => {
+        Cause::TooMany { values: Many(values, _), .. } => {
             assert!(bare(line).split(|byte| *byte == b',').count() <= values as usize);
             eleven(line, 11)
         }

@@ -8,3 +8,4 @@ mod files;
 mod lines;
 mod naive;
 mod sentences;
+mod waits;

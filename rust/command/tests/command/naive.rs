@@ -1,7 +1,7 @@
 //! Answers held to the naive tool's, on named and random shows.
 
 use second::gen::prng::Prng;
-use second::gen::{desk, edges, known, padding, random};
+use second::gen::{desk, edges, known, padding, random, waits};
 use second::limits::{DESK_ROWS, PATH, WORK};
 use second::naive::ask::Show;
 use second::naive::file::print;
@@ -11,7 +11,7 @@ use show_command::commands::Question;
 use show_command::problem::Problem;
 use show_command::way::Way;
 
-use crate::common::{asked, file_of, said, NAMES};
+use crate::common::{asked, file_of, said, written, NAMES};
 
 fn random_show(seed: u64, case: u64) -> Vec<u32> {
     let prng = &mut Prng::new(seed, case);
@@ -65,6 +65,10 @@ fn naive(question: &Question) -> question::Question {
         Question::In(v) => question::Question::List { outward: false, v, n: 0, room: 1000 },
         Question::Fewest(s, t) => question::Question::Fewest { s, t, room: WORK },
         Question::Row(s, t) => question::Question::Row { s, t, room: PATH },
+        Question::Quickest { ref waits, s, t } => {
+            let waits = std::fs::read(waits).expect("a wait file");
+            question::Question::Quickest { s, t, waits, room: WORK }
+        }
         ref other => panic!("the naive tool is not asked for {other:?}"),
     }
 }
@@ -115,11 +119,24 @@ fn text(read: &Read, question: &Question, Answer { given, numbers, .. }: Answer)
             format!("row,line,depth,path,{NAMES}{row},{line},{},{path},{values}\n", given[1])
         }
         Question::Number { .. } => format!("cue\n{}\n", given[0]),
+        Question::Quickest { .. } if given[0] == 0 => "quickest,time\nnone,-\n".to_string(),
+        Question::Quickest { .. } => {
+            let tenths = u64::from(given[2]) << 32 | u64::from(given[1]);
+            format!("quickest,time\n{tenths},{}\n", clock(tenths))
+        }
         Question::Out(_) => format!("to\n{}", lines(&numbers)),
         Question::In(_) => format!("from\n{}", lines(&numbers)),
         _ if given[0] == 0 => "fewest\nnone\n".to_string(),
         _ => format!("fewest\n{}\n", given[1]),
     }
+}
+
+/// Minutes and seconds, behind the hours where there are any.
+fn clock(tenths: u64) -> String {
+    let seconds = tenths / 10;
+    let hours = if seconds < 3600 { String::new() } else { format!("{}:", seconds / 3600) };
+    let width = if seconds < 3600 { 0 } else { 2 };
+    format!("{hours}{:0width$}:{:02}.{}", seconds / 60 % 60, seconds % 60, tenths % 10)
 }
 
 /// The answer of both, or the number of the refusal.
@@ -161,6 +178,31 @@ fn answers_are_those_of_the_naive_tool() {
         let shape = prng.pick(&random::SHAPES);
         let read = Read::alone(&random::show(prng, shape));
         for question in questions(&read.show) {
+            hold(&read, &question);
+        }
+    }
+}
+
+/// Every pair of a show, and numbers that are no cues, under this wait file.
+fn quickest(show: &Show, waits: &str) -> Vec<Question> {
+    let numbers = 0..=show.count() + 1;
+    let pairs = numbers.clone().flat_map(|s| numbers.clone().map(move |t| (s, t)));
+    pairs.map(|(s, t)| Question::Quickest { waits: waits.into(), s, t }).collect()
+}
+
+#[test]
+fn quickest_ways_are_those_of_the_naive_tool() {
+    for case in 0..60 {
+        let prng = &mut Prng::new(28, case);
+        let shape = prng.pick(&random::SHAPES);
+        let read = match case % 4 {
+            0 => Read::desk(&random::desk_show(prng, shape)),
+            _ => Read::alone(&random::show(prng, shape)),
+        };
+        let broken = prng.one_in(3);
+        let file = if broken { waits::damaged(prng) } else { waits::lawful(prng) };
+        let waits = written("naive_waits.csv", &file);
+        for question in quickest(&read.show, &waits) {
             hold(&read, &question);
         }
     }

@@ -9,7 +9,7 @@ use show_command::blocks::rows_of;
 use show_command::explain::{self, Cause, Explained};
 use show_command::way::Way;
 
-use crate::common::{file_of, refusal, ring, NAMES};
+use crate::common::{file_of, refusal, ring, waits_refusal, NAMES};
 
 /// First lines, and what is said of them.
 const FIRST_LINES: &[(&str, &str)] = &[
@@ -120,9 +120,53 @@ const DESK_LINES: &[(&str, &str)] = &[
     ("16,0,2,1,0,0,0,0,0,0,0\n", "line 2, label: 2; the last block is the show and has no joins, so this must be 0 (refusal 9)"),
 ];
 
+/// Wait files, and what is said of them.
+const WAITS: &[(&str, &str)] = &[
+    ("", "line 1: the file is empty; its first line must be label,wait (refusal 15)"),
+    ("\u{FEFF}label,wait\n", "line 1: a byte order mark stands before the names; a wait file has none (refusal 15)"),
+    ("l\0a\0b\0e\0l\0", "line 1: each character has two bytes (UTF-16); in a wait file it has one (refusal 15)"),
+    ("\n", "line 1: the line is empty; it must be label,wait (refusal 15)"),
+    ("label,wait\r\n1,10\r\n", "line 1: a carriage return stands behind the names; a line feed alone ends a line (refusal 15)"),
+    ("label,wait", "line 1: the line feed behind the names is missing (refusal 15)"),
+    ("label,wa", "line 1: the file ends inside the names, which are label,wait (refusal 15)"),
+    ("1,10\n", "line 1: values stand in the place of the names, which are label,wait (refusal 15)"),
+    ("label;wait\n", "line 1: a semicolon stands between names; it must be a comma (refusal 15)"),
+    ("label\twait\n", "line 1: a tab stands between names; it must be a comma (refusal 15)"),
+    ("Label,Wait\n", "line 1: the names have capital letters; all of them are small (refusal 15)"),
+    ("label, wait\n", "line 1: the names have spaces; there is none between them or around them (refusal 15)"),
+    ("\"label\",\"wait\"\n", "line 1: the names have quote marks; they are written without any (refusal 15)"),
+    ("label,wait,\n", "line 1: a comma stands behind the last name; the line ends without one (refusal 15)"),
+    ("label\n", "line 1: the line has 1 name; the two are label,wait (refusal 15)"),
+    ("label,time\n", "line 1, wait: 'time' stands here; the names are label,wait (refusal 15)"),
+    ("label,wait\n\n", "line 2: the line is empty; each line behind the names is a label and its wait (refusal 15)"),
+    ("label,wait\nlabel,wait\n", "line 2: the names stand here again; only the first line has them (refusal 15)"),
+    ("label,wait\n1, 10\n", "line 2, wait: a space stands in this value; a value is digits alone (refusal 15)"),
+    ("label,wait\n1,10\r\n", "line 2: a carriage return stands at the end of the line; a line feed alone ends it (refusal 15)"),
+    ("label,wait\n1,\n", "line 2, wait: there is no value here; a value is one to five digits (refusal 15)"),
+    ("label,wait\n000001,10\n", "line 2, label: 6 digits; a value has at most five, zeros in front counted (refusal 15)"),
+    ("label,wait\n1,65536\n", "line 2, wait: 65536; a value is 0 to 65,535 (refusal 15)"),
+    ("label,wait\n1\n", "line 2: the line has 1 value; a line of a wait file has two (refusal 15)"),
+    ("label,wait\n1,10,2\n", "line 2: the line has 3 values; a line of a wait file has two (refusal 15)"),
+    ("label,wait\n1,10,\n", "line 2: a comma stands behind the last value; a line ends without one (refusal 15)"),
+    ("label,wait\n1,10\n2", "line 3: the file ends behind 1 value of this line; a line of a wait file has two and a line feed (refusal 15)"),
+    ("label,wait\n1,10", "line 2: the line feed is missing; one ends every line, also the last (refusal 15)"),
+    ("label,wait\n1,1\n0,10\n", "line 3, label: 0; a label that waits is 1 to 254 (refusal 16)"),
+    ("label,wait\n255,6001\n", "line 2, label: 255; a label that waits is 1 to 254 (refusal 16)"),
+    ("label,wait\n2,1\n1,6001\n", "line 3, wait: 6001; a wait is 0 to 6,000 tenths of a second (refusal 16)"),
+    ("label,wait\n1,6001\n1,1\n1\n", "line 4: the line has 1 value; a line of a wait file has two (refusal 15)"),
+    ("label,wait\n7,1\n00007,1\n", "line 3, label: 7; the line before has this label too, and labels rise from line to line (refusal 17)"),
+    ("label,wait\n1,1\n7,1\n3,1\n", "line 4, label: 3; labels rise from line to line, and the line before has 7 here (refusal 17)"),
+];
+
 /// The explanation of a file that the library refuses.
 fn explained(way: Way, file: &[u8]) -> Explained {
     explain::file(file, Some(file.len() as u64), way, refusal(way, file).expect("a refused file"))
+}
+
+/// The explanation of a wait file that the library refuses.
+fn explained_waits(file: &str) -> Explained {
+    let refused = waits_refusal(file.as_bytes()).expect("a refused wait file");
+    explain::waits(file.as_bytes(), refused)
 }
 
 /// Files for the desk that are too large to write out.
@@ -202,6 +246,10 @@ fn unexplained() -> Vec<(Explained, &'static str)> {
             "line 3: a value is out of its range, or an idle column is not 0 (refusal 6)",
         ),
         (other, "line 1: the first line is not block,kind,label,a,b,c,d,e,f,g,h (refusal 2)"),
+        (
+            explain::waits(b"label,wait\n", Refused::WaitsOutOfOrder(4)),
+            "line 4: the labels of the wait file do not rise (refusal 17)",
+        ),
     ]
 }
 
@@ -223,6 +271,7 @@ fn all() -> Vec<(Explained, &'static str)> {
     let most = "there are more than 65,536 bytes, the most that a show file has (refusal 1)";
     let mut all: Vec<(Explained, &str)> = files.chain(all_desk()).collect();
     all.extend(questions());
+    all.extend(WAITS.iter().map(|(file, said)| (explained_waits(file), *said)));
     all.extend(unexplained());
     all.extend([no_own_cue(), (unknown, most)]);
     all
