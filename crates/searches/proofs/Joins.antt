@@ -12,11 +12,13 @@ use Rattle.model.specs.Blocks.{Use, Block, blockAt, joinsOf, ownOf, blocksOf}
 use Rattle.shows.proofs.BlockAt.{joinsOf-at, ownOf-at}
 use Rattle.distances.specs.Tells.{met-by, FromPart}
 use Rattle.verdicts.specs.Index.{useAt}
-use Rattle.blocks.specs.Loaded.{columnAt, UseRow}
+use Rattle.blocks.specs.Loaded.{Loaded, IsBlock, IsRow, columnAt, UseRow}
 use Rattle.blocks.specs.Places.{blockOn, UsesTo}
 use Rattle.blocks.specs.declared.Place.{Place}
+use Rattle.blocks.proofs.Loaded.{used-block}
 use Rattle.blocks.proofs.Places.{uses-row, level-used}
-use Rattle.searches.specs.Starts.{Beginnings, Nowhere, Cell, MetAt, Started, Merged, Gathered}
+use Rattle.searches.specs.Starts.{estimatesSize, Beginnings, Nowhere, Cell, Meets, MetAt, Started, Merged, Gathered}
+use Rattle.searches.proofs.Edges.{row-meets}
 use Rattle.searches.proofs.Starts.{each-begin, each-on, started-first, started-same}
 use Rattle.searches.specs.Edges.{cueCount}
 use Rattle.searches.specs.Joins.{JoinsAt, AtJoins, passed, RowKept}
@@ -140,6 +142,18 @@ module _ {xs rows : List ℕ} (l : ℕ) (uses : UsesTo xs rows (l + 1)) (r : ℕ
   entered-on b o m d₀ v eb eo em got s j =
       let k : b ≡ blockOn xs rows (l + 1) = level-used xs rows l r b er eb in
       rw (k, er) at (entered use-row-on b o m d₀ v eb eo em got s j)
+
+-- What the use that leads to a level asks for: its row, the block that it names, the cues that it meets.
+pub use-there : {xs rows : List ℕ} (l : ℕ) {r : ℕ} → UsesTo xs rows (l + 1) → r ≡ getD rows l 0 → IsRow xs r
+use-there l {r} uses er = use-row-on l uses r er .there
+
+module _ {xs t rows : List ℕ} (l : ℕ) {r b : ℕ} (g : Loaded xs t) (uses : UsesTo xs rows (l + 1)) (er : r ≡ getD rows l 0)
+    (eb : b ≡ useAt xs (blocksOf xs) r .block) where
+  pub use-block : IsBlock xs b
+  use-block = used-block _ (use-row-on l uses r er) eb
+
+  pub use-meets : {m n : ℕ} → m ≡ joinsOf (blocksOf xs) b → n ≡ estimatesSize → Meets xs r m n
+  use-meets {m} {n} em en = row-meets g (use-row-on l uses r er) b m eb em n en
 
 -- What estimates begin with on account of the cue of a place.
 module _ (xs rows : List ℕ) (q : Place) (l : ℕ) (kept : List ℕ) {d e : List ℕ} where
