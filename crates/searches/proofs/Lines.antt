@@ -109,6 +109,9 @@ even-on false u t x a i y l s p o = record { same = λ e j h. go e j h (ℕ-disc
     go e j h (yes q) = rw q (getD-set-same a i y 0 l ∙ p (sym o ∙ e))
     go e j h (no n) = getD-set-other a i j y 0 n ∙ s .same refl j (omega arith)
 
+pub even-done : {t : Bool} {x i m : ℕ} {a : List ℕ} → Even t x a i → i ≤ m → m ≤ i → Even t x a m
+even-done {i = i} {m} s h l = let z : i ≡ m = omega arith in rw z at s
+
 -- Cues that have all the same estimate improve none.
 pub round-even : (xs work : List ℕ) (r q m x : ℕ) (d g₀ g : List ℕ) (t : Bool) → Gathered xs r d m g₀ g → Even t x g m → t ≡ false
     → Round (Mesh xs work r q m) d false d

@@ -7,7 +7,8 @@ use mathlib.Core.Logic.{_⊎_, inl, inr}
 use mathlib.Core.List.{List}
 use lib.ListN.{length, getD, set}
 use lib.Seq.{getD-set-same, getD-set-other}
-use Rattle.blocks.specs.Loaded.{columnAt}
+use Rattle.model.specs.Limits.{maxJoins}
+use Rattle.blocks.specs.Loaded.{IsRow, columnAt}
 use Rattle.searches.specs.Starts.{Beginnings, Nowhere, Cell, Either, EachOf, Meets, MetAt, Started, Merged, Gathered}
 use Rattle.searches.proofs.Lowering.{inside, set-same}
 
@@ -96,10 +97,13 @@ pub met-begin : (xs : List ℕ) (r : ℕ) (kept : List ℕ) (q : ℕ) (d : List 
 unfolding MetAt
 met-begin xs r kept q d = each-begin (λ i. Cell (columnAt xs r i) (getD kept (q + i) 0)) d
 
-pub met-on : (xs : List ℕ) (r : ℕ) (kept : List ℕ) (q i v y : ℕ) {d e f : List ℕ} → Merged (MetAt xs r kept q i) d e
-    → v ≡ columnAt xs r i → y ≡ getD kept (q + i) 0 → Merged (Cell v y) e f → Merged (MetAt xs r kept q (i + 1)) d f
+pub met-on : (xs : List ℕ) (r : ℕ) (kept : List ℕ) (q i : ℕ) {c v : ℕ} {d e f : List ℕ} → Merged (MetAt xs r kept q i) d e → c ≡ columnAt xs r i
+    → v ≡ c → Merged (Cell v (getD kept (q + i) 0)) e f → Merged (MetAt xs r kept q (i + 1)) d f
 unfolding MetAt
-met-on xs r kept q i v y s ev ey t = each-on (λ i. Cell (columnAt xs r i) (getD kept (q + i) 0)) i s (rw (ev, ey) at t)
+met-on xs r kept q i s ec ev t = each-on (λ i. Cell (columnAt xs r i) (getD kept (q + i) 0)) i s (rw (ev, ec) at t)
+
+pub met-done : (xs : List ℕ) (r : ℕ) (kept : List ℕ) (q : ℕ) {i m : ℕ} {d e : List ℕ} → Merged (MetAt xs r kept q i) d e → i ≤ m → m ≤ i → Merged (MetAt xs r kept q m) d e
+met-done xs r kept q {i} {m} s h l = let z : i ≡ m = omega arith in rw z at s
 
 module _ {inf n : ℕ} {begun : Beginnings} where
   pub started-merged : {S : Beginnings} {d e : List ℕ} → Started inf n begun d → Merged S d e → Started inf n (Either begun S) e
@@ -128,7 +132,16 @@ started-first {S = S} s m = started-same (λ a x b. to a x b) (λ a x b. inr b) 
     to a x (inl b) = absurd b
     to a x (inr b) = b
 
--- A cue that a row names, as read there.
+-- A row that names cues: it is there, and each cue, as read there, has an estimate in a list of that length.
+pub meets-row : {xs : List ℕ} {r m n : ℕ} → Meets xs r m n → IsRow xs r
+meets-row h = h .there
+
+pub meets-column : {xs : List ℕ} {r m n i : ℕ} → Meets xs r m n → i < m → i < maxJoins
+meets-column h l = omega (arith, h .few)
+
+pub meets-cue : {xs : List ℕ} {r m n k : ℕ} (i : ℕ) {c v : ℕ} → Meets xs r m n → i < m → c ≡ columnAt xs r i → v ≡ c → k ≡ n → v < k
+meets-cue i h l x y z = omega (arith, h .within i l)
+
 pub meets-within : {xs : List ℕ} {r m n : ℕ} (i c v : ℕ) → Meets xs r m n → i < m → c ≡ columnAt xs r i → v ≡ c → v < n
 meets-within i c v h l x y = omega (arith, h .within i l)
 
@@ -140,14 +153,19 @@ meets-fewer i h l e = record { there = h .there; few = omega (arith, h .few); wi
 pub gathered-begin : (xs : List ℕ) (r : ℕ) (d e : List ℕ) → Gathered xs r d 0 e e
 gathered-begin xs r d e = record { at = λ i h. absurd (omega arith); else = λ i h. refl }
 
-pub gathered-on : (xs : List ℕ) (r : ℕ) (d : List ℕ) (m : ℕ) (e₀ e : List ℕ) (c x : ℕ) → m < length e → Gathered xs r d m e₀ e
-    → c ≡ columnAt xs r m
-    → x ≡ getD d c 0 → Gathered xs r d (m + 1) e₀ (set e m x)
-gathered-on xs r d m e₀ e c x h g ec ex = record { at = λ i l. at i l (ℕ-discrete i m); else = else }
+pub gathered-on : {xs : List ℕ} {r : ℕ} {d : List ℕ} (m : ℕ) {e₀ e : List ℕ} {c v : ℕ} → Gathered xs r d m e₀ e → m < length e → c ≡ columnAt xs r m
+    → v ≡ c → Gathered xs r d (m + 1) e₀ (set e m (getD d v 0))
+gathered-on {xs} {r} {d} m {e₀} {e} {v = v} g h ec ev = record { at = λ i l. at i l (ℕ-discrete i m); else = else }
   where
+    x : ℕ
+    x = getD d v 0
+
     at : (i : ℕ) → i < m + 1 → Dec (i ≡ m) → getD (set e m x) i 0 ≡ getD d (columnAt xs r i) 0
-    at i l (yes q) = rw (q, ← ec) (getD-set-same e m x 0 h ∙ ex)
+    at i l (yes q) = rw (q, ← ec, ← ev) (getD-set-same e m x 0 h)
     at i l (no n) = getD-set-other e m i x 0 n ∙ g .at i (omega arith)
 
     else : (i : ℕ) → m + 1 ≤ i → getD (set e m x) i 0 ≡ getD e₀ i 0
     else i l = getD-set-other e m i x 0 (λ q. omega arith) ∙ g .else i (omega arith)
+
+pub gathered-done : {xs d e₀ e : List ℕ} {r i m : ℕ} → Gathered xs r d i e₀ e → i ≤ m → m ≤ i → Gathered xs r d m e₀ e
+gathered-done {i = i} {m} g h l = let z : i ≡ m = omega arith in rw z at g

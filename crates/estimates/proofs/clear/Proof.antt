@@ -15,18 +15,9 @@ Inv-loop d₀ n c₀ d c = (c ≤ n + 1) × (length d ≡ length d₀) × ((a : 
 abbrev μ-loop : tie.MeasureT-loop
 μ-loop d₀ n c₀ d c = n + 1 - c
 
-loop-holds : tie.Need-loop-holds Inv-loop μ-loop
-loop-holds c = (search needs, search needs, λ a h. absurd (omega arith))
-
-loop-again : tie.Need-loop-again Inv-loop μ-loop
-loop-again c =
-    (search needs, search needs, agree-on (λ a. noChain) (c .before .loop .d) (c .before .loop .c) (omega arith) (c .before .loop .inv .2))
-
-returns : tie.Need-returns Inv-loop μ-loop
-returns c = started-blank _ _ _ _ (omega arith) (c .before .loop .inv .2)
-
 pub clear-spec : {M : Type 1} → statement M
 clear-spec =
     tie.close
-    (tie.spec Inv-loop μ-loop loop-holds (λ c. search needs) (λ c. search needs) (λ c. search needs) (λ c. search needs) loop-again
-    (λ c. search needs) returns)
+    (tie.spec Inv-loop μ-loop (λ c. (search needs, search needs, λ a h. absurd (omega arith))) (λ c. search needs) (λ c. search needs) (λ c. search needs)
+    (λ c. search needs) (λ c. (search needs, search needs, agree-on (λ a. noChain) (c .before .loop .d) (c .before .loop .c) (omega arith) (c .before .loop .inv .2))) (λ c. search needs)
+    (λ c. started-blank _ _ _ _ (omega arith) (c .before .loop .inv .2)))
