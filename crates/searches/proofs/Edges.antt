@@ -36,20 +36,24 @@ module _ (xs work : List ℕ) (r q : ℕ) where
           let e : i ≡ j = omega arith in
           let s : u ≡ v = eu ∙ ap (λ (k : ℕ). columnAt xs r k) e ∙ sym ev in rw s (omega arith)
 
-  -- Two of its cues: the edges there and back.
-  pub between-both : (i j : ℕ) {a b p q′ x y : ℕ} {d e f : List ℕ} {s c t : Bool} → Round (One a b x) d s e → Round (One b a y) e c f → t ≡ orb s c
-      → a ≡ p → p ≡ columnAt xs r i → b ≡ q′ → q′ ≡ columnAt xs r j → x ≡ getD work (q + summaryWidth * i + j) 0
+  -- Two of its cues, as they are read: the edges there and back.
+  pub between-both : (i j : ℕ) {a b k l x y : ℕ} {d e f : List ℕ} {s c t : Bool} → Round (One a b x) d s e → Round (One b a y) e c f → t ≡ orb s c
+      → a ≡ k → k ≡ columnAt xs r i → b ≡ l → l ≡ columnAt xs r j → x ≡ getD work (q + summaryWidth * i + j) 0
       → y ≡ getD work (q + summaryWidth * j + i) 0 → Round (Between xs work r q i j) d t f
   unfolding Between
-  between-both i j {a} {b} {x = x} {y} o o′ t wa ca wb cb ex ey =
-      let ea : a ≡ columnAt xs r i = wa ∙ ca in
-      let eb : b ≡ columnAt xs r j = wb ∙ cb in
+  between-both i j {a} {b} {x = x} {y} o o′ t ak ek bl el ex ey =
       round-then lowered-wide (λ u v w (eu, ev, ew). inl (eu ∙ ea, ev ∙ eb, ew ∙ ex)) (λ u v w (eu, ev, ew). inr (eu ∙ eb, ev ∙ ea, ew ∙ ey))
       (λ u v w l. back u v w l) o o′ t
     where
+      ea : a ≡ columnAt xs r i
+      ea = ak ∙ ek
+
+      eb : b ≡ columnAt xs r j
+      eb = bl ∙ el
+
       back : (u v w : ℕ) → Between xs work r q i j u v w → One a b x u v w ⊎ One b a y u v w
-      back u v w (inl (eu, ev, ew)) = inl (eu ∙ sym (wa ∙ ca), ev ∙ sym (wb ∙ cb), ew ∙ sym ex)
-      back u v w (inr (eu, ev, ew)) = inr (eu ∙ sym (wb ∙ cb), ev ∙ sym (wa ∙ ca), ew ∙ sym ey)
+      back u v w (inl (eu, ev, ew)) = inl (eu ∙ sym ea, ev ∙ sym eb, ew ∙ sym ex)
+      back u v w (inr (eu, ev, ew)) = inr (eu ∙ sym eb, ev ∙ sym ea, ew ∙ sym ey)
 
   between-mesh : (m i j : ℕ) → i < m → j < m → (u v w : ℕ) → Between xs work r q i j u v w → Mesh xs work r q m u v w
   unfolding Between Mesh
@@ -106,21 +110,21 @@ module _ (xs work : List ℕ) (r q : ℕ) where
       back u v w (suc (suc zero)) (suc (suc (suc j))) hi hj l = absurd (omega arith)
       back u v w (suc (suc (suc i))) j hi hj l = absurd (omega arith)
 
-  -- Two cues, by the numbers as they are read.
-  pub mesh-pair : {a b p q′ x y : ℕ} {d e f : List ℕ} {s c t : Bool} → Round (One a b x) d s e → Round (One b a y) e c f → t ≡ orb s c → a ≡ p
-      → p ≡ columnAt xs r 0 → b ≡ q′ → q′ ≡ columnAt xs r 1 → x ≡ getD work (q + 1) 0 → y ≡ getD work (q + summaryWidth) 0
+  -- The same, where a use names two cues.
+  pub mesh-pair : {a b k l x y : ℕ} {d e f : List ℕ} {s c t : Bool} → Round (One a b x) d s e → Round (One b a y) e c f → t ≡ orb s c → a ≡ k
+      → k ≡ columnAt xs r 0 → b ≡ l → l ≡ columnAt xs r 1 → x ≡ getD work (q + 1) 0 → y ≡ getD work (q + summaryWidth) 0
       → Round (Mesh xs work r q 2) d t f
-  mesh-pair o o′ t wa ca wb cb ex ey =
+  mesh-pair o o′ t ak ek bl el ex ey =
       let forth : q + 1 ≡ q + summaryWidth * 0 + 1 = omega arith in
       let up : q + summaryWidth ≡ q + summaryWidth * 1 + 0 = omega arith in
       mesh-two
-      (between-both 0 1 o o′ t wa ca wb cb (ex ∙ ap (λ (k : ℕ). getD work k 0) forth) (ey ∙ ap (λ (k : ℕ). getD work k 0) up))
+      (between-both 0 1 o o′ t ak ek bl el (ex ∙ ap (λ (k : ℕ). getD work k 0) forth) (ey ∙ ap (λ (k : ℕ). getD work k 0) up))
 
-  -- By a number of cues that is known to be another.
+  -- By another name for the number of its cues.
   pub mesh-as : {m n : ℕ} {d e : List ℕ} {c : Bool} → Round (Mesh xs work r q n) d c e → m ≡ n → Round (Mesh xs work r q m) d c e
   mesh-as o e = rw e o
 
--- The columns of a row that names cues, and a cue read there, which has its place in a list.
+-- A row that names cues: their number by another name, one of its columns, and the cue read there, which has an estimate.
 module _ {xs : List ℕ} {r m n : ℕ} where
   pub meets-as : {k : ℕ} → Meets xs r m n → m ≡ k → Meets xs r k n
   meets-as h e = rw e at h
@@ -193,7 +197,7 @@ module _ {xs t : List ℕ} (g : Loaded xs t) where
               (eu ∙ sym (rw pi at (names (i - 1) li)), ev ∙ sym (rw pj at (names (j - 1) lj)), ew ∙ sym (rw (pi, pj) at (weight (i - 1) (j - 1)))),
             )
 
--- Row r of the links of block k: its ends have estimates.
+-- The ends of row r of the links of block k have estimates.
 pub link-ends : {xs t : List ℕ} {k a z r n l : ℕ} → LinkRows xs k a z → Loaded xs t → n ≡ l → l ≡ estimatesSize → IsBlock xs k → a ≤ r → r < z
     → LinkEnds xs r n
 link-ends {xs} {k = k} {r = r} rows g e f h lo hi =
@@ -204,11 +208,11 @@ link-ends {xs} {k = k} {r = r} rows g e f h lo hi =
       to = omega (arith, cue-few g k (linkAt xs r .to) (row .good .to));
     }
 
--- One link: a note, and one that is followed, whose price is one number alone.
+-- One link: a note has no edge; one with one price alone has one, of that weight.
 pub link-note : (price : Price) (l : Link) {label : ℕ} (d : List ℕ) → label ≡ l .label → maxFollowed < label
     → ((n w : ℕ) → price n w → n ≤ maxFollowed) → Round (LinkEdge price l) d false d
 unfolding LinkEdge
-link-note price l d e h least = quiet refl refl (λ u v w i. absurd (omega (arith, least (l .label) w (i .2))))
+link-note price l d e h most = quiet refl refl (λ u v w i. absurd (omega (arith, most (l .label) w (i .2))))
 
 link-taken : (price : Price) (l : Link) (x y z : ℕ) {d e : List ℕ} {c : Bool} → price (l .label) z → ((w : ℕ) → price (l .label) w → w ≡ z)
     → x ≡ l .from → y ≡ l .to → Round (One x y z) d c e → Round (LinkEdge price l) d c e
@@ -217,7 +221,7 @@ link-taken price l x y z h only ex ey o =
     round-same lowered-wide (λ u v w i. (sym ex ∙ sym (i .0), sym ey ∙ sym (i .1), rw (i .2) h))
     (λ u v w i. (sym (i .0) ∙ sym ex, sym (i .1) ∙ sym ey, only w (i .2))) o
 
--- The same by what is read of it: its ends x and y, its label n, and how long it waits.
+-- A link that is followed, by its ends and its label as they are read: it counts one, or waits as long as its label does.
 module _ (l : Link) {x y z p q label : ℕ} {d e : List ℕ} {c : Bool} (o : Round (One x y z) d c e) (ex : x ≡ p) (ep : p ≡ l .from) (ey : y ≡ q)
     (eq : q ≡ l .to) (el : label ≡ l .label) (h : label ≤ maxFollowed) where
   pub link-one : z ≡ 1 → Round (LinkEdge each-one l) d c e
@@ -228,6 +232,7 @@ module _ (l : Link) {x y z p q label : ℕ} {d e : List ℕ} {c : Bool} (o : Rou
       let ew : z ≡ getD waits (l .label) 0 = ez ∙ ap (λ (k : ℕ). getD waits k 0) (en ∙ el) in
       link-taken (priced waits) l x y z (omega arith, ew) (λ w i. i .1 ∙ sym ew) (ex ∙ ep) (ey ∙ eq) o
 
+-- A label that is followed has a wait.
 pub label-waits : {waits : List ℕ} {n label : ℕ} → AreWaits waits → n ≡ label → label ≤ maxFollowed → n < length waits
 label-waits w e h = omega (arith, w .size)
 
@@ -292,8 +297,7 @@ module _ {xs work : List ℕ} where
       back u v w (x, m, i) =
           let (r, h, l, e) = mem-usesFrom xs (blocksOf xs) a (z - a) x m in (r, h, omega (arith, rows .order), (rw e at i))
 
--- At row r of the uses of block k, which names block b and m cues: what is asked for there, and the round over one use more, behind those so
--- far or before them.
+-- At row r of the uses of block k, which names block b and m cues: what is asked for there, and the round over one use more.
 module _ {xs t work d₀ : List ℕ} {k a z : ℕ} (b r : ℕ) (eb : b ≡ useAt xs (blocksOf xs) r .block) (may : MaySettle xs t k work d₀)
     (rows : UseRows xs t k a z) (lo : a ≤ r) (hi : r < z) where
   row : UseRow xs k r
@@ -317,7 +321,7 @@ module _ {xs t work d₀ : List ℕ} {k a z : ℕ} (b r : ℕ) (eb : b ≡ useAt
       uses-on so eo =
           record { round = span-on lowered-wide (λ i. UseEdge (blocksOf xs) work (useAt xs (blocksOf xs) i)) a r lo (so .round) use-round eo }
 
--- The row before row p, where p is behind one of the rows from a on.
+-- From the last use to the first: the row before row p is one of those from a on and before z, and the round over one use more.
 pub low-before : {a : ℕ} (p : ℕ) → a < p → a ≤ p - 1
 low-before p h = omega arith
 

@@ -119,15 +119,15 @@ even-on false u t x a i y l s p o = record { same = λ e j h. go e j h (ℕ-disc
     go e j h (no n) = getD-set-other a i j y 0 n ∙ s .same refl j (omega arith)
 
 -- Cues that have all the same estimate improve none.
-pub round-even : {xs : List ℕ} (work : List ℕ) {r : ℕ} (q : ℕ) {m x : ℕ} {d g₀ g : List ℕ} {t : Bool} → Gathered xs r d m g₀ g → Even t x g m → t ≡ false
-    → Round (Mesh xs work r q m) d false d
+pub round-even : {xs : List ℕ} (work : List ℕ) {r : ℕ} (q : ℕ) {m x : ℕ} {d g₀ g : List ℕ} {t : Bool} → Gathered xs r d m g₀ g → Even t x g m
+    → t ≡ false → Round (Mesh xs work r q m) d false d
 unfolding Mesh
 round-even work q got level e =
     quiet refl refl
     (λ u v w (i, j, hi, hj, (eu, ev, ew)). rw (eu, ev)
     (omega (arith, got .at i hi, got .at j hj, level .same e i hi, level .same e j hj)))
 
--- The cues of a use: estimates d, those of its cues g, and those h that the lines make of them.
+-- The cues of a use, no more than a line has: estimates d, those of its cues g, and those h that the lines make of them.
 module _ {inf width : ℕ} {xs work : List ℕ} {r q m n : ℕ} {d g h : List ℕ} (lines : Lines inf width work q g g width h)
     (got : Gathered xs r d m (replicate width inf) g) (meets : Meets xs r m n) (wide : maxJoins ≤ width) where
   few : m ≤ width
