@@ -321,13 +321,7 @@ module _ {xs t work d₀ : List ℕ} {k a z : ℕ} (b r : ℕ) (eb : b ≡ useAt
       uses-on so eo =
           record { round = span-on lowered-wide (λ i. UseEdge (blocksOf xs) work (useAt xs (blocksOf xs) i)) a r lo (so .round) use-round eo }
 
--- From the last use to the first: the row before row p is one of those from a on and before z, and the round over one use more.
-pub low-before : {a : ℕ} (p : ℕ) → a < p → a ≤ p - 1
-low-before p h = omega arith
-
-pub high-before : {a z : ℕ} (p : ℕ) → p ≤ z → a < p → p - 1 < z
-high-before p l h = omega arith
-
+-- One use more from the last to the first, where those from row p on are passed.
 pub uses-back : {xs t work d₀ : List ℕ} {k a z p m : ℕ} (b r : ℕ) {d e f : List ℕ} {s c o : Bool} → UsesOver xs work p z d s e
     → Round (Mesh xs work r (summarySize * b) m) e c f → o ≡ orb s c → b ≡ useAt xs (blocksOf xs) r .block → m ≡ joinsOf (blocksOf xs) b
     → UseRows xs t k a z → MaySettle xs t k work d₀ → a < p → p ≤ z → r ≡ p - 1 → UsesOver xs work r z d o f

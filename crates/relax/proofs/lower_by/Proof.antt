@@ -9,4 +9,4 @@ pub lower-by-spec : {M : Type 1} → statement M
 lower-by-spec =
     tie.close
     (tie.spec (λ c κs. search needs) (λ c. search needs) (λ c. search needs)
-    (λ c. line-skip _ _ _ _ _ _ (c .if1 .left) (λ i. omega (arith, c .before .slice-known .given i))))
+    (λ c. line-skip _ _ _ _ _ _ (search needs) (λ i. omega (arith, c .before .slice-known .given i))))
