@@ -7,17 +7,19 @@ use mathlib.Core.Path.{_≡_, refl, sym, _∙_, ap}
 use mathlib.Core.List.{List, _++_, flatMap, append-assoc}
 use lib.ListN.{length, getD, take, drop, replicate, length-append, length-drop, length-replicate}
 use lib.Seq.{take-at, drop-at, drop-drop, getD-take, length-take-le}
-use Rattle.model.specs.Limits.{noChain, maxJoins, summarySize, workSize}
+use Rattle.model.specs.Limits.{noChain, maxBlocks, maxJoins, summarySize, workSize}
 use Rattle.model.specs.Lists.{range, overwrite}
-use Rattle.model.specs.Blocks.{Block, joinsOf}
+use Rattle.model.specs.Blocks.{Block, joinsOf, lastBlock, blocksOf}
 use Rattle.model.specs.Chains.{fewest}
 use Rattle.model.specs.Summaries.{summaryOf, summaries, workBy, workAfter}
 use Rattle.shows.specs.WellFormed.{Small}
 use Rattle.shows.proofs.AtBlock.{joins-small}
 use Rattle.distances.specs.Tells.{summaryPlace, summariesTo, summariesToBy}
 use Rattle.distances.proofs.Places.{summariesTo-next, summariesTo-length, summariesTo-at, summaries-all, summaries-length}
+use Rattle.blocks.specs.Loaded.{Loaded}
+use Rattle.blocks.proofs.Loaded.{loaded-show}
 use Rattle.searches.specs.Parts.{partOf, withPart}
-use Rattle.searches.proofs.Parts.{part-length, part-put, with-before, part-with, with-with}
+use Rattle.searches.proofs.Parts.{block-count, part-length, part-put, with-before, part-with, with-with}
 use Rattle.distance.specs.Summaries.{RowsFilled, PartFilled, Below}
 use Rattle.distance.proofs.Summaries.{filled-begin, filled-done}
 
@@ -151,6 +153,29 @@ module _ (bs : List Block) (w₀ : List ℕ) where
         l,
         append-assoc,
       ))
+
+-- The same as the code has it, of a loaded show.
+module _ {xs t : List ℕ} (g : Loaded xs t) where
+  abbrev bs : List Block
+  bs = blocksOf xs
+
+  pub blocks-few : length bs ≤ maxBlocks
+  blocks-few = loaded-show g .blocks .1
+
+  pub last-count : {n : ℕ} → n ≡ lastBlock bs → n + 1 ≡ length bs
+  last-count {n} e = block-count n g e .0
+
+  pub area-lower : (w₀ : List ℕ) {w : List ℕ} (k : ℕ) → w ≡ area bs w₀ k → Below bs k w
+  area-lower w₀ {w} k e = area-below bs w₀ k w (loaded-show g .small) e
+
+  pub area-all : (n : ℕ) (w₀ w z : List ℕ) → n ≡ lastBlock bs → w ≡ area bs w₀ (n + 1)
+      → z ≡ replicate (length (take (workSize - summarySize * (n + 1)) (drop (summarySize * (n + 1)) w))) 0 → workSize ≤ length w₀
+      → take (summarySize * (n + 1)) w ++ (z ++ drop (workSize - summarySize * (n + 1)) (drop (summarySize * (n + 1)) w)) ≡ workAfter bs w₀
+  area-all n w₀ w z en ew ez long =
+      area-done bs w₀ w _ z (n + 1) (last-count en) (omega (arith, block-count n g en)) long ew ez refl
+
+pub area-last : (bs : List Block) (w₀ : List ℕ) {w : List ℕ} (k b : ℕ) → w ≡ area bs w₀ k → k ≤ b → b ≤ k → w ≡ area bs w₀ b
+area-last bs w₀ k b e h l = let z : k ≡ b = omega arith in rw z at e
 
 -- What the fewest question asks of the work area: it begins with the summaries.
 pub area-summaries : (bs : List Block) (w : List ℕ) → take (summarySize * length bs) (workAfter bs w) ≡ summaries bs
