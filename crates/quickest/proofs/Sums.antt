@@ -8,7 +8,7 @@ use mathlib.Core.Logic.{inl}
 use mathlib.Core.List.{List, _++_}
 use lib.ListN.{length, getD, take, drop, replicate, length-replicate}
 use lib.Seq.{length-take-le}
-use Rattle.model.specs.Limits.{maxWait, maxBlocks, maxJoins, summarySize, summaryWidth, workSize}
+use Rattle.model.specs.Limits.{maxWait, maxJoins, summarySize, summaryWidth, workSize}
 use Rattle.model.specs.Lists.{overwrite}
 use Rattle.model.specs.Blocks.{Block, blockAt, joinsOf, ownOf, total, lastBlock, count, blocksOf}
 use Rattle.model.specs.Unfolding.{showLinks}
@@ -149,9 +149,6 @@ joins-eight {k = k} m = joins-small k (loaded-show (m .loaded) .small)
 
 pub sum-settles : {xs t waits : List ℕ} {k : ℕ} {d work : List ℕ} → MaySum xs t waits k d work → MaySettle xs t k work d
 sum-settles m = record { loaded = m .loaded; block = m .block; room = omega (arith, part-fits m); size = m .size }
-
-pub blocks-few : {xs t : List ℕ} → Loaded xs t → length (blocksOf xs) ≤ maxBlocks
-blocks-few g = loaded-show g .blocks .1
 
 -- One row more of a block's part of the work area, as the code puts it in.
 pub sums-next : {xs t waits : List ℕ} {k i : ℕ} {d₀ before : List ℕ} {w o m : ℕ} {d v : List ℕ} → MaySum xs t waits k d₀ before

@@ -3,7 +3,7 @@ use Prim.Native.Nat.{ℕ, suc, _+_, _*_, _-_, _≤_, _<_}
 use native.Mathlib.Omega.{arith}
 use native.Mathlib.Decide.{ℕ-discrete}
 use mathlib.Core.Path.{_≡_, refl, sym, _∙_, ap}
-use mathlib.Core.Logic.{_⊎_, inl, inr}
+use mathlib.Core.Logic.{_⊎_, inl, inr, _≢_}
 use mathlib.Core.List.{List}
 use lib.ListN.{length, getD, set, replicate, length-replicate, getD-replicate}
 use lib.Seq.{getD-set-same, getD-set-other, ext-getD}
@@ -19,16 +19,25 @@ use Rattle.blocks.proofs.Loaded.{used-block}
 use Rattle.blocks.proofs.Places.{uses-row, level-used}
 use Rattle.searches.specs.Starts.{estimatesSize, Beginnings, Nowhere, Cell, Meets, MetAt, Started, Merged, Gathered}
 use Rattle.searches.proofs.Edges.{row-meets}
-use Rattle.searches.proofs.Starts.{each-begin, each-on, started-first, started-same}
+use Rattle.searches.proofs.Starts.{agree-on, each-begin, each-on, started-first, started-same}
 use Rattle.searches.specs.Edges.{cueCount}
 use Rattle.searches.specs.Joins.{JoinsAt, AtJoins, passed, RowKept, JoinsKept}
-use Rattle.searches.specs.Copies.{keptAt, Source, inner, here, FromKept, FromAbove}
+use Rattle.searches.specs.Copies.{keptAt, Source, inner, here, FromKept, FromAbove, Common}
 
--- All numbers of a list are x.
-pub agree-same : (d : List ℕ) (n m x : ℕ) → length d ≡ m → m ≤ n → ((a : ℕ) → a < n → getD d a 0 ≡ x) → d ≡ replicate m x
-agree-same d n m x e h below =
-    ext-getD 0 d (replicate m x) (e ∙ sym (length-replicate m x))
-    (λ a k. below a (omega arith) ∙ sym (getD-replicate m a x 0 (omega arith)))
+-- The first i numbers of a list are x; all of them.
+pub record Filled (x i : ℕ) (d : List ℕ) : Type 0 where
+  pub at : (a : ℕ) → a < i → getD d a 0 ≡ x
+
+pub fill-begin : (x : ℕ) (d : List ℕ) → Filled x 0 d
+fill-begin x d = record { at = λ a h. absurd (omega arith) }
+
+pub fill-on : {x i : ℕ} {d : List ℕ} → Filled x i d → i < length d → Filled x (i + 1) (set d i x)
+fill-on {x} {i} {d} f h = record { at = agree-on (λ a. x) d i h (f .at) }
+
+pub fill-done : {x i n : ℕ} {d : List ℕ} → Filled x i d → length d ≤ i → length d ≡ n → d ≡ replicate n x
+fill-done {x} {i} {n} {d} f h e =
+    ext-getD 0 d (replicate n x) (e ∙ sym (length-replicate n x))
+    (λ a k. f .at a (omega arith) ∙ sym (getD-replicate n a x 0 (omega arith)))
 
 pub joins-begin : (p : ℕ) (e d : List ℕ) → Merged (JoinsAt p e 0) d d
 unfolding JoinsAt
@@ -185,11 +194,27 @@ module _ (xs rows : List ℕ) (q : Place) (l : ℕ) (kept : List ℕ) {d e : Lis
       back a x (inner k i) = absurd (omega arith)
       back a x (here k i) = i
 
--- Rows in common.
-pub common-on : (a b : List ℕ) (i x y : ℕ) → ((j : ℕ) → j < i → getD a j 0 ≡ getD b j 0) → x ≡ getD a i 0 → y ≡ getD b i 0 → x ≡ y
-    → (j : ℕ) → j < i + 1 → getD a j 0 ≡ getD b j 0
-common-on a b i x y same ex ey e j h = go (ℕ-discrete j i)
+-- Rows in common: the first i of two lists are the same.
+pub record Alike (a b : List ℕ) (i : ℕ) : Type 0 where
+  pub at : (j : ℕ) → j < i → getD a j 0 ≡ getD b j 0
+
+pub alike-begin : (a b : List ℕ) → Alike a b 0
+alike-begin a b = record { at = λ j h. absurd (omega arith) }
+
+pub alike-on : {a b : List ℕ} {i : ℕ} → Alike a b i → getD a i 0 ≡ getD b i 0 → Alike a b (i + 1)
+alike-on {a} {b} {i} s e = record { at = λ j h. go j h (ℕ-discrete j i) }
   where
-    go : Dec (j ≡ i) → getD a j 0 ≡ getD b j 0
-    go (yes p) = rw p (sym ex ∙ e ∙ ey)
-    go (no n) = same j (omega arith)
+    go : (j : ℕ) → j < i + 1 → Dec (j ≡ i) → getD a j 0 ≡ getD b j 0
+    go j h (yes p) = rw p e
+    go j h (no n) = s .at j (omega arith)
+
+-- No more of them are.
+module _ {a b : List ℕ} {n m i : ℕ} (s : Alike a b i) (h : i ≤ n) (k : i ≤ m) where
+  pub common-all : n ≤ i → Common a n b m i
+  common-all l = record { first = h; second = k; same = s .at; differ = λ x y. absurd (omega arith) }
+
+  pub common-short : i ≡ m → Common a n b m i
+  common-short e = record { first = h; second = k; same = s .at; differ = λ x y. absurd (omega arith) }
+
+  pub common-differ : getD a i 0 ≢ getD b i 0 → Common a n b m i
+  common-differ d = record { first = h; second = k; same = s .at; differ = λ x y. d }

@@ -1,7 +1,8 @@
 -- `distance::summarise` meets its contract.
 use borrow.Author.Needs.{needs}
 use native.Mathlib.Omega.{arith}
-use Rattle.distance.proofs.Area.{blocks-few, last-count, area-all}
+use Rattle.searches.proofs.Parts.{blocks-few}
+use Rattle.distance.proofs.Area.{last-count, area-all}
 use Rattle.distance.proofs.summarise.Statement.{statement}
 use Rattle.distance.proofs.summarise.Tie as tie
 

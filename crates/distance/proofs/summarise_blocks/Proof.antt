@@ -7,7 +7,8 @@ use mathlib.Core.Path.{_≡_}
 use lib.ListN.{length}
 use Rattle.model.specs.Blocks.{blocksOf}
 use Rattle.searches.specs.Starts.{estimatesSize}
-use Rattle.distance.proofs.Area.{area, area-begin, area-on, area-last, area-lower, blocks-few}
+use Rattle.searches.proofs.Parts.{blocks-few}
+use Rattle.distance.proofs.Area.{area, area-begin, area-on, area-last, area-lower}
 use Rattle.distance.proofs.summarise_blocks.Statement.{statement}
 use Rattle.distance.proofs.summarise_blocks.Tie as tie
 

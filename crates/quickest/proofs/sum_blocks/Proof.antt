@@ -7,8 +7,9 @@ use mathlib.Core.Path.{_≡_}
 use lib.ListN.{length}
 use Rattle.model.specs.Limits.{workSize}
 use Rattle.searches.specs.Starts.{estimatesSize}
+use Rattle.searches.proofs.Parts.{blocks-few}
 use Rattle.quickest.specs.Sums.{SumsTo}
-use Rattle.quickest.proofs.Sums.{blocks-few, sums-begin, sums-all}
+use Rattle.quickest.proofs.Sums.{sums-begin, sums-all}
 use Rattle.quickest.proofs.sum_blocks.Statement.{statement}
 use Rattle.quickest.proofs.sum_blocks.Tie as tie
 
