@@ -98,11 +98,11 @@ module _ (bs : List Block) (w₀ : List ℕ) where
   unfolding summariesToBy range flatMap
   area-begin = refl
 
-  pub area-length : (k : ℕ) → summarySize * k ≤ length w₀ → length (area k) ≡ length w₀
+  area-length : (k : ℕ) → summarySize * k ≤ length w₀ → length (area k) ≡ length w₀
   area-length k h =
       omega (arith, length-append (summariesTo bs k) (drop (summarySize * k) w₀), length-drop (summarySize * k) w₀, summariesTo-length fewest bs k)
 
-  pub area-below : (k : ℕ) (w : List ℕ) → Small bs → w ≡ area k → Below bs k w
+  area-below : (k : ℕ) (w : List ℕ) → Small bs → w ≡ area k → Below bs k w
   area-below k w small e m i j h x y =
       rw e
       (summariesTo-at fewest bs k (drop (summarySize * k) w₀) m i j h (x .0) (omega (arith, joins-small m small)) (y .0) (omega (arith, joins-small m small)))
@@ -129,7 +129,7 @@ module _ (bs : List Block) (w₀ : List ℕ) where
       ))
 
   -- Zeros behind the last block's numbers, up to the area's end.
-  pub area-done : (w u z : List ℕ) (b : ℕ) → b ≡ length bs → summarySize * b ≤ workSize → workSize ≤ length w₀ → w ≡ area b
+  area-done : (w u z : List ℕ) (b : ℕ) → b ≡ length bs → summarySize * b ≤ workSize → workSize ≤ length w₀ → w ≡ area b
       → z ≡ replicate (length (take (workSize - summarySize * b) (drop (summarySize * b) w))) 0
       → u ≡ take (summarySize * b) w ++ (z ++ drop (workSize - summarySize * b) (drop (summarySize * b) w)) → u ≡ workAfter bs w₀
   unfolding workBy overwrite

@@ -26,7 +26,8 @@ loop-again : tie.Need-loop-again Inv-loop μ-loop
 loop-again c =
     let at-rise-one = c .before .before .before .before in
     let at-loop = at-rise-one .before .before .before .before in
-    (search needs, search needs, search needs, rising-on (at-loop .loop .inv .3) (omega arith) (at-rise-one .rise-one .ensures .0) (at-rise-one .rise-one .ensures .1))
+    let rise = at-rise-one .rise-one .ensures in
+    (search needs, search needs, search needs, rising-on (at-loop .loop .inv .3) (omega arith) (rise .0) (rise .1))
 
 returns : tie.Need-returns Inv-loop μ-loop
 returns c =
@@ -43,5 +44,5 @@ climb-spec =
     (tie.spec Inv-loop μ-loop (λ c κs. search needs) (λ c κs. (search (may-settle, place-block, needs), search (own-within, needs)))
     (λ c κs. (search needs, search (place-block, needs), search needs, search needs, search needs))
     (λ c. (search needs, search needs, search needs, search (rising-begin, summaries-known, needs))) (λ c. search needs)
-    (λ c κs. (search needs, rising-uses (c .before .before .before .loop .inv .3) (omega arith), search needs, search needs, search needs)) (λ c. search needs)
-    loop-again (λ c. search needs) (λ c. search needs) returns)
+    (λ c κs. (search needs, rising-uses (c .before .before .before .loop .inv .3) (omega arith), search needs, search needs, search needs))
+    (λ c. search needs) loop-again (λ c. search needs) (λ c. search needs) returns)

@@ -1,7 +1,6 @@
 -- `distance::common` meets its contract. The invariant: the rows passed are the same.
 use Prim.Native.Nat.{_-_, _≤_}
 use borrow.Author.Needs.{needs}
-use native.Mathlib.Omega.{arith}
 use Rattle.searches.proofs.Joins.{Alike, alike-begin, alike-on, common-all, common-short, common-differ}
 use Rattle.distance.proofs.common.Statement.{statement}
 use Rattle.distance.proofs.common.Tie as tie

@@ -1,6 +1,5 @@
 -- `distance::fewest` meets its contract.
 use borrow.Author.Needs.{needs}
-use native.Mathlib.Omega.{arith}
 use mathlib.Core.Path.{refl}
 use Rattle.searches.proofs.Ways.{own-room}
 use Rattle.searches.proofs.Answering.{answered}
@@ -28,5 +27,6 @@ returns c =
 pub fewest-spec : {M : Type 1} → statement M
 fewest-spec =
     tie.close
-    (tie.spec (λ c. search needs) (λ c. search needs) (λ c κs. (search (may-search, needs), search needs)) (λ c κs. search needs) (λ c. search needs) (λ c. search needs)
-    (λ c κs. (search (may-search, needs), search needs, search needs, search needs)) (λ c. search needs) sink-alone-requires (λ c κs. search needs) (λ c. search needs) (λ c. search (own-room, needs)) returns)
+    (tie.spec (λ c. search needs) (λ c. search needs) (λ c κs. (search (may-search, needs), search needs)) (λ c κs. search needs)
+    (λ c. search needs) (λ c. search needs) (λ c κs. (search (may-search, needs), search needs, search needs, search needs)) (λ c. search needs)
+    sink-alone-requires (λ c κs. search needs) (λ c. search needs) (λ c. search (own-room, needs)) returns)

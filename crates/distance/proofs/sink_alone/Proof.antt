@@ -20,12 +20,16 @@ loop-again : tie.Need-loop-again Inv-loop μ-loop
 loop-again c =
     let at-block-on = c .before .before .before .before in
     let at-enter = at-block-on .before .before .before in
-    let at-loop = at-enter .before .before .before .before in
-    (search needs, sinking-on (at-loop .loop .inv .1) (omega arith) (at-enter .enter .ensures) (at-block-on .block-on .ensures .0) (c .before .before .settle .ensures))
+    let at-loop = at-enter .before .before .before .before in (
+      search needs,
+      sinking-on (at-loop .loop .inv .1) (omega arith) (at-enter .enter .ensures) (at-block-on .block-on .ensures .0)
+          (c .before .before .settle .ensures),
+    )
 
 pub sink-alone-spec : {M : Type 1} → statement M
 sink-alone-spec =
     tie.close
-    (tie.spec Inv-loop μ-loop (λ c. (search needs, search (sinking-begin, summaries-known, needs))) (λ c κs. (search needs, search (sinking-uses, needs), search needs))
-    (λ c. search needs) (λ c κs. (search needs, sinking-uses (c .before .before .before .before .before .before .loop .inv .1) (omega arith))) (λ c κs. search needs) (λ c. search needs)
-    loop-again (λ c. search needs) (λ c. search (sinking-done, needs)))
+    (tie.spec Inv-loop μ-loop (λ c. (search needs, search (sinking-begin, summaries-known, needs)))
+    (λ c κs. (search needs, search (sinking-uses, needs), search needs)) (λ c. search needs)
+    (λ c κs. (search needs, sinking-uses (c .before .before .before .before .before .before .loop .inv .1) (omega arith))) (λ c κs. search needs)
+    (λ c. search needs) loop-again (λ c. search needs) (λ c. search (sinking-done, needs)))

@@ -7,5 +7,6 @@ use Rattle.quickest.proofs.rise_one.Tie as tie
 pub rise-one-spec : {M : Type 1} → statement M
 rise-one-spec =
     tie.close
-    (tie.spec (λ c κs. (search needs, search (uses-before, needs))) (λ c κs. search needs) (λ c κs. search needs) (λ c κs. (search needs, search needs))
-    (λ c κs. search needs) (λ c. search needs) (λ c. search needs) (λ c. (search (spread-on, needs), search (joins-as, needs))))
+    (tie.spec (λ c κs. (search needs, search (uses-before, needs))) (λ c κs. search needs) (λ c κs. search needs)
+    (λ c κs. (search needs, search needs)) (λ c κs. search needs) (λ c. search needs) (λ c. search needs)
+    (λ c. (search (spread-on, needs), search (joins-as, needs))))

@@ -24,11 +24,13 @@ loop-again c =
     let at-enter = at-put-source .before .before .before .before in (
       search needs,
       sharing-on (at-enter .before .before .before .loop .inv .1) (omega arith) (at-enter .enter .ensures) (at-put-source .put-source .ensures)
-      (at-block-on .block-on .ensures .0) (c .before .before .settle .ensures))
+          (at-block-on .block-on .ensures .0) (c .before .before .settle .ensures),
+    )
 
 pub sink-shared-spec : {M : Type 1} → statement M
 sink-shared-spec =
     tie.close
-    (tie.spec Inv-loop μ-loop (λ c. (search needs, search (sharing-begin, sums-known, needs))) (λ c κs. (search needs, search (sharing-uses, needs), search needs))
-    (λ c. search needs) (λ c κs. search needs) (λ c κs. (search needs, sharing-uses (c .before .before .before .before .before .before .before .before .before .loop .inv .1) (omega arith))) (λ c κs. (search needs, search needs)) (λ c. search needs)
-    loop-again (λ c. search needs) (λ c. search (sharing-done, needs)))
+    (tie.spec Inv-loop μ-loop (λ c. (search needs, search (sharing-begin, sums-known, needs)))
+    (λ c κs. (search needs, search (sharing-uses, needs), search needs)) (λ c. search needs) (λ c κs. search needs)
+    (λ c κs. (search needs, sharing-uses (c .before .before .before .before .before .before .before .before .before .loop .inv .1) (omega arith)))
+    (λ c κs. (search needs, search needs)) (λ c. search needs) loop-again (λ c. search needs) (λ c. search (sharing-done, needs)))
