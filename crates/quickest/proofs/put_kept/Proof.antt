@@ -1,6 +1,5 @@
 -- `quickest::put_kept` meets its contract.
 use borrow.Author.Needs.{needs}
-use native.Mathlib.Omega.{arith}
 use Rattle.searches.proofs.Joins.{use-there, use-block, use-meets, put-kept}
 use Rattle.quickest.proofs.put_kept.Statement.{statement}
 use Rattle.quickest.proofs.put_kept.Tie as tie
