@@ -1,4 +1,4 @@
--- Laws of what estimates begin with at joins and at the cues of a use, and of rows of kept numbers.
+-- Laws of what estimates begin with at joins and at the cues of a use, of rows of kept numbers, and of loops over one list or two.
 use Prim.Native.Nat.{ℕ, suc, _+_, _*_, _-_, _≤_, _<_}
 use native.Mathlib.Omega.{arith}
 use native.Mathlib.Decide.{ℕ-discrete}
@@ -80,7 +80,7 @@ pub joins-kept : (bs : List Block) (k : ℕ) {w o m : ℕ} {v : List ℕ} {l : �
 joins-kept bs k r eo ew em = rw (eo ∙ ew, em) at r
 
 -- What amounts to the same is put in.
-pub merged-same : {S T : Beginnings} {d e : List ℕ} → ((a x : ℕ) → S a x → T a x) → ((a x : ℕ) → T a x → S a x) → Merged S d e
+merged-same : {S T : Beginnings} {d e : List ℕ} → ((a x : ℕ) → S a x → T a x) → ((a x : ℕ) → T a x → S a x) → Merged S d e
     → Merged T d e
 merged-same {S} {T} {d} {e} f g m =
     record { fallen = λ a x b. m .fallen a x (g a x b); lower = m .lower; from = λ a. from a (m .from a) }
@@ -101,7 +101,7 @@ module _ {xs : List ℕ} {k r : ℕ} (row : UseRow xs k r) where
   names i h = let s : suc i - 1 ≡ i = omega arith in rw s (sym (row .columns i h))
 
   -- What was kept for a level, put in at the use that leads there.
-  pub put-part : (kept : List ℕ) (l b m : ℕ) {d e : List ℕ} → b ≡ u .block → m ≡ joinsOf bs b
+  put-part : (kept : List ℕ) (l b m : ℕ) {d e : List ℕ} → b ≡ u .block → m ≡ joinsOf bs b
       → Merged (MetAt xs r kept (summaryWidth * l) m) d e
       → Merged (FromPart bs u (keptAt kept l)) d e
   unfolding MetAt
@@ -121,7 +121,7 @@ module _ {xs : List ℕ} {k r : ℕ} (row : UseRow xs k r) where
           (i - 1, omega (arith, count), (sym ea ∙ sym (rw s at (names (i - 1) (omega arith))), ex))
 
   -- What the block that a use names begins with at its joins.
-  pub entered : {inf : ℕ} (b o m : ℕ) (d₀ v : List ℕ) {z f e : List ℕ} → b ≡ u .block → o ≡ ownOf bs b → m ≡ joinsOf bs b → Gathered xs r d₀ m z v
+  entered : {inf : ℕ} (b o m : ℕ) (d₀ v : List ℕ) {z f e : List ℕ} → b ≡ u .block → o ≡ ownOf bs b → m ≡ joinsOf bs b → Gathered xs r d₀ m z v
       → Started inf (o + m) Nowhere f → Merged (JoinsAt (o + 1) v m) f e → Started inf (cueCount bs b) (AtJoins (blockAt bs b) (passed u d₀)) e
   unfolding JoinsAt
   entered {inf} b o m d₀ v {e = e} eb eo em got s j =
@@ -147,7 +147,7 @@ module _ {xs : List ℕ} {k r : ℕ} (row : UseRow xs k r) where
 
 -- The same by the rows that lead to a level.
 module _ {xs rows : List ℕ} (l : ℕ) (uses : UsesTo xs rows (l + 1)) (r : ℕ) (er : r ≡ getD rows l 0) where
-  pub use-row-on : UseRow xs (blockOn xs rows l) r
+  use-row-on : UseRow xs (blockOn xs rows l) r
   use-row-on = uses-row l r uses (omega arith) er
 
   pub put-kept : (kept : List ℕ) (b m : ℕ) {d e : List ℕ} → b ≡ useAt xs (blocksOf xs) r .block → m ≡ joinsOf (blocksOf xs) b
@@ -195,21 +195,21 @@ module _ (xs rows : List ℕ) (q : Place) (l : ℕ) (kept : List ℕ) {d e : Lis
       back a x (here k i) = i
 
 -- Rows in common: the first i of two lists are the same.
-pub record Alike (a b : List ℕ) (i : ℕ) : Type 0 where
+pub record SameRows (a b : List ℕ) (i : ℕ) : Type 0 where
   pub at : (j : ℕ) → j < i → getD a j 0 ≡ getD b j 0
 
-pub alike-begin : (a b : List ℕ) → Alike a b 0
-alike-begin a b = record { at = λ j h. absurd (omega arith) }
+pub same-begin : (a b : List ℕ) → SameRows a b 0
+same-begin a b = record { at = λ j h. absurd (omega arith) }
 
-pub alike-on : {a b : List ℕ} {i : ℕ} → Alike a b i → getD a i 0 ≡ getD b i 0 → Alike a b (i + 1)
-alike-on {a} {b} {i} s e = record { at = λ j h. go j h (ℕ-discrete j i) }
+pub same-on : {a b : List ℕ} {i : ℕ} → SameRows a b i → getD a i 0 ≡ getD b i 0 → SameRows a b (i + 1)
+same-on {a} {b} {i} s e = record { at = λ j h. go j h (ℕ-discrete j i) }
   where
     go : (j : ℕ) → j < i + 1 → Dec (j ≡ i) → getD a j 0 ≡ getD b j 0
     go j h (yes p) = rw p e
     go j h (no n) = s .at j (omega arith)
 
 -- No more of them are.
-module _ {a b : List ℕ} {n m i : ℕ} (s : Alike a b i) (h : i ≤ n) (k : i ≤ m) where
+module _ {a b : List ℕ} {n m i : ℕ} (s : SameRows a b i) (h : i ≤ n) (k : i ≤ m) where
   pub common-all : n ≤ i → Common a n b m i
   common-all l = record { first = h; second = k; same = s .at; differ = λ x y. absurd (omega arith) }
 
