@@ -6,7 +6,7 @@ use mathlib.Core.Bool.{Bool, false}
 use mathlib.Core.Logic.{_⊎_, inl, inr}
 use mathlib.Core.List.{List}
 use lib.ListN.{length, getD}
-use Rattle.model.specs.Limits.{summarySize, summaryWidth, maxJoins, maxFollowed}
+use Rattle.model.specs.Limits.{summarySize, summaryWidth, maxFollowed}
 use Rattle.model.specs.Blocks.{Link, Block, blockAt, joinsOf, ownOf, blocksOf}
 use Rattle.shows.specs.WellFormed.{Cue}
 use Rattle.shows.specs.Waits.{AreWaits}
@@ -123,17 +123,6 @@ module _ (xs work : List ℕ) (r q : ℕ) where
   -- By another name for the number of its cues.
   pub mesh-as : {m n : ℕ} {d e : List ℕ} {c : Bool} → Round (Mesh xs work r q n) d c e → m ≡ n → Round (Mesh xs work r q m) d c e
   mesh-as o e = rw e o
-
--- A row that names cues: their number by another name, one of its columns, and the cue read there, which has an estimate.
-module _ {xs : List ℕ} {r m n : ℕ} where
-  pub meets-as : {k : ℕ} → Meets xs r m n → m ≡ k → Meets xs r k n
-  meets-as h e = rw e at h
-
-  pub column-few : {i : ℕ} → Meets xs r m n → i < m → i < maxJoins
-  column-few h l = omega (arith, h .few)
-
-  pub column-within : (i : ℕ) {c v l : ℕ} → v ≡ c → c ≡ columnAt xs r i → Meets xs r m n → i < m → n ≤ l → v < l
-  column-within i w e h l k = omega (arith, h .within i l)
 
 module _ {xs t : List ℕ} (g : Loaded xs t) where
   abbrev bs : List Block

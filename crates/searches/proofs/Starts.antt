@@ -8,7 +8,7 @@ use mathlib.Core.List.{List}
 use lib.ListN.{length, getD, set}
 use lib.Seq.{getD-set-same, getD-set-other}
 use Rattle.model.specs.Limits.{maxJoins}
-use Rattle.blocks.specs.Loaded.{IsRow, columnAt}
+use Rattle.blocks.specs.Loaded.{columnAt}
 use Rattle.searches.specs.Starts.{Beginnings, Nowhere, Cell, Either, EachOf, Meets, MetAt, Started, Merged, Gathered}
 use Rattle.searches.proofs.Lowering.{inside, set-same}
 
@@ -132,22 +132,20 @@ started-first {S = S} s m = started-same (λ a x b. to a x b) (λ a x b. inr b) 
     to a x (inl b) = absurd b
     to a x (inr b) = b
 
--- A row that names cues: it is there, and each cue, as read there, has an estimate in a list of that length.
-pub meets-row : {xs : List ℕ} {r m n : ℕ} → Meets xs r m n → IsRow xs r
-meets-row h = h .there
+-- A row that names cues: one of its columns, and the cue read there, which has an estimate in a list of that length.
+module _ {xs : List ℕ} {r m n : ℕ} where
+  pub column-few : {i : ℕ} → Meets xs r m n → i < m → i < maxJoins
+  column-few h l = omega (arith, h .few)
 
-pub meets-column : {xs : List ℕ} {r m n i : ℕ} → Meets xs r m n → i < m → i < maxJoins
-meets-column h l = omega (arith, h .few)
+  pub column-within : (i : ℕ) {c v l : ℕ} → v ≡ c → c ≡ columnAt xs r i → Meets xs r m n → i < m → l ≡ n → v < l
+  column-within i w e h l k = omega (arith, h .within i l)
 
-pub meets-cue : {xs : List ℕ} {r m n k : ℕ} (i : ℕ) {c v : ℕ} → Meets xs r m n → i < m → c ≡ columnAt xs r i → v ≡ c → k ≡ n → v < k
-meets-cue i h l x y z = omega (arith, h .within i l)
+  -- Their number by another name, and fewer of them.
+  pub meets-as : {k : ℕ} → Meets xs r m n → m ≡ k → Meets xs r k n
+  meets-as h e = rw e at h
 
-pub meets-within : {xs : List ℕ} {r m n : ℕ} (i c v : ℕ) → Meets xs r m n → i < m → c ≡ columnAt xs r i → v ≡ c → v < n
-meets-within i c v h l x y = omega (arith, h .within i l)
-
--- Fewer of the cues that a row names, in a list of the same length.
-pub meets-fewer : {xs : List ℕ} {r m n k : ℕ} (i : ℕ) → Meets xs r m n → i ≤ m → k ≡ n → Meets xs r i k
-meets-fewer i h l e = record { there = h .there; few = omega (arith, h .few); within = λ j k. omega (arith, h .within j (omega arith)) }
+  pub meets-fewer : {k : ℕ} (i : ℕ) → Meets xs r m n → i ≤ m → k ≡ n → Meets xs r i k
+  meets-fewer i h l e = record { there = h .there; few = omega (arith, h .few); within = λ j k. omega (arith, h .within j (omega arith)) }
 
 -- The estimates of some cues, one more.
 pub gathered-begin : (xs : List ℕ) (r : ℕ) (d e : List ℕ) → Gathered xs r d 0 e e

@@ -5,7 +5,7 @@ use borrow.Author.Needs.{needs}
 use mathlib.Core.Path.{_≡_}
 use lib.ListN.{length}
 use Rattle.searches.specs.Starts.{Gathered}
-use Rattle.searches.proofs.Starts.{meets-row, meets-column, meets-cue, gathered-begin, gathered-on, gathered-done}
+use Rattle.searches.proofs.Starts.{column-few, column-within, gathered-begin, gathered-on, gathered-done}
 use Rattle.estimates.proofs.gather.Statement.{statement}
 use Rattle.estimates.proofs.gather.Tie as tie
 
@@ -19,6 +19,6 @@ pub gather-spec : {M : Type 1} → statement M
 gather-spec =
     tie.close
     (tie.spec Inv-loop μ-loop (λ c. (search needs, search needs, gathered-begin _ _ _ _))
-    (λ c κs. (search (meets-row, needs), search (meets-column, needs))) (λ c κs. search needs) (λ c. search needs) (λ c. search (meets-cue, needs))
+    (λ c κs. (search needs, search (column-few, needs))) (λ c κs. search needs) (λ c. search needs) (λ c. search (column-within, needs))
     (λ c. search needs) (λ c. search needs) (λ c. search needs) (λ c. search needs)
     (λ c. (search needs, search needs, gathered-on _ (c .before .before .before .before .loop .inv .2) (search needs) (c .before .before .column .ensures) (c .before .wide .ensures .0))) (λ c. search needs) (λ c. search (gathered-done, needs)))

@@ -6,7 +6,7 @@ use mathlib.Core.Path.{_≡_}
 use lib.ListN.{length}
 use Rattle.searches.specs.Rounds.{Fell}
 use Rattle.searches.specs.Starts.{MetAt, Merged}
-use Rattle.searches.proofs.Starts.{meets-row, meets-column, meets-cue, met-begin, met-on, met-done}
+use Rattle.searches.proofs.Starts.{column-few, column-within, met-begin, met-on, met-done}
 use Rattle.searches.proofs.Lowering.{fell-begin, fell-on}
 use Rattle.estimates.proofs.put_met.Statement.{statement}
 use Rattle.estimates.proofs.put_met.Tie as tie
@@ -21,7 +21,7 @@ pub put-met-spec : {M : Type 1} → statement M
 put-met-spec =
     tie.close
     (tie.spec Inv-loop μ-loop (λ c. (search needs, search needs, met-begin _ _ _ _ _, fell-begin _))
-    (λ c κs. (search (meets-row, needs), search (meets-column, needs))) (λ c κs. search needs) (λ c. search needs) (λ c. search needs)
-    (λ c. search needs) (λ c κs. search (meets-cue, needs)) (λ c κs. search needs) (λ c. search needs) (λ c. search needs)
+    (λ c κs. (search needs, search (column-few, needs))) (λ c κs. search needs) (λ c. search needs) (λ c. search needs)
+    (λ c. search needs) (λ c κs. search (column-within, needs)) (λ c κs. search needs) (λ c. search needs) (λ c. search needs)
     (λ c. (search needs, search needs, search (met-on, needs), search (fell-on, needs))) (λ c. search needs)
     (λ c. (search (met-done, needs), search needs)))

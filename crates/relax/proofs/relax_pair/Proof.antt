@@ -1,7 +1,8 @@
 -- `relax::relax_pair` meets its contract.
 use borrow.Author.Needs.{needs}
 use native.Mathlib.Omega.{arith}
-use Rattle.searches.proofs.Edges.{column-within, mesh-pair}
+use Rattle.searches.proofs.Starts.{column-within}
+use Rattle.searches.proofs.Edges.{mesh-pair}
 use Rattle.relax.proofs.relax_pair.Statement.{statement}
 use Rattle.relax.proofs.relax_pair.Tie as tie
 

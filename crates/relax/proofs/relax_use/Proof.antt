@@ -1,6 +1,7 @@
 -- `relax::relax_use` meets its contract.
 use borrow.Author.Needs.{needs}
-use Rattle.searches.proofs.Edges.{mesh-loop, mesh-as, meets-as}
+use Rattle.searches.proofs.Starts.{meets-as}
+use Rattle.searches.proofs.Edges.{mesh-loop, mesh-as}
 use Rattle.relax.proofs.relax_use.Statement.{statement}
 use Rattle.relax.proofs.relax_use.Tie as tie
 

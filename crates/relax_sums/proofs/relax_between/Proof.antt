@@ -1,7 +1,8 @@
 -- `relax_sums::relax_between` meets its contract.
 use borrow.Author.Needs.{needs}
 use native.Mathlib.Omega.{arith}
-use Rattle.searches.proofs.Edges.{column-few, column-within, between-both}
+use Rattle.searches.proofs.Starts.{column-few, column-within}
+use Rattle.searches.proofs.Edges.{between-both}
 use Rattle.relax_sums.proofs.relax_between.Statement.{statement}
 use Rattle.relax_sums.proofs.relax_between.Tie as tie
 

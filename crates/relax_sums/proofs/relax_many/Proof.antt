@@ -1,7 +1,7 @@
 -- `relax_sums::relax_many` meets its contract.
 use borrow.Author.Needs.{needs}
 use Rattle.searches.proofs.Lines.{round-even, round-met}
-use Rattle.searches.proofs.Edges.{column-within}
+use Rattle.searches.proofs.Starts.{column-within}
 use Rattle.relax_sums.proofs.relax_many.Statement.{statement}
 use Rattle.relax_sums.proofs.relax_many.Tie as tie
 

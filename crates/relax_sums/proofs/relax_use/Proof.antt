@@ -1,6 +1,7 @@
 -- `relax_sums::relax_use` meets its contract.
 use borrow.Author.Needs.{needs}
-use Rattle.searches.proofs.Edges.{mesh-loop, mesh-two, mesh-as, meets-as}
+use Rattle.searches.proofs.Starts.{meets-as}
+use Rattle.searches.proofs.Edges.{mesh-loop, mesh-two, mesh-as}
 use Rattle.relax_sums.proofs.relax_use.Statement.{statement}
 use Rattle.relax_sums.proofs.relax_use.Tie as tie
 

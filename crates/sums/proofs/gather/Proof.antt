@@ -6,7 +6,7 @@ use mathlib.Core.Path.{_≡_}
 use lib.ListN.{length}
 use Rattle.searches.specs.Starts.{Gathered}
 use Rattle.searches.specs.Lines.{Even}
-use Rattle.searches.proofs.Starts.{meets-row, meets-column, meets-cue, gathered-begin, gathered-on, gathered-done}
+use Rattle.searches.proofs.Starts.{column-few, column-within, gathered-begin, gathered-on, gathered-done}
 use Rattle.searches.proofs.Lines.{even-begin, even-on, even-done}
 use Rattle.sums.proofs.gather.Statement.{statement}
 use Rattle.sums.proofs.gather.Tie as tie
@@ -21,7 +21,7 @@ pub gather-spec : {M : Type 1} → statement M
 gather-spec =
     tie.close
     (tie.spec Inv-loop μ-loop (λ c. (search needs, search needs, gathered-begin _ _ _ _, even-begin _ _ _))
-    (λ c κs. (search (meets-row, needs), search (meets-column, needs))) (λ c κs. search needs) (λ c. search needs) (λ c. search (meets-cue, needs))
+    (λ c κs. (search needs, search (column-few, needs))) (λ c κs. search needs) (λ c. search needs) (λ c. search (column-within, needs))
     (λ c. search needs) (λ c. search needs) (λ c κs. search needs) (λ c κs. search needs) (λ c. search needs) (λ c. search needs)
     (λ c. let y = c .before .before .before in (
       search needs,
