@@ -1,6 +1,7 @@
 -- `distance::fill` meets its contract. The invariant: the numbers passed are x.
 use Prim.Native.Nat.{_-_, _≤_}
 use borrow.Author.Needs.{needs}
+use native.Mathlib.Omega.{arith}
 use mathlib.Core.Path.{_≡_}
 use lib.ListN.{length}
 use Rattle.searches.proofs.Joins.{Filled, fill-begin, fill-on, fill-done}
@@ -17,4 +18,4 @@ pub fill-spec : {M : Type 1} → statement M
 fill-spec =
     tie.close
     (tie.spec Inv-loop μ-loop (λ c. search (fill-begin, needs)) (λ c. search needs) (λ c. search needs) (λ c. search needs) (λ c. search needs)
-    (λ c. search (fill-on, needs)) (λ c. search needs) (λ c. search (fill-done, needs)))
+    (λ c. (search needs, search needs, fill-on (c .before .loop .inv .2) (omega arith))) (λ c. search needs) (λ c. search (fill-done, needs)))

@@ -1,6 +1,7 @@
 -- `quickest::put_zeros` meets its contract. The invariant: the numbers passed are 0.
 use Prim.Native.Nat.{_-_, _≤_}
 use borrow.Author.Needs.{needs}
+use native.Mathlib.Omega.{arith}
 use mathlib.Core.Path.{_≡_}
 use lib.ListN.{length}
 use Rattle.searches.proofs.Joins.{Filled, fill-begin, fill-on, fill-done}
@@ -17,4 +18,4 @@ pub put-zeros-spec : {M : Type 1} → statement M
 put-zeros-spec =
     tie.close
     (tie.spec Inv-loop μ-loop (λ c. search (fill-begin, needs)) (λ c. search needs) (λ c. search needs) (λ c. search needs) (λ c. search needs)
-    (λ c. search (fill-on, needs)) (λ c. search needs) (λ c. search (fill-done, needs)))
+    (λ c. (search needs, search needs, fill-on (c .before .loop .inv .2) (omega arith))) (λ c. search needs) (λ c. search (fill-done, needs)))
