@@ -70,8 +70,8 @@ module _ {bs : List Block} {k : ℕ} {w u : List ℕ} {i : ℕ} (s : PartFilled 
   pub part-rows : RowsFilled bs k i (partOf u k)
   part-rows = rw (s .is, part-with w (s .part) k long (s .filled .size)) (s .filled)
 
-  pub part-on : {x : List ℕ} → PartFilled bs k (i + 1) u x → PartFilled bs k (i + 1) w x
-  part-on {x} r =
+  pub filled-part-on : {x : List ℕ} → PartFilled bs k (i + 1) u x → PartFilled bs k (i + 1) w x
+  filled-part-on {x} r =
       record {
         part = r .part;
         is = r .is ∙ ap (λ (z : List ℕ). withPart z k (r .part)) (s .is) ∙ with-with w (s .part) k long (s .filled .size) (r .part);
@@ -161,7 +161,7 @@ module _ (bs : List Block) (w₀ : List ℕ) where
         append-assoc,
       ))
 
--- The same as the code has it, of a loaded show.
+-- Of a loaded show, as the code has it: how many blocks there are, the summaries below a block, and the whole work area.
 module _ {xs t : List ℕ} (g : Loaded xs t) where
   abbrev bs : List Block
   bs = blocksOf xs
@@ -178,6 +178,7 @@ module _ {xs t : List ℕ} (g : Loaded xs t) where
   area-all n w₀ w z en ew ez long =
       area-done bs w₀ w _ z (n + 1) (last-count en) (omega (arith, block-count n g en)) long ew ez refl
 
+-- The blocks passed are all.
 pub area-last : (bs : List Block) (w₀ : List ℕ) {w : List ℕ} (k b : ℕ) → w ≡ area bs w₀ k → k ≤ b → b ≤ k → w ≡ area bs w₀ b
 area-last bs w₀ k b e h l = let z : k ≡ b = omega arith in rw z at e
 

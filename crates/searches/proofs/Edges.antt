@@ -110,7 +110,7 @@ module _ (xs work : List ℕ) (r q : ℕ) where
       back u v w (suc (suc zero)) (suc (suc (suc j))) hi hj l = absurd (omega arith)
       back u v w (suc (suc (suc i))) j hi hj l = absurd (omega arith)
 
-  -- The same, where a use names two cues.
+  -- Two cues, by the weights as they are read.
   pub mesh-pair : {a b k l x y : ℕ} {d e f : List ℕ} {s c t : Bool} → Round (One a b x) d s e → Round (One b a y) e c f → t ≡ orb s c → a ≡ k
       → k ≡ columnAt xs r 0 → b ≡ l → l ≡ columnAt xs r 1 → x ≡ getD work (q + 1) 0 → y ≡ getD work (q + summaryWidth) 0
       → Round (Mesh xs work r q 2) d t f
@@ -322,10 +322,10 @@ uses-back {xs} {work = work} {z = z} {p} b r so x eo eb em rows may lo hi er =
 pub cue-there : {xs t work d : List ℕ} {k c n : ℕ} → MaySettle xs t k work d → c ≤ cueCount (blocksOf xs) k → n ≡ length d → c < n
 cue-there {k = k} may h e = omega (arith, may .size, own-few (may .loaded) k (may .block), joins-few (may .loaded) k (may .block))
 
--- Estimates cleared for as many cues as block k has, counted as they are read.
-pub cleared : (bs : List Block) (k : ℕ) {inf : ℕ} {S : Beginnings} {d : List ℕ} (o p j : ℕ) → Started inf (o + j) S d → o ≡ p → p ≡ ownOf bs k
+-- Estimates started-block for as many cues as block k has, counted as they are read.
+pub started-block : (bs : List Block) (k : ℕ) {inf : ℕ} {S : Beginnings} {d : List ℕ} (o p j : ℕ) → Started inf (o + j) S d → o ≡ p → p ≡ ownOf bs k
     → j ≡ joinsOf bs k → Started inf (cueCount bs k) S d
-cleared bs k o p j s e f h = rw (e ∙ f, h) at s
+started-block bs k o p j s e f h = rw (e ∙ f, h) at s
 
 -- The links and the uses of a block are all its edges.
 pub block-round : (price : Price) (bs : List Block) (work : List ℕ) (k : ℕ) {d g h : List ℕ} {s c o : Bool}

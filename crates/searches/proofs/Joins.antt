@@ -1,12 +1,12 @@
--- Laws of what estimates begin with at joins and at the cues of a use, of rows of kept numbers, and of loops over one list or two.
+-- Laws of what estimates begin with at joins and at the cues of a use, of rows of kept numbers, and of the rows that two places share.
 use Prim.Native.Nat.{ℕ, suc, _+_, _*_, _-_, _≤_, _<_}
 use native.Mathlib.Omega.{arith}
 use native.Mathlib.Decide.{ℕ-discrete}
 use mathlib.Core.Path.{_≡_, refl, sym, _∙_, ap}
 use mathlib.Core.Logic.{_⊎_, inl, inr, _≢_}
 use mathlib.Core.List.{List}
-use lib.ListN.{length, getD, set, replicate, length-replicate, getD-replicate}
-use lib.Seq.{getD-set-same, getD-set-other, ext-getD}
+use lib.ListN.{length, getD, set}
+use lib.Seq.{getD-set-same, getD-set-other}
 use Rattle.model.specs.Limits.{summaryWidth}
 use Rattle.model.specs.Blocks.{Use, Block, blockAt, joinsOf, ownOf, blocksOf}
 use Rattle.shows.proofs.BlockAt.{joinsOf-at, ownOf-at}
@@ -19,26 +19,12 @@ use Rattle.blocks.proofs.Loaded.{used-block}
 use Rattle.blocks.proofs.Places.{uses-row, level-used}
 use Rattle.searches.specs.Starts.{estimatesSize, Beginnings, Nowhere, Cell, Meets, MetAt, Started, Merged, Gathered}
 use Rattle.searches.proofs.Edges.{row-meets}
-use Rattle.searches.proofs.Starts.{agree-on, each-begin, each-on, started-first, started-same}
+use Rattle.searches.proofs.Starts.{each-begin, each-on, started-first, started-same}
 use Rattle.searches.specs.Edges.{cueCount}
 use Rattle.searches.specs.Joins.{JoinsAt, AtJoins, passed, RowKept, JoinsKept}
 use Rattle.searches.specs.Copies.{keptAt, Source, inner, here, FromKept, FromAbove, Common}
 
--- The first i numbers of a list are x; all of them.
-pub record Filled (x i : ℕ) (d : List ℕ) : Type 0 where
-  pub at : (a : ℕ) → a < i → getD d a 0 ≡ x
-
-pub fill-begin : (x : ℕ) (d : List ℕ) → Filled x 0 d
-fill-begin x d = record { at = λ a h. absurd (omega arith) }
-
-pub fill-on : {x i : ℕ} {d : List ℕ} → Filled x i d → i < length d → Filled x (i + 1) (set d i x)
-fill-on {x} {i} {d} f h = record { at = agree-on (λ a. x) d i h (f .at) }
-
-pub fill-done : {x i n : ℕ} {d : List ℕ} → Filled x i d → length d ≤ i → length d ≡ n → d ≡ replicate n x
-fill-done {x} {i} {n} {d} f h e =
-    ext-getD 0 d (replicate n x) (e ∙ sym (length-replicate n x))
-    (λ a k. f .at a (omega arith) ∙ sym (getD-replicate n a x 0 (omega arith)))
-
+-- The joins of a block.
 pub joins-begin : (p : ℕ) (e d : List ℕ) → Merged (JoinsAt p e 0) d d
 unfolding JoinsAt
 joins-begin p e d = each-begin (λ i. Cell (p + i) (getD e i 0)) d
@@ -161,11 +147,11 @@ use-there l {r} uses er = use-row-on l uses r er .there
 
 module _ {xs t rows : List ℕ} (l : ℕ) {r b : ℕ} (g : Loaded xs t) (uses : UsesTo xs rows (l + 1)) (er : r ≡ getD rows l 0)
     (eb : b ≡ useAt xs (blocksOf xs) r .block) where
-  pub use-block : IsBlock xs b
-  use-block = used-block _ (use-row-on l uses r er) eb
+  pub level-block : IsBlock xs b
+  level-block = used-block _ (use-row-on l uses r er) eb
 
-  pub use-meets : {m n : ℕ} → m ≡ joinsOf (blocksOf xs) b → n ≡ estimatesSize → Meets xs r m n
-  use-meets {m} {n} em en = row-meets g (use-row-on l uses r er) b m eb em n en
+  pub level-meets : {m n : ℕ} → m ≡ joinsOf (blocksOf xs) b → n ≡ estimatesSize → Meets xs r m n
+  level-meets {m} {n} em en = row-meets g (use-row-on l uses r er) b m eb em n en
 
 -- What the block at the next level begins with: at its joins, what the cues have that they meet.
 pub entered-on : {xs rows : List ℕ} (l : ℕ) {inf r b w o m : ℕ} {d v z f e : List ℕ} → UsesTo xs rows (l + 1) → Gathered xs r d m z v

@@ -108,14 +108,14 @@ alike-done {m = m} {n} l h g = let e : m ≡ n = omega arith in rw e at l
 pub even-begin : (t : Bool) (x : ℕ) (a : List ℕ) → Even t x a 0
 even-begin t x a = record { same = λ e j h. absurd (omega arith) }
 
-pub even-on : (s u t : Bool) (x : ℕ) (a : List ℕ) (i y : ℕ) → i < length a → Even s x a i → (u ≡ false → y ≡ x) → t ≡ orb s u
-    → Even t x (set a i y) (i + 1)
+pub even-on : (s : Bool) {u t : Bool} {x i m n y : ℕ} {a : List ℕ} → Even s x a i → (u ≡ false → y ≡ x) → t ≡ orb s u → length a ≡ n
+    → m ≤ n → i < m → Even t x (set a i y) (i + 1)
 unfolding orb
-even-on true u t x a i y l s p o = record { same = λ e j h. absurd (true-not-false o e) }
-even-on false u t x a i y l s p o = record { same = λ e j h. go e j h (ℕ-discrete j i) }
+even-on true s p o size few l = record { same = λ e j h. absurd (true-not-false o e) }
+even-on false {t = t} {x} {i} {y = y} {a = a} s p o size few l = record { same = λ e j h. go e j h (ℕ-discrete j i) }
   where
     go : t ≡ false → (j : ℕ) → j < i + 1 → Dec (j ≡ i) → getD (set a i y) j 0 ≡ x
-    go e j h (yes q) = rw q (getD-set-same a i y 0 l ∙ p (sym o ∙ e))
+    go e j h (yes q) = rw q (getD-set-same a i y 0 (omega arith) ∙ p (sym o ∙ e))
     go e j h (no n) = getD-set-other a i j y 0 n ∙ s .same refl j (omega arith)
 
 pub even-done : {t : Bool} {x i m : ℕ} {a : List ℕ} → Even t x a i → i ≤ m → m ≤ i → Even t x a m

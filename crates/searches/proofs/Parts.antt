@@ -20,6 +20,7 @@ pub block-count : {xs t : List ℕ} (n : ℕ) → Loaded xs t → n ≡ lastBloc
 unfolding lastBlock
 block-count n g e = omega (arith, loaded-show g .blocks)
 
+-- There are no more than there may be.
 pub blocks-few : {xs t : List ℕ} → Loaded xs t → length (blocksOf xs) ≤ maxBlocks
 blocks-few g = loaded-show g .blocks .1
 

@@ -168,7 +168,7 @@ module _ {inf : ℕ} {price : Price} {xs t work : List ℕ} (r : Known inf price
       let is : here g f (l + 1) k′ ≡ part-copy (here g f l k) (part-on g f l k) = sym (level (l + 1) k′ .is) ∙ next-copy l k in
       sunk-by l h k (q .cue) d e told (Source xs rows q (l + 1) kept) (rw is at (source-begins (l + 1) k′ kept keeps)) sp
 
-  -- Past a level below which no copy has the cue that the estimates are about.
+  -- One level further down from level a, below which no copy has the cue that the estimates are about.
   sunk-on : (a l : ℕ) (d₀ d c e : List ℕ) → l < q .depth → a ≤ l → Sunk inf price xs t rows a l d₀ d
       → Started inf (cueCount bs (block (l + 1))) (FromAbove xs rows l d) c
       → SettledOver (BlockEdge price bs work (block (l + 1))) c e → Sunk inf price xs t rows a (l + 1) d₀ e
@@ -179,7 +179,7 @@ module _ {inf : ℕ} {price : Price} {xs t work : List ℕ} (r : Known inf price
       up : InCopy (copy (l + 1)) s → InCopy (copy (a + 1)) s
       up n = let z : a + 1 + (l - a) ≡ l + 1 = omega arith in numbered-up g f s (l - a) (a + 1) (omega arith) (rw z n)
 
--- What the rows of a place ask for, and its cue.
+-- Rows that lead to a level lead to the one above it; those of a place lead to each of its levels, and its cue has an estimate there.
 pub uses-before : {xs rows : List ℕ} (l : ℕ) → UsesTo xs rows (l + 1) → UsesTo xs rows l
 uses-before l u = uses-fewer l u (omega arith)
 
@@ -201,8 +201,8 @@ spread-on bs work b q s m w = spread-first _ _ (rw q at s) m (rw q at w)
 pub joins-as : (bs : List Block) {k : ℕ} (b : ℕ) {v : List ℕ} {l : ℕ} {d e : List ℕ} → k ≡ b → JoinsKept bs k v l d e → JoinsKept bs b v l d e
 joins-as bs b q r = rw q at r
 
--- Up from level n to level l: estimates and what was kept on the way, of whatever place they are.
-pub record Rising (inf : ℕ) (price : Price) (xs t work rows : List ℕ) (n : ℕ) (kept₀ d₀ : List ℕ) (l : ℕ) (kept d : List ℕ) : Type 0 where
+-- Up from level n to level l: whatever place estimates and what was kept are of at level n, they are its at level l.
+pub record Climbing (inf : ℕ) (price : Price) (xs t work rows : List ℕ) (n : ℕ) (kept₀ d₀ : List ℕ) (l : ℕ) (kept d : List ℕ) : Type 0 where
   pub known : Known inf price xs t work
   pub uses : UsesTo xs rows n
   pub deep : n ≤ maxDepth
@@ -210,18 +210,18 @@ pub record Rising (inf : ℕ) (price : Price) (xs t work rows : List ℕ) (n : �
   pub on : (q : Place) → Found xs t rows q → n ≤ q .depth → Risen inf price xs t rows q n kept₀ d₀ → Risen inf price xs t rows q l kept d
 
 module _ {inf : ℕ} {price : Price} {xs t work rows : List ℕ} where
-  pub rising-begin : {q : Place} {kept d : List ℕ} → Known inf price xs t work → Found xs t rows q
-      → Rising inf price xs t work rows (q .depth) kept d (q .depth) kept d
-  rising-begin k f =
+  pub climbing-begin : {q : Place} {kept d : List ℕ} → Known inf price xs t work → Found xs t rows q
+      → Climbing inf price xs t work rows (q .depth) kept d (q .depth) kept d
+  climbing-begin k f =
       record { known = k; uses = rows-to (k .loaded) f _ (omega arith); deep = f .deep; low = omega arith; on = λ q f h r. r }
 
-  module _ {n : ℕ} {kept₀ d₀ : List ℕ} {l : ℕ} {kept d : List ℕ} (r : Rising inf price xs t work rows n kept₀ d₀ l kept d) where
-    pub rising-uses : 0 < l → UsesTo xs rows (l - 1 + 1)
-    rising-uses p = uses-fewer (l - 1 + 1) (r .uses) (omega (arith, r .low))
+  module _ {n : ℕ} {kept₀ d₀ : List ℕ} {l : ℕ} {kept d : List ℕ} (r : Climbing inf price xs t work rows n kept₀ d₀ l kept d) where
+    pub climbing-uses : 0 < l → UsesTo xs rows (l - 1 + 1)
+    climbing-uses p = uses-fewer (l - 1 + 1) (r .uses) (omega (arith, r .low))
 
-    pub rising-on : {more e : List ℕ} → 0 < l → SpreadIn inf price (blocksOf xs) work (blockOn xs rows (l - 1)) (FromKept xs rows (l - 1) kept) e
-        → JoinsKept (blocksOf xs) (blockOn xs rows (l - 1)) kept (l - 1) e more → Rising inf price xs t work rows n kept₀ d₀ (l - 1) more e
-    rising-on {more} {e} p s w =
+    pub climbing-on : {more e : List ℕ} → 0 < l → SpreadIn inf price (blocksOf xs) work (blockOn xs rows (l - 1)) (FromKept xs rows (l - 1) kept) e
+        → JoinsKept (blocksOf xs) (blockOn xs rows (l - 1)) kept (l - 1) e more → Climbing inf price xs t work rows n kept₀ d₀ (l - 1) more e
+    climbing-on {more} {e} p s w =
         let z : l - 1 + 1 ≡ l = omega arith in
         record {
           known = r .known;
@@ -231,11 +231,11 @@ module _ {inf : ℕ} {price : Price} {xs t work rows : List ℕ} where
           on = λ q f a b. risen-on (r .known) f (l - 1) kept d e more (omega (arith, r .low)) (rw z (r .on q f a b)) s w;
         }
 
-  pub rising-done : {q : Place} {kept₀ d₀ : List ℕ} {l c : ℕ} {kept d first : List ℕ}
-      → Rising inf price xs t work rows (q .depth) kept₀ d₀ l kept d → l ≤ 0 → Found xs t rows q
+  pub climbing-done : {q : Place} {kept₀ d₀ : List ℕ} {l c : ℕ} {kept d first : List ℕ}
+      → Climbing inf price xs t work rows (q .depth) kept₀ d₀ l kept d → l ≤ 0 → Found xs t rows q
       → SpreadIn inf price (blocksOf xs) work (q .block) (Only c) d₀ → c ≡ q .own
       → JoinsKept (blocksOf xs) (q .block) first (q .depth) d₀ kept₀ → Risen inf price xs t rows q 0 kept d
-  rising-done {l = l} r h f s ec w =
+  climbing-done {l = l} r h f s ec w =
       let z : l ≡ 0 = omega arith in
       rw z at (r .on _ f (omega arith) (risen-start (r .known) f _ _ _ _ (f .block) (rw ec at s) w))
 

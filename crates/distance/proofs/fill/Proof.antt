@@ -4,12 +4,12 @@ use borrow.Author.Needs.{needs}
 use native.Mathlib.Omega.{arith}
 use mathlib.Core.Path.{_≡_}
 use lib.ListN.{length}
-use Rattle.searches.proofs.Joins.{Filled, fill-begin, fill-on, fill-done}
+use Rattle.searches.proofs.Starts.{FilledTo, fill-begin, fill-on, fill-done}
 use Rattle.distance.proofs.fill.Statement.{statement}
 use Rattle.distance.proofs.fill.Tie as tie
 
 abbrev Inv-loop : tie.InvT-loop
-Inv-loop part₀ x i₀ part i = (i ≤ length part₀) × (length part ≡ length part₀) × Filled x i part
+Inv-loop part₀ x i₀ part i = (i ≤ length part₀) × (length part ≡ length part₀) × FilledTo x i part
 
 abbrev μ-loop : tie.MeasureT-loop
 μ-loop part₀ x i₀ part i = length part₀ - i

@@ -1,4 +1,5 @@
--- `distance::sink_alone` meets its contract. The invariant: the same of the level that is reached.
+-- `distance::sink_alone` meets its contract. The invariant: the estimates tell the least at level l too, whatever cue they are
+-- about that no copy below the first level has.
 use Prim.Native.Nat.{_-_}
 use borrow.Author.Needs.{needs}
 use native.Mathlib.Omega.{arith}
@@ -31,5 +32,5 @@ sink-alone-spec =
     tie.close
     (tie.spec Inv-loop μ-loop (λ c. (search needs, search (sinking-begin, summaries-known, needs)))
     (λ c κs. (search needs, search (sinking-uses, needs), search needs)) (λ c. search needs)
-    (λ c κs. (search needs, sinking-uses (c .before .before .before .before .before .before .loop .inv .1) (omega arith))) (λ c κs. search needs)
+    (λ c κs. (search needs, search (sinking-uses, needs))) (λ c κs. search needs)
     (λ c. search needs) loop-again (λ c. search needs) (λ c. search (sinking-done, needs)))

@@ -8,7 +8,7 @@ use Rattle.model.specs.Limits.{summarySize}
 use Rattle.model.specs.Blocks.{blocksOf}
 use Rattle.searches.specs.Starts.{estimatesSize}
 use Rattle.distance.specs.Summaries.{PartFilled, Below}
-use Rattle.distance.proofs.Area.{part-begin, part-rows, part-on, part-done, below-begin, below-on}
+use Rattle.distance.proofs.Area.{part-begin, part-rows, filled-part-on, part-done, below-begin, below-on}
 use Rattle.distance.proofs.summarise_block.Statement.{statement}
 use Rattle.distance.proofs.summarise_block.Tie as tie
 
@@ -28,5 +28,5 @@ summarise-block-spec =
     (λ c. (search needs, search needs, search needs, search needs, search (below-begin, needs), search (part-begin, needs)))
     (λ c κs. (search needs, search needs, search needs, search needs, search needs, search needs, search (part-rows, needs)))
     (λ c. search needs) (λ c. search needs)
-    (λ c. (search needs, search needs, search needs, search needs, search (below-on, needs), search (part-on, needs)))
+    (λ c. (search needs, search needs, search needs, search needs, search (below-on, needs), search (filled-part-on, needs)))
     (λ c. search needs) (λ c. search needs) (λ c. search (part-done, needs)))

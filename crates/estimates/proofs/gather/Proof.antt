@@ -21,4 +21,4 @@ gather-spec =
     (tie.spec Inv-loop μ-loop (λ c. (search needs, search needs, gathered-begin _ _ _ _))
     (λ c κs. (search needs, search (column-few, needs))) (λ c κs. search needs) (λ c. search needs) (λ c. search (column-within, needs))
     (λ c. search needs) (λ c. search needs) (λ c. search needs) (λ c. search needs)
-    (λ c. (search needs, search needs, gathered-on _ (c .before .before .before .before .loop .inv .2) (search needs) (c .before .before .column .ensures) (c .before .wide .ensures .0))) (λ c. search needs) (λ c. search (gathered-done, needs)))
+    (λ c. (search needs, search needs, search (gathered-on, needs))) (λ c. search needs) (λ c. search (gathered-done, needs)))

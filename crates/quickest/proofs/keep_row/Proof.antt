@@ -1,5 +1,5 @@
 -- `quickest::keep_row` meets its contract. The invariant: the numbers of the cues passed are their
--- estimates.
+-- sums.
 use Prim.Native.Nat.{_-_, _≤_}
 use borrow.Author.Needs.{needs}
 use mathlib.Core.Path.{_≡_}

@@ -1,5 +1,5 @@
--- `quickest::put_joins` meets its contract. The invariant: the estimates of the joins passed are
--- put in.
+-- `quickest::put_joins` meets its contract. The invariant: the sums of the joins passed are put
+-- in.
 use Prim.Native.Nat.{_-_, _≤_}
 use borrow.Author.Needs.{needs}
 use mathlib.Core.Path.{_≡_}

@@ -10,7 +10,9 @@ use Rattle.quickest.proofs.search.Tie as tie
 
 sink-alone-requires : tie.Need-sink-alone-requires
 sink-alone-requires c κs =
-    let start = c .before .before .before .before .before .before .before .before .before .before .before .before .before .before .before .before .before .before .before in
+    let start =
+    c .before .before .before .before .before .before .before .before .before .before .before .before .before .before .before .before .before .before
+    .before in
     (record { sums = start .pre .0; found = start .pre .2; size = search needs }, search needs)
 
 slice-read-result : tie.Need-slice-read-result

@@ -1,4 +1,5 @@
--- `quickest::sink_alone` meets its contract. The invariant: the same of the level that is reached.
+-- `quickest::sink_alone` meets its contract. The invariant: the sums tell the least at level l too, whatever cue they are
+-- about that no copy below the first level has.
 use Prim.Native.Nat.{_-_}
 use borrow.Author.Needs.{needs}
 use native.Mathlib.Omega.{arith}

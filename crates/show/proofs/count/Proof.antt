@@ -9,5 +9,7 @@ use Rattle.show.proofs.count.Tie as tie
 
 pub count-spec : {M : Type 1} → statement M
 unfolding ofCount countAsked
-count-spec = tie.close (tie.spec (λ c κs. search needs) (λ c. search needs) (λ c κs. search (loaded, needs)) (λ c. search needs) (λ c. search (count-yes, needs))
+count-spec =
+    tie.close
+    (tie.spec (λ c κs. search needs) (λ c. search needs) (λ c κs. search (loaded, needs)) (λ c. search needs) (λ c. search (count-yes, needs))
     (λ c. search (asked-no, needs)))

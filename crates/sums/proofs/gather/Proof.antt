@@ -23,10 +23,5 @@ gather-spec =
     (tie.spec Inv-loop μ-loop (λ c. (search needs, search needs, gathered-begin _ _ _ _, even-begin _ _ _))
     (λ c κs. (search needs, search (column-few, needs))) (λ c κs. search needs) (λ c. search needs) (λ c. search (column-within, needs))
     (λ c. search needs) (λ c. search needs) (λ c κs. search needs) (λ c κs. search needs) (λ c. search needs) (λ c. search needs)
-    (λ c. let y = c .before .before .before in (
-      search needs,
-      search needs,
-      gathered-on _ (y .before .before .before .loop .inv .2) (search needs) (y .before .column .ensures) (y .wide .ensures .0),
-      even-on _ _ _ _ _ _ _ (search needs) (y .before .before .before .loop .inv .3) (c .before .unlike .ensures) (c .either .ensures),
-    ))
+    (λ c. (search needs, search needs, search (gathered-on, needs), search (even-on, needs)))
     (λ c. search needs) (λ c. (search (gathered-done, needs), search (even-done, needs))))
