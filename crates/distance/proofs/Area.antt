@@ -34,6 +34,11 @@ with-below w v k long bs small below m i j h x y =
     ∙ getD-take (summarySize * k) w (summaryPlace m i j) 0 l
     ∙ below m i j h x y
 
+-- A part put in anew: what was filled there goes.
+part-again : {bs : List Block} {k i : ℕ} {w u : List ℕ} → PartFilled bs k i w u → summarySize * k + summarySize ≤ length w → (p : List ℕ)
+    → withPart u k p ≡ withPart w k p
+part-again {k = k} {w = w} s long p = ap (λ (z : List ℕ). withPart z k p) (s .is) ∙ with-with w (s .part) k long (s .filled .size) p
+
 -- A block's part at first: no chain anywhere.
 module _ (bs : List Block) (k : ℕ) (w v : List ℕ) (long : summarySize * k + summarySize ≤ length w)
     (ev : v ≡ replicate (length (take (summarySize * k + summarySize - summarySize * k) (drop (summarySize * k) w))) noChain) where
@@ -53,17 +58,14 @@ module _ (bs : List Block) (k : ℕ) (w v : List ℕ) (long : summarySize * k + 
   part-begin =
       record {
         part = first .part;
-        is = first .is
-            ∙ sym
-            (ap (λ (z : List ℕ). withPart z k (first .part)) (first .is) ∙ with-with w (first .part) k long (first .filled .size) (first .part));
+        is = first .is ∙ sym (part-again first long (first .part));
         filled = first .filled;
       }
 
   -- All rows.
   pub part-done : {x : List ℕ} {i m : ℕ} → PartFilled bs k i begun x → m ≡ joinsOf bs k → i ≤ m → m ≤ i → x ≡ withPart w k (summaryOf bs k)
   part-done r e h l =
-      r .is ∙ ap (λ (z : List ℕ). withPart z k (r .part)) (first .is) ∙ with-with w (first .part) k long (first .filled .size) (r .part)
-      ∙ ap (withPart w k) (filled-done bs k _ (r .part) (omega arith) (r .filled))
+      r .is ∙ part-again first long (r .part) ∙ ap (withPart w k) (filled-done bs k _ (r .part) (omega arith) (r .filled))
 
 -- One row more.
 module _ {bs : List Block} {k : ℕ} {w u : List ℕ} {i : ℕ} (s : PartFilled bs k i w u) (long : summarySize * k + summarySize ≤ length w) where
@@ -74,7 +76,7 @@ module _ {bs : List Block} {k : ℕ} {w u : List ℕ} {i : ℕ} (s : PartFilled 
   filled-part-on {x} r =
       record {
         part = r .part;
-        is = r .is ∙ ap (λ (z : List ℕ). withPart z k (r .part)) (s .is) ∙ with-with w (s .part) k long (s .filled .size) (r .part);
+        is = r .is ∙ part-again s long (r .part);
         filled = r .filled;
       }
 
