@@ -322,7 +322,7 @@ uses-back {xs} {work = work} {z = z} {p} b r so x eo eb em rows may lo hi er =
 pub cue-there : {xs t work d : List ℕ} {k c n : ℕ} → MaySettle xs t k work d → c ≤ cueCount (blocksOf xs) k → n ≡ length d → c < n
 cue-there {k = k} may h e = omega (arith, may .size, own-few (may .loaded) k (may .block), joins-few (may .loaded) k (may .block))
 
--- Estimates started-block for as many cues as block k has, counted as they are read.
+-- Estimates that are cleared for as many cues as block k has, counted as they are read.
 pub started-block : (bs : List Block) (k : ℕ) {inf : ℕ} {S : Beginnings} {d : List ℕ} (o p j : ℕ) → Started inf (o + j) S d → o ≡ p → p ≡ ownOf bs k
     → j ≡ joinsOf bs k → Started inf (cueCount bs k) S d
 started-block bs k o p j s e f h = rw (e ∙ f, h) at s

@@ -27,7 +27,8 @@ use Rattle.searches.specs.Edges.{BlockEdge, cueCount, SettledOver, Only,
 use Rattle.searches.specs.Joins.{RowKept, JoinsKept}
 use Rattle.copies.specs.ByRows.{copyOn}
 use Rattle.searches.specs.Copies.{TellsInside, TellsWhole, TellsJoins, KeptFrom, Risen, Source, Sunk, FromKept, FromAbove}
-use Rattle.copies.proofs.ByRows.{block-suc, top-sound, Level, levels, here, part-on, is-part, part-use-is, next-is, own-bounds, own-known, own-few, rows-to, cue-is, numbered-up, cue-numbered}
+use Rattle.copies.proofs.ByRows.{block-suc, top-sound, Level, levels, here, part-on, is-part, part-use-is, next-is, own-bounds, cue-is, numbered-up, cue-numbered}
+use Rattle.copies.proofs.ByRows.{own-known, own-few, rows-to}
 use Rattle.searches.proofs.Rounds.{spread-first}
 use Rattle.searches.proofs.Telling.{Known, start-told, rise-told, sink-told, source-own, source-part}
 
