@@ -1,11 +1,13 @@
 -- Estimates from each join of a block in turn are the block's summary, and fill its numbers row by row.
-use Prim.Native.Nat.{ℕ, suc, _+_, _*_, _/_, _%_, _≤_, _<_}
+use Prim.Native.Nat.{ℕ, suc, _+_, _*_, _/_, _%_, _-_, _≤_, _<_}
 use native.Mathlib.Omega.{arith}
 use native.Mathlib.Decide.{ℕ-discrete, decLt}
-use mathlib.Core.Path.{_≡_, sym, _∙_}
+use mathlib.Core.Path.{_≡_, refl, sym, _∙_}
 use mathlib.Core.Logic.{inl, inr}
-use mathlib.Core.List.{List}
-use lib.ListN.{length, getD, replicate, length-replicate, getD-replicate}
+use mathlib.Core.List.{List, _++_}
+use mir.Syntax.{w32}
+use mir.Val.{Fits}
+use lib.ListN.{length, getD, take, drop, replicate, length-replicate, getD-replicate}
 use lib.Seq.{ext-getD}
 use Rattle.model.specs.Limits.{noChain, maxJoins, summarySize, summaryWidth}
 use Rattle.model.specs.Blocks.{Block, blockAt, joinsOf, ownOf, blocksOf}
@@ -21,7 +23,8 @@ use Rattle.blocks.specs.Loaded.{Loaded, IsBlock}
 use Rattle.blocks.proofs.Loaded.{loaded-show, joins-few}
 use Rattle.searches.specs.Edges.{numbers, Only, SpreadIn}
 use Rattle.searches.specs.Joins.{RowKept}
-use Rattle.searches.specs.Parts.{partOf, withPart}
+use Rattle.searches.specs.Parts.{partOf}
+use Rattle.searches.proofs.Parts.{part-lent, part-put}
 use Rattle.distance.specs.Summaries.{RowsFilled, PartFilled, Below}
 use Rattle.searches.proofs.Settled.{spread-estimates}
 
@@ -89,15 +92,18 @@ module _ {xs t : List ℕ} (loaded : Loaded xs t) (k : ℕ) (h : IsBlock xs k) (
           (r .else (summaryWidth * i + j) (inr (omega arith)) ∙ f .rest i j (omega arith) (omega (arith, few)) y
           ∙ sym (summary-lacks fewest bs k (suc i) (suc j) (inr (omega arith))))
 
-  -- One more row of the block's part of the work area.
-  pub join-filled : (i o m : ℕ) (p d v u : List ℕ) → o ≡ ownOf bs k → m ≡ joinsOf bs k → i < joinsOf bs k → p ≡ partOf work k
-      → RowsFilled bs k i (partOf work k) → SpreadIn noChain each-one bs work k (Only (o + 1 + i)) d
-      → ((c : ℕ) → getD d c 0 ≤ noChain)
-      → RowKept p i d (o + 1) m v → length v ≡ length p → u ≡ withPart work k v → PartFilled bs k (i + 1) work u
-  join-filled i o m p d v u eo em l ep f s most r long eu =
-      record {
-        part =
-            v;
-        is = eu;
-        filled = row-filled i o m (partOf work k) d v eo em (omega arith) f s most (rw ep at r) (rw ep at long);
-      }
+-- One more row of the block's part of the work area, as the code puts it in.
+pub join-filled : {xs t : List ℕ} {k i : ℕ} {work : List ℕ} {w o m : ℕ} {d v : List ℕ} → Loaded xs t → IsBlock xs k
+    → RowsFilled (blocksOf xs) k i (partOf work k) → Below (blocksOf xs) k work → i < joinsOf (blocksOf xs) k → w ≡ ownOf (blocksOf xs) k → o ≡ w
+    → m ≡ joinsOf (blocksOf xs) k → SpreadIn noChain each-one (blocksOf xs) work k (Only (o + 1 + i)) d → ((c : ℕ) → Fits w32 (getD d c 0))
+    → RowKept (take (summarySize * k + summarySize - summarySize * k) (drop (summarySize * k) work)) i d (o + 1) m v
+    → length v ≡ length (take (summarySize * k + summarySize - summarySize * k) (drop (summarySize * k) work))
+    → PartFilled (blocksOf xs) k (i + 1) work
+    (take (summarySize * k) work ++ (v ++ drop (summarySize * k + summarySize - summarySize * k) (drop (summarySize * k) work)))
+join-filled {k = k} {i} {work} {m = m} {d} {v} loaded h f below l ew eo em s most r long =
+    record {
+      part = v;
+      is = part-put work v v k refl;
+      filled = row-filled loaded k h work below i _ m (partOf work k) d v (eo ∙ ew) em (omega arith) f s (λ c. omega (arith, most c))
+          (rw (part-lent work k) at r) (rw (part-lent work k) at long);
+    }

@@ -3,7 +3,7 @@
 use Prim.Native.Nat.{ℕ, _+_, _*_, _-_, _≤_, _<_}
 use native.Mathlib.Omega.{arith}
 use native.Mathlib.Decide.{ℕ-discrete}
-use mathlib.Core.Path.{_≡_, sym, _∙_, ap}
+use mathlib.Core.Path.{_≡_, refl, sym, _∙_, ap}
 use mathlib.Core.Logic.{inl}
 use mathlib.Core.List.{List, _++_}
 use lib.ListN.{length, getD, take, drop, replicate, length-replicate}
@@ -34,6 +34,7 @@ use Rattle.blocks.proofs.Loaded.{loaded-show}
 use Rattle.searches.specs.Starts.{estimatesSize}
 use Rattle.searches.specs.Edges.{numbers, Only, SpreadIn, MaySettle}
 use Rattle.searches.specs.Joins.{RowKept}
+use Rattle.searches.proofs.Parts.{block-count, part-lent, part-length, part-put, part-kept}
 use Rattle.searches.proofs.Settled.{spread-estimates}
 use Rattle.searches.proofs.Telling.{Known}
 use Rattle.searches.proofs.Answering.{cue-counted}
@@ -63,7 +64,7 @@ module _ {xs t waits : List ℕ} (g : Loaded xs t) (w : AreWaits waits) where
   sums-begin work = record { below = λ k i j h. absurd (omega arith); rows = λ a j h x y. absurd (omega arith) }
 
   -- One row more: the sums from join i + 1, by the sums of the lower blocks.
-  pub sums-on : (k i o m : ℕ) (before d work : List ℕ) → o ≡ ownOf bs k → m ≡ joinsOf bs k → i < m → SumsTo xs waits k i before
+  sums-on : (k i o m : ℕ) (before d work : List ℕ) → o ≡ ownOf bs k → m ≡ joinsOf bs k → i < m → SumsTo xs waits k i before
       → SpreadIn noSum (priced waits) bs before k (Only (o + 1 + i)) d → RowKept before (summaryWidth * k + i) d (o + 1) m work
       → SumsTo xs waits k (i + 1) work
   sums-on k i o m before d work eo em l s sp r =
@@ -97,8 +98,8 @@ module _ {xs t waits : List ℕ} (g : Loaded xs t) (w : AreWaits waits) where
           rw z (s .rows a j (omega arith) x y)
 
   -- All rows of a block.
-  pub sums-done : (k i : ℕ) (work : List ℕ) → i ≡ joinsOf bs k → SumsTo xs waits k i work → SumsTo xs waits (k + 1) 0 work
-  sums-done k i work e s = record { below = λ b a j h x y. go b a j h x y (ℕ-discrete b k); rows = λ a j h x y. absurd (omega arith) }
+  pub sums-done : (k : ℕ) {i m : ℕ} {work : List ℕ} → SumsTo xs waits k i work → m ≡ joinsOf bs k → m ≤ i → SumsTo xs waits (k + 1) 0 work
+  sums-done k {work = work} s e l = record { below = λ b a j h x y. go b a j h x y (ℕ-discrete b k); rows = λ a j h x y. absurd (omega arith) }
     where
       go : (b a j : ℕ) → b < k + 1 → Join bs b a → Join bs b j → Dec (b ≡ k)
           → Tells (priced waits) (blockLinks bs b) noSum (total bs b + a) (total bs b + j) (numbers work b a j)
@@ -106,9 +107,15 @@ module _ {xs t waits : List ℕ} (g : Loaded xs t) (w : AreWaits waits) where
       go b a j h x y (no n) = s .below b a j (omega arith) x y
 
   -- All blocks.
-  pub sums-all : (k : ℕ) (work : List ℕ) → k ≡ length bs → length work ≡ workSize → SumsTo xs waits k 0 work → HasSums xs t waits work
-  sums-all k work e size s =
-      record { loaded = g; waited = w; long = omega (arith, show .blocks); knows = rw e at (s .below) }
+  pub sums-all : {k n : ℕ} {work : List ℕ} → SumsTo xs waits k 0 work → n ≡ lastBlock bs → n + 1 ≤ k → length work ≡ workSize
+      → HasSums xs t waits work
+  sums-all {n = n} s en h size =
+      record {
+        loaded = g;
+        waited = w;
+        long = omega (arith, show .blocks);
+        knows = λ m i j l. s .below m i j (omega (arith, block-count n g en));
+      }
 
   -- What is told for a cue and that of a place.
   pub quickest-is : {b : List ℕ} {q : Place} → Found xs t b q → (s x : ℕ) → Tells (priced waits) (showLinks bs) noSum s (q .cue) x
@@ -137,11 +144,26 @@ may-settle r {k} h e = record { loaded = r .loaded; block = h; room = omega (ari
 pub part-fits : {xs t waits : List ℕ} {k : ℕ} {d work : List ℕ} → MaySum xs t waits k d work → summarySize * k + summarySize ≤ length work
 part-fits m = omega (arith, loaded-show (m .loaded) .blocks, m .block, m .area)
 
-pub joins-eight : {xs t waits : List ℕ} {k : ℕ} {d work : List ℕ} → MaySum xs t waits k d work → joinsOf (blocksOf xs) k ≤ maxJoins
+joins-eight : {xs t waits : List ℕ} {k : ℕ} {d work : List ℕ} → MaySum xs t waits k d work → joinsOf (blocksOf xs) k ≤ maxJoins
 joins-eight {k = k} m = joins-small k (loaded-show (m .loaded) .small)
 
 pub sum-settles : {xs t waits : List ℕ} {k : ℕ} {d work : List ℕ} → MaySum xs t waits k d work → MaySettle xs t k work d
 sum-settles m = record { loaded = m .loaded; block = m .block; room = omega (arith, part-fits m); size = m .size }
+
+-- One row more of a block's part of the work area, as the code puts it in.
+pub sums-next : {xs t waits : List ℕ} {k i : ℕ} {d₀ before : List ℕ} {w o m : ℕ} {d v : List ℕ} → MaySum xs t waits k d₀ before
+    → SumsTo xs waits k i before → i < joinsOf (blocksOf xs) k → w ≡ ownOf (blocksOf xs) k → o ≡ w → m ≡ joinsOf (blocksOf xs) k
+    → SpreadIn noSum (priced waits) (blocksOf xs) before k (Only (o + 1 + i)) d
+    → RowKept (take (summarySize * k + summarySize - summarySize * k) (drop (summarySize * k) before)) i d (o + 1) m v
+    → length v ≡ length (take (summarySize * k + summarySize - summarySize * k) (drop (summarySize * k) before))
+    → SumsTo xs waits k (i + 1)
+    (take (summarySize * k) before ++ (v ++ drop (summarySize * k + summarySize - summarySize * k) (drop (summarySize * k) before)))
+sums-next {k = k} {i} {before = before} {m = m} {d} {v} may s l ew eo em sp r same =
+    let fits = part-fits may in
+    rw (part-put before v v k refl)
+    (sums-on (may .loaded) (may .waited) k i _ m before d _ (eo ∙ ew) em (omega arith) s sp
+    (part-kept before v k fits (same ∙ part-length before k fits) i d _ m (omega (arith, joins-eight may)) (omega (arith, joins-eight may))
+    (rw (part-lent before k) at r)))
 
 -- The first 16,384 numbers as they are lent, and as they are left.
 pub area-lent : (work : List ℕ) → workSize ≤ length work → length (take (workSize - 0) (drop 0 work)) ≡ workSize

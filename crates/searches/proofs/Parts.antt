@@ -20,6 +20,10 @@ pub block-count : {xs t : List ℕ} (n : ℕ) → Loaded xs t → n ≡ lastBloc
 unfolding lastBlock
 block-count n g e = omega (arith, loaded-show g .blocks)
 
+-- There are no more than there may be.
+pub blocks-few : {xs t : List ℕ} → Loaded xs t → length (blocksOf xs) ≤ maxBlocks
+blocks-few g = loaded-show g .blocks .1
+
 -- Block k's part as the code lends it, and the work area with other numbers put in there.
 pub part-lent : (w : List ℕ) (k : ℕ) → take (summarySize * k + summarySize - summarySize * k) (drop (summarySize * k) w) ≡ partOf w k
 part-lent w k = let d : summarySize * k + summarySize - summarySize * k ≡ summarySize = omega arith in rw d

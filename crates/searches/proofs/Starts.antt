@@ -1,28 +1,40 @@
--- Laws of what estimates begin with, and of the estimates of some cues.
+-- Laws of what estimates begin with, and of the estimates of some cues. A loop over them has begun, goes on (`-on`), and is done, where
+-- its count has come to its end.
 use Prim.Native.Nat.{ℕ, _+_, _≤_, _<_}
 use native.Mathlib.Omega.{arith}
 use native.Mathlib.Decide.{ℕ-discrete}
-use mathlib.Core.Path.{_≡_, refl, _∙_, ap}
+use mathlib.Core.Path.{_≡_, refl, sym, _∙_, ap}
 use mathlib.Core.Logic.{_⊎_, inl, inr}
 use mathlib.Core.List.{List}
-use lib.ListN.{length, getD, set}
-use lib.Seq.{getD-set-same, getD-set-other}
+use lib.ListN.{length, getD, set, replicate, length-replicate, getD-replicate}
+use lib.Seq.{getD-set-same, getD-set-other, ext-getD}
+use Rattle.model.specs.Limits.{maxJoins}
 use Rattle.blocks.specs.Loaded.{columnAt}
 use Rattle.searches.specs.Starts.{Beginnings, Nowhere, Cell, Either, EachOf, Meets, MetAt, Started, Merged, Gathered}
 use Rattle.searches.proofs.Lowering.{inside, set-same}
 
--- The first n numbers of a list are f's, and one more.
-pub agree-on : (f : ℕ → ℕ) (d : List ℕ) (n : ℕ) → n < length d → ((a : ℕ) → a < n → getD d a 0 ≡ f a)
-    → (a : ℕ) → a < n + 1 → getD (set d n (f n)) a 0 ≡ f a
-agree-on f d n h below a l = go (ℕ-discrete a n)
-  where
-    go : Dec (a ≡ n) → getD (set d n (f n)) a 0 ≡ f a
-    go (yes e) = rw e (getD-set-same d n (f n) 0 h)
-    go (no m) = getD-set-other d n a (f n) 0 m ∙ below a (omega arith)
+-- The first i numbers of a list are x; all of them.
+pub record FilledTo (x i : ℕ) (d : List ℕ) : Type 0 where
+  pub at : (a : ℕ) → a < i → getD d a 0 ≡ x
 
-pub started-blank : (inf : ℕ) (d : List ℕ) (n c : ℕ) → n < c → ((a : ℕ) → a < c → getD d a 0 ≡ inf) → Started inf n Nowhere d
-started-blank inf d n c h blank =
-    record { fallen = λ a x l b. absurd b; attained = λ a l k. absurd (omega (arith, blank a (omega arith))) }
+pub fill-begin : (x : ℕ) (d : List ℕ) → FilledTo x 0 d
+fill-begin x d = record { at = λ a h. absurd (omega arith) }
+
+pub fill-on : {x i : ℕ} {d : List ℕ} → FilledTo x i d → i < length d → FilledTo x (i + 1) (set d i x)
+fill-on {x} {i} {d} f h = record { at = λ a l. go a l (ℕ-discrete a i) }
+  where
+    go : (a : ℕ) → a < i + 1 → Dec (a ≡ i) → getD (set d i x) a 0 ≡ x
+    go a l (yes e) = rw e (getD-set-same d i x 0 h)
+    go a l (no m) = getD-set-other d i a x 0 m ∙ f .at a (omega arith)
+
+pub fill-done : {x i n : ℕ} {d : List ℕ} → FilledTo x i d → length d ≤ i → length d ≡ n → d ≡ replicate n x
+fill-done {x} {i} {n} {d} f h e =
+    ext-getD 0 d (replicate n x) (e ∙ sym (length-replicate n x))
+    (λ a k. f .at a (omega arith) ∙ sym (getD-replicate n a x 0 (omega arith)))
+
+pub started-blank : {inf n i : ℕ} {d : List ℕ} → FilledTo inf i d → n < i → Started inf n Nowhere d
+started-blank f h =
+    record { fallen = λ a x l b. absurd b; attained = λ a l k. absurd (omega (arith, f .at a (omega arith))) }
 
 -- An estimate put in, or not.
 pub merged-put : (v y : ℕ) (d : List ℕ) → y < getD d v 0 → Merged (Cell v y) d (set d v y)
@@ -96,10 +108,14 @@ pub met-begin : (xs : List ℕ) (r : ℕ) (kept : List ℕ) (q : ℕ) (d : List 
 unfolding MetAt
 met-begin xs r kept q d = each-begin (λ i. Cell (columnAt xs r i) (getD kept (q + i) 0)) d
 
-pub met-on : (xs : List ℕ) (r : ℕ) (kept : List ℕ) (q i v y : ℕ) {d e f : List ℕ} → Merged (MetAt xs r kept q i) d e
-    → v ≡ columnAt xs r i → y ≡ getD kept (q + i) 0 → Merged (Cell v y) e f → Merged (MetAt xs r kept q (i + 1)) d f
+pub met-on : (xs : List ℕ) (r : ℕ) (kept : List ℕ) (q i : ℕ) {c v : ℕ} {d e f : List ℕ} → Merged (MetAt xs r kept q i) d e
+    → c ≡ columnAt xs r i → v ≡ c → Merged (Cell v (getD kept (q + i) 0)) e f → Merged (MetAt xs r kept q (i + 1)) d f
 unfolding MetAt
-met-on xs r kept q i v y s ev ey t = each-on (λ i. Cell (columnAt xs r i) (getD kept (q + i) 0)) i s (rw (ev, ey) at t)
+met-on xs r kept q i s ec ev t = each-on (λ i. Cell (columnAt xs r i) (getD kept (q + i) 0)) i s (rw (ev, ec) at t)
+
+pub met-done : (xs : List ℕ) (r : ℕ) (kept : List ℕ) (q : ℕ) {i m : ℕ} {d e : List ℕ} → Merged (MetAt xs r kept q i) d e → i ≤ m → m ≤ i
+    → Merged (MetAt xs r kept q m) d e
+met-done xs r kept q {i} {m} s h l = let z : i ≡ m = omega arith in rw z at s
 
 module _ {inf n : ℕ} {begun : Beginnings} where
   pub started-merged : {S : Beginnings} {d e : List ℕ} → Started inf n begun d → Merged S d e → Started inf n (Either begun S) e
@@ -128,26 +144,38 @@ started-first {S = S} s m = started-same (λ a x b. to a x b) (λ a x b. inr b) 
     to a x (inl b) = absurd b
     to a x (inr b) = b
 
--- A cue that a row names, as read there.
-pub meets-within : {xs : List ℕ} {r m n : ℕ} (i c v : ℕ) → Meets xs r m n → i < m → c ≡ columnAt xs r i → v ≡ c → v < n
-meets-within i c v h l x y = omega (arith, h .within i l)
+-- A row that names cues: one of its columns, and the cue read there, which has an estimate in a list of that length.
+module _ {xs : List ℕ} {r m n : ℕ} where
+  pub column-few : {i : ℕ} → Meets xs r m n → i < m → i < maxJoins
+  column-few h l = omega (arith, h .few)
 
--- Fewer of the cues that a row names, in a list of the same length.
-pub meets-fewer : {xs : List ℕ} {r m n k : ℕ} (i : ℕ) → Meets xs r m n → i ≤ m → k ≡ n → Meets xs r i k
-meets-fewer i h l e = record { there = h .there; few = omega (arith, h .few); within = λ j k. omega (arith, h .within j (omega arith)) }
+  pub column-within : (i : ℕ) {c v l : ℕ} → v ≡ c → c ≡ columnAt xs r i → Meets xs r m n → i < m → l ≡ n → v < l
+  column-within i w e h l k = omega (arith, h .within i l)
+
+  -- Their number by another name, and fewer of them.
+  pub meets-as : {k : ℕ} → Meets xs r m n → m ≡ k → Meets xs r k n
+  meets-as h e = rw e at h
+
+  pub meets-fewer : {k : ℕ} (i : ℕ) → Meets xs r m n → i ≤ m → k ≡ n → Meets xs r i k
+  meets-fewer i h l e = record { there = h .there; few = omega (arith, h .few); within = λ j k. omega (arith, h .within j (omega arith)) }
 
 -- The estimates of some cues, one more.
 pub gathered-begin : (xs : List ℕ) (r : ℕ) (d e : List ℕ) → Gathered xs r d 0 e e
 gathered-begin xs r d e = record { at = λ i h. absurd (omega arith); else = λ i h. refl }
 
-pub gathered-on : (xs : List ℕ) (r : ℕ) (d : List ℕ) (m : ℕ) (e₀ e : List ℕ) (c x : ℕ) → m < length e → Gathered xs r d m e₀ e
-    → c ≡ columnAt xs r m
-    → x ≡ getD d c 0 → Gathered xs r d (m + 1) e₀ (set e m x)
-gathered-on xs r d m e₀ e c x h g ec ex = record { at = λ i l. at i l (ℕ-discrete i m); else = else }
+pub gathered-on : {xs : List ℕ} {r : ℕ} {d : List ℕ} (i : ℕ) {m : ℕ} {e₀ e : List ℕ} {c v : ℕ} → Gathered xs r d i e₀ e → v ≡ c
+    → c ≡ columnAt xs r i → length e ≡ length e₀ → m ≤ length e₀ → i < m → Gathered xs r d (i + 1) e₀ (set e i (getD d v 0))
+gathered-on {xs} {r} {d} i {e₀ = e₀} {e} {v = v} g ev ec size few h = record { at = λ j l. at j l (ℕ-discrete j i); else = else }
   where
-    at : (i : ℕ) → i < m + 1 → Dec (i ≡ m) → getD (set e m x) i 0 ≡ getD d (columnAt xs r i) 0
-    at i l (yes q) = rw (q, ← ec) (getD-set-same e m x 0 h ∙ ex)
-    at i l (no n) = getD-set-other e m i x 0 n ∙ g .at i (omega arith)
+    x : ℕ
+    x = getD d v 0
 
-    else : (i : ℕ) → m + 1 ≤ i → getD (set e m x) i 0 ≡ getD e₀ i 0
-    else i l = getD-set-other e m i x 0 (λ q. omega arith) ∙ g .else i (omega arith)
+    at : (j : ℕ) → j < i + 1 → Dec (j ≡ i) → getD (set e i x) j 0 ≡ getD d (columnAt xs r j) 0
+    at j l (yes q) = rw (q, ← ec, ← ev) (getD-set-same e i x 0 (omega arith))
+    at j l (no n) = getD-set-other e i j x 0 n ∙ g .at j (omega arith)
+
+    else : (j : ℕ) → i + 1 ≤ j → getD (set e i x) j 0 ≡ getD e₀ j 0
+    else j l = getD-set-other e i j x 0 (λ q. omega arith) ∙ g .else j (omega arith)
+
+pub gathered-done : {xs d e₀ e : List ℕ} {r i m : ℕ} → Gathered xs r d i e₀ e → i ≤ m → m ≤ i → Gathered xs r d m e₀ e
+gathered-done {i = i} {m} g h l = let z : i ≡ m = omega arith in rw z at g

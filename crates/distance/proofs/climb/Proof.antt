@@ -1,85 +1,48 @@
 -- `distance::climb` meets its contract. The invariant: the estimates tell the distances inside the
 -- copy at level l, and so does what was kept for the levels below.
-use Prim.Native.Nat.{_+_, _-_, _≤_}
 use borrow.Author.Needs.{needs}
 use native.Mathlib.Omega.{arith}
 use mathlib.Core.Path.{_≡_}
 use lib.ListN.{length}
-use Rattle.blocks.specs.Places.{Found}
-use Rattle.blocks.specs.declared.Place.{Place}
 use Rattle.model.specs.Limits.{noChain}
 use Rattle.distances.specs.Walks.{each-one}
-use Rattle.searches.specs.Copies.{Risen}
-use Rattle.copies.proofs.ByRows.{place-block, own-known, rows-to}
+use Rattle.copies.proofs.ByRows.{place-block}
+use Rattle.searches.specs.Starts.{estimatesSize}
+use Rattle.searches.specs.Copies.{keptSize}
+use Rattle.distance.specs.Summaries.{HasSummaries}
 use Rattle.distance.proofs.Counting.{summaries-known, may-settle}
-use Rattle.searches.proofs.Ways.{risen-start, risen-on}
+use Rattle.searches.proofs.Ways.{own-within, Climbing, climbing-begin, climbing-uses, climbing-on, climbing-done}
 use Rattle.distance.proofs.climb.Statement.{statement}
 use Rattle.distance.proofs.climb.Tie as tie
 
 abbrev Inv-loop : tie.InvT-loop
 Inv-loop xs t work rows kept₀ d₀ l₀ kept d l =
-    (l ≤ l₀) × (length kept ≡ length kept₀) × (length d ≡ length d₀)
-    × ((q : Place) → Found xs t rows q → l₀ ≤ q .depth → Risen noChain each-one xs t rows q l₀ kept₀ d₀ → Risen noChain each-one xs t rows q l kept d)
+    HasSummaries xs t work × (length kept ≡ keptSize) × (length d ≡ estimatesSize) × Climbing noChain each-one xs t work rows l₀ kept₀ d₀ l kept d
 
 abbrev μ-loop : tie.MeasureT-loop
 μ-loop xs t work rows kept₀ d₀ l₀ kept d l = l
-
-from-cue-requires : tie.Need-from-cue-requires Inv-loop μ-loop
-from-cue-requires c κs =
-    let at-wide = c .before in
-    let start = at-wide .before .before .before .before .before .before in (
-      may-settle (start .pre .0 .summaries) (place-block (start .pre .0 .summaries .loaded) (start .pre .0 .found)) (search needs),
-      omega (arith, at-wide .wide .ensures .0, own-known (start .pre .0 .summaries .loaded) (start .pre .0 .found)),
-    )
-
-keep-joins-requires : tie.Need-keep-joins-requires Inv-loop μ-loop
-keep-joins-requires c κs =
-    let start = c .before .before .before .before .before .before .before .before .before .before .before .before in
-    let loaded = start .pre .0 .summaries .loaded in
-    (loaded, place-block loaded (start .pre .0 .found), start .pre .0 .found .deep, search needs, search needs)
-
-loop-holds : tie.Need-loop-holds Inv-loop μ-loop
-loop-holds c = (search needs, search needs, search needs, λ q f h r. r)
-
-rise-one-requires : tie.Need-rise-one-requires Inv-loop μ-loop
-rise-one-requires c κs =
-    let start = c .before .before .before .before .before .before .before .before .before .before .before .before .before .before .before .before .before .before .before in (
-      start .pre .0 .summaries,
-      rows-to (start .pre .0 .summaries .loaded) (start .pre .0 .found) _ (omega arith),
-      omega (arith, start .pre .0 .found .deep),
-      search needs,
-      search needs,
-    )
 
 loop-again : tie.Need-loop-again Inv-loop μ-loop
 loop-again c =
     let at-rise-one = c .before .before .before .before in
     let at-loop = at-rise-one .before .before .before .before in
-    let start = at-loop .before .before .before .before .before .before .before .before .before .before .before .before .before .before .before .before in
-    let e : at-loop .loop .l - 1 + 1 ≡ at-loop .loop .l = omega arith in (
-      omega arith,
-      search needs,
-      search needs,
-      λ q f h r. risen-on (summaries-known (start .pre .0 .summaries)) f (at-loop .loop .l - 1) (at-loop .loop .kept) (at-loop .loop .d)
-          (at-rise-one .rise-one .last .1 .1 .1 .1 .1 .1 .0) (at-rise-one .rise-one .last .1 .1 .1 .1 .1 .0)
-          (omega arith) (rw e (at-loop .loop .inv .3 q f h r)) (at-rise-one .rise-one .ensures .0) (at-rise-one .rise-one .ensures .1),
-    )
+    let rise = at-rise-one .rise-one .ensures in
+    (search needs, search needs, search needs, climbing-on (at-loop .loop .inv .3) (omega arith) (rise .0) (rise .1))
 
 returns : tie.Need-returns Inv-loop μ-loop
 returns c =
-    let at-loop = c .before in
-    let at-keep-joins = at-loop .before .before .before in
+    let at-keep-joins = c .before .before .before .before in
     let at-from-cue = at-keep-joins .before .before .before .before .before in
     let at-wide = at-from-cue .before .before in
     let start = at-wide .before .before .before .before .before .before in
-    let e : at-loop .loop .l ≡ 0 = omega arith in
-    let start-of =
-    risen-start (summaries-known (start .pre .0 .summaries)) (start .pre .0 .found) _ _ _ _ (start .pre .0 .found .block)
-    (rw (at-wide .wide .ensures .0) at (at-from-cue .from-cue .ensures)) (at-keep-joins .keep-joins .ensures) in
-    rw e at (at-loop .loop .inv .3 _ (start .pre .0 .found) (omega arith) start-of)
+    climbing-done (c .before .loop .inv .3) (omega arith) (start .pre .0 .found) (at-from-cue .from-cue .ensures) (at-wide .wide .ensures .0)
+    (at-keep-joins .keep-joins .ensures)
 
 pub climb-spec : {M : Type 1} → statement M
 climb-spec =
     tie.close
-    (tie.spec Inv-loop μ-loop (λ c κs. search needs) from-cue-requires keep-joins-requires loop-holds (λ c. search needs) rise-one-requires
+    (tie.spec Inv-loop μ-loop (λ c κs. search needs) (λ c κs. (search (may-settle, place-block, needs), search (own-within, needs)))
+    (λ c κs. (search needs, search (place-block, needs), search needs, search needs, search needs))
+    (λ c. (search needs, search needs, search needs, search (climbing-begin, summaries-known, needs))) (λ c. search needs)
+    (λ c κs. (search needs, climbing-uses (c .before .before .before .loop .inv .3) (omega arith), search needs, search needs, search needs))
     (λ c. search needs) loop-again (λ c. search needs) (λ c. search needs) returns)

@@ -1,39 +1,16 @@
 -- `distance::fewest` meets its contract.
 use borrow.Author.Needs.{needs}
-use native.Mathlib.Omega.{arith}
 use mathlib.Core.Path.{refl}
-use Rattle.copies.proofs.ByRows.{own-few}
+use Rattle.searches.proofs.Ways.{own-room}
 use Rattle.searches.proofs.Answering.{answered}
 use Rattle.distance.proofs.Counting.{may-search, fewest-is}
 use Rattle.distance.proofs.fewest.Statement.{statement}
 use Rattle.distance.proofs.fewest.Tie as tie
 
-climb-requires : tie.Need-climb-requires
-climb-requires c κs =
-    let start = c .before .before .before .before .before .before in
-    (may-search (start .pre .0) (start .pre .3) (start .pre .1) (search needs), search needs)
-
-sink-shared-requires : tie.Need-sink-shared-requires
-sink-shared-requires c κs =
-    let at-common = c .before .before in
-    let at-climb = at-common .before .before .before in
-    let start = at-climb .before .before .before .before .before .before .before in (
-      may-search (start .pre .0) (start .pre .3) (start .pre .1) (search needs),
-      at-common .common .ensures .first,
-      search needs,
-      at-climb .climb .ensures,
-    )
-
 sink-alone-requires : tie.Need-sink-alone-requires
 sink-alone-requires c κs =
-    let at-common = c .before .before .before .before .before in
-    let start = at-common .before .before .before .before .before .before .before .before .before .before in
-    (may-search (start .pre .0) (start .pre .3) (start .pre .2) (search needs), at-common .common .ensures .second)
-
-array-read-result : tie.Need-array-read-result
-array-read-result c =
-    let start = c .before .before .before .before .before .before .before .before .before .before .before .before .before .before .before .before .before .before in
-    omega (arith, own-few (start .pre .0) (start .pre .2), c .wide .ensures .0)
+    let start = c .before .before .before .before .before .before .before .before .before .before .before .before .before .before .before in
+    (may-search (start .pre .0) (start .pre .3) (start .pre .2) (search needs), search needs)
 
 returns : tie.Need-returns
 returns c =
@@ -50,5 +27,6 @@ returns c =
 pub fewest-spec : {M : Type 1} → statement M
 fewest-spec =
     tie.close
-    (tie.spec (λ c. search needs) (λ c. search needs) climb-requires (λ c κs. search needs) (λ c. search needs) (λ c. search needs)
-    sink-shared-requires (λ c. search needs) sink-alone-requires (λ c κs. search needs) (λ c. search needs) array-read-result returns)
+    (tie.spec (λ c. search needs) (λ c. search needs) (λ c κs. (search (may-search, needs), search needs)) (λ c κs. search needs)
+    (λ c. search needs) (λ c. search needs) (λ c κs. (search (may-search, needs), search needs, search needs, search needs)) (λ c. search needs)
+    sink-alone-requires (λ c κs. search needs) (λ c. search needs) (λ c. search (own-room, needs)) returns)

@@ -1,36 +1,21 @@
 -- `distance::fill` meets its contract. The invariant: the numbers passed are x.
-use Prim.Native.Nat.{ℕ, _-_, _≤_, _<_}
+use Prim.Native.Nat.{_-_, _≤_}
 use borrow.Author.Needs.{needs}
 use native.Mathlib.Omega.{arith}
 use mathlib.Core.Path.{_≡_}
-use lib.ListN.{length, getD}
-use Rattle.searches.proofs.Starts.{agree-on}
-use Rattle.searches.proofs.Joins.{agree-same}
+use lib.ListN.{length}
+use Rattle.searches.proofs.Starts.{FilledTo, fill-begin, fill-on, fill-done}
 use Rattle.distance.proofs.fill.Statement.{statement}
 use Rattle.distance.proofs.fill.Tie as tie
 
 abbrev Inv-loop : tie.InvT-loop
-Inv-loop part₀ x i₀ part i = (i ≤ length part₀) × (length part ≡ length part₀) × ((a : ℕ) → a < i → getD part a 0 ≡ x)
+Inv-loop part₀ x i₀ part i = (i ≤ length part₀) × (length part ≡ length part₀) × FilledTo x i part
 
 abbrev μ-loop : tie.MeasureT-loop
 μ-loop part₀ x i₀ part i = length part₀ - i
 
-loop-holds : tie.Need-loop-holds Inv-loop μ-loop
-loop-holds c = (search needs, search needs, λ a h. absurd (omega arith))
-
-loop-again : tie.Need-loop-again Inv-loop μ-loop
-loop-again c =
-    let at-loop = c .before in
-    let start = at-loop .before in
-    (search needs, search needs, agree-on (λ a. start .args .x) (at-loop .loop .part) (at-loop .loop .i) (omega arith) (at-loop .loop .inv .2))
-
-returns : tie.Need-returns Inv-loop μ-loop
-returns c =
-    let at-loop = c .before in
-    agree-same _ (at-loop .loop .i) _ _ (at-loop .loop .inv .1) (omega arith) (at-loop .loop .inv .2)
-
 pub fill-spec : {M : Type 1} → statement M
 fill-spec =
     tie.close
-    (tie.spec Inv-loop μ-loop loop-holds (λ c. search needs) (λ c. search needs) (λ c. search needs) (λ c. search needs) loop-again
-    (λ c. search needs) returns)
+    (tie.spec Inv-loop μ-loop (λ c. search (fill-begin, needs)) (λ c. search needs) (λ c. search needs) (λ c. search needs) (λ c. search needs)
+    (λ c. (search needs, search needs, fill-on (c .before .loop .inv .2) (omega arith))) (λ c. search needs) (λ c. search (fill-done, needs)))

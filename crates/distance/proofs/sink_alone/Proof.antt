@@ -1,62 +1,36 @@
--- `distance::sink_alone` meets its contract. The invariant: the same of the level that is reached.
-use Prim.Native.Nat.{_-_, _≤_}
+-- `distance::sink_alone` meets its contract. The invariant: the estimates tell the least at level l too, whatever cue they are
+-- about that no copy below the first level has.
+use Prim.Native.Nat.{_-_}
 use borrow.Author.Needs.{needs}
 use native.Mathlib.Omega.{arith}
-use mathlib.Core.Path.{_≡_}
-use lib.ListN.{length}
 use Rattle.model.specs.Limits.{noChain}
 use Rattle.distances.specs.Walks.{each-one}
-use Rattle.searches.specs.Copies.{Sunk}
-use Rattle.copies.proofs.ByRows.{rows-to}
+use Rattle.distance.specs.Summaries.{MaySearch}
 use Rattle.distance.proofs.Counting.{summaries-known}
-use Rattle.searches.proofs.Ways.{sunk-on}
+use Rattle.searches.proofs.Ways.{Sinking, sinking-begin, sinking-uses, sinking-on, sinking-done}
 use Rattle.distance.proofs.sink_alone.Statement.{statement}
 use Rattle.distance.proofs.sink_alone.Tie as tie
 
 abbrev Inv-loop : tie.InvT-loop
-Inv-loop xs t work to rows level d₀ l₀ d l = (level ≤ l) × (l ≤ to .depth) × (length d ≡ length d₀) × Sunk noChain each-one xs t rows level l d₀ d
+Inv-loop xs t work to rows level d₀ l₀ d l = MaySearch xs t work rows to d × Sinking noChain each-one xs t work rows to level l d₀ d
 
 abbrev μ-loop : tie.MeasureT-loop
 μ-loop xs t work to rows level d₀ l₀ d l = to .depth - l
 
-loop-holds : tie.Need-loop-holds Inv-loop μ-loop
-loop-holds c = (search needs, search needs, search needs, λ s told out. told)
-
-enter-requires : tie.Need-enter-requires Inv-loop μ-loop
-enter-requires c κs =
-    let start = c .before .before .before .before .before .before .before .before in
-    (start .pre .0 .summaries .loaded, rows-to (start .pre .0 .summaries .loaded) (start .pre .0 .found) _ (omega arith), search needs)
-
-block-on-requires : tie.Need-block-on-requires Inv-loop μ-loop
-block-on-requires c κs =
-    let start = c .before .before .before .before .before .before .before .before .before .before .before in
-    (start .pre .0 .summaries .loaded, rows-to (start .pre .0 .summaries .loaded) (start .pre .0 .found) _ (omega arith))
-
 loop-again : tie.Need-loop-again Inv-loop μ-loop
 loop-again c =
-    let at-settle = c .before .before in
-    let at-block-on = at-settle .before .before in
+    let at-block-on = c .before .before .before .before in
     let at-enter = at-block-on .before .before .before in
-    let at-loop = at-enter .before .before .before .before in
-    let start = at-loop .before .before .before .before .before in (
+    let at-loop = at-enter .before .before .before .before in (
       search needs,
-      search needs,
-      search needs,
-      sunk-on (summaries-known (start .pre .0 .summaries)) (start .pre .0 .found) (start .args .level) (at-loop .loop .l)
-          (start .args .d .now) (at-loop .loop .d) _ _
-          (omega arith) (at-loop .loop .inv .0) (at-loop .loop .inv .3) (at-enter .enter .ensures)
-          (rw (at-block-on .block-on .ensures .0) at (at-settle .settle .ensures)),
+      sinking-on (at-loop .loop .inv .1) (omega arith) (at-enter .enter .ensures) (at-block-on .block-on .ensures .0)
+          (c .before .before .settle .ensures),
     )
-
-returns : tie.Need-returns Inv-loop μ-loop
-returns c =
-    let at-loop = c .before .before in
-    let start = at-loop .before .before .before .before .before in
-    let e : at-loop .loop .l ≡ start .args .to .depth = omega arith in rw e at (at-loop .loop .inv .3)
 
 pub sink-alone-spec : {M : Type 1} → statement M
 sink-alone-spec =
     tie.close
-    (tie.spec Inv-loop μ-loop loop-holds enter-requires (λ c. search needs) block-on-requires (λ c κs. search needs) (λ c. search needs)
-    loop-again (λ c. search needs)
-    returns)
+    (tie.spec Inv-loop μ-loop (λ c. (search needs, search (sinking-begin, summaries-known, needs)))
+    (λ c κs. (search needs, search (sinking-uses, needs), search needs)) (λ c. search needs)
+    (λ c κs. (search needs, search (sinking-uses, needs))) (λ c κs. search needs)
+    (λ c. search needs) loop-again (λ c. search needs) (λ c. search (sinking-done, needs)))

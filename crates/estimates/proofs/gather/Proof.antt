@@ -2,11 +2,10 @@
 -- their cues.
 use Prim.Native.Nat.{_-_, _≤_}
 use borrow.Author.Needs.{needs}
-use native.Mathlib.Omega.{arith}
-use mathlib.Core.Path.{_≡_, refl, _∙_}
+use mathlib.Core.Path.{_≡_}
 use lib.ListN.{length}
 use Rattle.searches.specs.Starts.{Gathered}
-use Rattle.searches.proofs.Starts.{meets-within, gathered-begin, gathered-on}
+use Rattle.searches.proofs.Starts.{column-few, column-within, gathered-begin, gathered-on, gathered-done}
 use Rattle.estimates.proofs.gather.Statement.{statement}
 use Rattle.estimates.proofs.gather.Tie as tie
 
@@ -16,37 +15,10 @@ Inv-loop xs r d m e₀ i₀ e i = (i ≤ m) × (length e ≡ length e₀) × Gat
 abbrev μ-loop : tie.MeasureT-loop
 μ-loop xs r d m e₀ i₀ e i = m - i
 
-loop-holds : tie.Need-loop-holds Inv-loop μ-loop
-loop-holds c = (search needs, search needs, gathered-begin _ _ _ _)
-
-column-requires : tie.Need-column-requires Inv-loop μ-loop
-column-requires c κs =
-    let start = c .before .before .before .before .before in
-    (start .pre .0 .there, omega (arith, start .pre .0 .few))
-
-shared-slice-read-e : tie.Need-shared-slice-read-e Inv-loop μ-loop
-shared-slice-read-e c =
-    let at-wide = c .before in
-    let at-column = at-wide .before in
-    let at-loop = at-column .before .before in
-    let start = at-loop .before .before .before .before in
-    meets-within (at-loop .loop .i) _ _ (start .pre .0) (omega arith) (at-column .column .ensures) (at-wide .wide .ensures .0)
-
-loop-again : tie.Need-loop-again Inv-loop μ-loop
-loop-again c =
-    let at-wide = c .before in
-    let at-column = at-wide .before in
-    let at-loop = at-column .before .before in
-    (search needs, search needs, gathered-on _ _ _ _ _ _ _ _ (omega arith) (at-loop .loop .inv .2) (at-wide .wide .ensures .0 ∙ at-column .column .ensures) refl)
-
-returns : tie.Need-returns Inv-loop μ-loop
-returns c =
-    let at-loop = c .before in
-    let start = at-loop .before .before .before .before in
-    let e : at-loop .loop .i ≡ start .args .m = omega arith in rw e at (at-loop .loop .inv .2)
-
 pub gather-spec : {M : Type 1} → statement M
 gather-spec =
     tie.close
-    (tie.spec Inv-loop μ-loop loop-holds column-requires (λ c κs. search needs) (λ c. search needs) shared-slice-read-e (λ c. search needs)
-    (λ c. search needs) (λ c. search needs) (λ c. search needs) loop-again (λ c. search needs) returns)
+    (tie.spec Inv-loop μ-loop (λ c. (search needs, search needs, gathered-begin _ _ _ _))
+    (λ c κs. (search needs, search (column-few, needs))) (λ c κs. search needs) (λ c. search needs) (λ c. search (column-within, needs))
+    (λ c. search needs) (λ c. search needs) (λ c. search needs) (λ c. search needs)
+    (λ c. (search needs, search needs, search (gathered-on, needs))) (λ c. search needs) (λ c. search (gathered-done, needs)))

@@ -15,19 +15,8 @@ Inv-loop a b n i₀ i =
 abbrev μ-loop : tie.MeasureT-loop
 μ-loop a b n i₀ i = n - i
 
-loop-holds : tie.Need-loop-holds Inv-loop μ-loop
-loop-holds c = search (same-begin, needs)
-
-returns : tie.Need-returns Inv-loop μ-loop
-returns c = search (same-not, needs)
-
-loop-again : tie.Need-loop-again Inv-loop μ-loop
-loop-again c = search (same-on, needs)
-
-returns-2 : tie.Need-returns-2 Inv-loop μ-loop
-returns-2 c = search (same-all, needs)
-
 pub same-to-spec : {M : Type 1} → statement M
 same-to-spec =
     tie.close
-    (tie.spec Inv-loop μ-loop loop-holds (λ c. search needs) (λ c. search needs) returns (λ c. search needs) (λ c. search needs) loop-again returns-2)
+    (tie.spec Inv-loop μ-loop (λ c. search (same-begin, needs)) (λ c. search needs) (λ c. search needs) (λ c. search (same-not, needs))
+    (λ c. search needs) (λ c. search needs) (λ c. search (same-on, needs)) (λ c. search (same-all, needs)))

@@ -8,23 +8,12 @@ use Rattle.quickest.proofs.Sums.{quickest-is}
 use Rattle.quickest.proofs.search.Statement.{statement}
 use Rattle.quickest.proofs.search.Tie as tie
 
-climb-requires : tie.Need-climb-requires
-climb-requires c κs =
-    let start = c .before .before .before .before .before .before .before .before in
-    (record { sums = start .pre .0; found = start .pre .1; size = search needs }, search needs)
-
-sink-shared-requires : tie.Need-sink-shared-requires
-sink-shared-requires c κs =
-    let at-common = c .before .before in
-    let at-climb = at-common .before .before .before .before in
-    let start = at-climb .before .before .before .before .before .before .before .before .before in
-    (record { sums = start .pre .0; found = start .pre .1; size = search needs }, at-common .common .ensures .first, search needs, at-climb .climb .ensures)
-
 sink-alone-requires : tie.Need-sink-alone-requires
 sink-alone-requires c κs =
-    let at-common = c .before .before .before .before .before .before in
-    let start = at-common .before .before .before .before .before .before .before .before .before .before .before .before .before in
-    (record { sums = start .pre .0; found = start .pre .2; size = search needs }, at-common .common .ensures .second)
+    let start =
+    c .before .before .before .before .before .before .before .before .before .before .before .before .before .before .before .before .before .before
+    .before in
+    (record { sums = start .pre .0; found = start .pre .2; size = search needs }, search needs)
 
 slice-read-result : tie.Need-slice-read-result
 slice-read-result c =
@@ -51,11 +40,14 @@ returns c =
     let at-common = at-sink-shared .before .before .before in
     let start = at-common .before .before .before .before .before .before .before .before .before .before .before .before .before in
     quickest-is (start .pre .0 .loaded) (start .pre .0 .waited) (start .pre .2) _ _
-    (answered (start .pre .0 .loaded) (start .pre .1) (start .pre .2) _ (at-common .common .ensures) (at-sink-shared .sink-shared .last .1 .1 .1 .1 .1 .1 .1 .1 .0)
-    (at-sink-alone .sink-alone .last .1 .1 .1 .1 .1 .1 .1 .0) (at-wide .wide .result) _ (at-wide .wide .ensures .0) refl (at-sink-shared .sink-shared .ensures) (at-sink-alone .sink-alone .ensures))
+    (answered (start .pre .0 .loaded) (start .pre .1) (start .pre .2) _ (at-common .common .ensures)
+    (at-sink-shared .sink-shared .last .1 .1 .1 .1 .1 .1 .1 .1 .0) (at-sink-alone .sink-alone .last .1 .1 .1 .1 .1 .1 .1 .0)
+    (at-wide .wide .result) _ (at-wide .wide .ensures .0) refl
+    (at-sink-shared .sink-shared .ensures) (at-sink-alone .sink-alone .ensures))
 
 pub search-spec : {M : Type 1} → statement M
 search-spec =
     tie.close
-    (tie.spec (λ c. search needs) climb-requires (λ c κs. search needs) (λ c. search needs) sink-shared-requires sink-alone-requires
-    (λ c κs. search needs) (λ c. search needs) slice-read-result (λ c. search needs) returns)
+    (tie.spec (λ c. search needs) (λ c κs. search needs) (λ c κs. search needs) (λ c. search needs)
+    (λ c κs. (search needs, search needs, search needs, search needs)) sink-alone-requires (λ c κs. search needs) (λ c. search needs)
+    slice-read-result (λ c. search needs) returns)

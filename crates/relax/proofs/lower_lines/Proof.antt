@@ -1,13 +1,12 @@
 -- `relax::lower_lines` meets its contract. The invariant: the estimates are lowered by the lines
 -- passed.
 use Prim.Native.Nat.{_-_, _≤_}
-use native.Mathlib.Omega.{arith}
-use mathlib.Core.Path.{_≡_, refl}
-use lib.ListN.{length}
 use borrow.Author.Needs.{needs}
+use mathlib.Core.Path.{_≡_}
+use lib.ListN.{length}
 use Rattle.model.specs.Limits.{noChain, summaryWidth}
 use Rattle.searches.specs.Lines.{Lines}
-use Rattle.searches.proofs.Lines.{lines-begin, lines-on}
+use Rattle.searches.proofs.Lines.{lines-begin, lines-on, lines-done}
 use Rattle.relax.proofs.lower_lines.Statement.{statement}
 use Rattle.relax.proofs.lower_lines.Tie as tie
 
@@ -17,20 +16,9 @@ Inv-loop work q g e₀ i₀ e i = (i ≤ summaryWidth) × (length e ≡ summaryW
 abbrev μ-loop : tie.MeasureT-loop
 μ-loop work q g e₀ i₀ e i = summaryWidth - i
 
-loop-holds : tie.Need-loop-holds Inv-loop μ-loop
-loop-holds c = (search needs, search needs, lines-begin _ _ _ _ _ _)
-
-loop-again : tie.Need-loop-again Inv-loop μ-loop
-loop-again c =
-    let b = c .before .before in
-    let l = b .before .before .before .before .loop in
-    (search needs, search needs, lines-on _ _ _ _ _ _ _ _ _ _ (l .inv .2) refl (b .lower-by .ensures))
-
-returns : tie.Need-returns Inv-loop μ-loop
-returns c = let e : c .before .loop .i ≡ summaryWidth = omega arith in rw e at (c .before .loop .inv .2)
-
 pub lower-lines-spec : {M : Type 1} → statement M
 lower-lines-spec =
     tie.close
-    (tie.spec Inv-loop μ-loop loop-holds (λ c. search needs) (λ c. search needs) (λ c. search needs) (λ c. search needs) (λ c κs. search needs)
-    (λ c. search needs) (λ c. search needs) loop-again (λ c. search needs) returns)
+    (tie.spec Inv-loop μ-loop (λ c. (search needs, search needs, search (lines-begin, needs))) (λ c. search needs) (λ c. search needs)
+    (λ c. search needs) (λ c. search needs) (λ c κs. search needs) (λ c. search needs) (λ c. search needs)
+    (λ c. (search needs, search needs, search (lines-on, needs))) (λ c. search needs) (λ c. search (lines-done, needs)))

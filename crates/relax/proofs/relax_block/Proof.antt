@@ -5,8 +5,7 @@ use Rattle.searches.proofs.Edges.{block-round}
 use Rattle.relax.proofs.relax_block.Statement.{statement}
 use Rattle.relax.proofs.relax_block.Tie as tie
 
-returns : tie.Need-returns
-returns c = search (block-round, needs)
-
 pub relax-block-spec : {M : Type 1} → statement M
-relax-block-spec = tie.close (tie.spec (λ c κs. search needs) (λ c κs. search needs) (λ c κs. search needs) (λ c. search needs) returns)
+relax-block-spec =
+    tie.close
+    (tie.spec (λ c κs. search needs) (λ c κs. search needs) (λ c κs. search needs) (λ c. search needs) (λ c. search (block-round, needs)))

@@ -1,49 +1,20 @@
 -- `relax::relax_pair` meets its contract.
 use borrow.Author.Needs.{needs}
 use native.Mathlib.Omega.{arith}
-use mathlib.Core.Path.{refl, _∙_}
-use Rattle.searches.proofs.Starts.{meets-within}
+use Rattle.searches.proofs.Starts.{column-within}
 use Rattle.searches.proofs.Edges.{mesh-pair}
 use Rattle.relax.proofs.relax_pair.Statement.{statement}
 use Rattle.relax.proofs.relax_pair.Tie as tie
 
 improve-requires : tie.Need-improve-requires
-improve-requires c κs =
-    let at-wide2 = c .before .before in
-    let at-column2 = at-wide2 .before in
-    let at-wide = at-column2 .before in
-    let at-column = at-wide .before in
-    let start = at-column .before .before .before .before in
-    let a = meets-within 0 _ _ (start .pre .0) (omega arith) (at-column .column .ensures) (at-wide .wide .ensures .0) in
-    let b = meets-within 1 _ _ (start .pre .0) (omega arith) (at-column2 .column2 .ensures) (at-wide2 .wide2 .ensures .0) in
-    (omega arith, omega arith)
+improve-requires c κs = (search (column-within, needs), search (column-within, needs))
 
 improve-requires-2 : tie.Need-improve-requires-2
-improve-requires-2 c κs =
-    let at-wide2 = c .before .before .before .before .before .before .before in
-    let at-column2 = at-wide2 .before in
-    let at-wide = at-column2 .before in
-    let at-column = at-wide .before in
-    let start = at-column .before .before .before .before in
-    let a = meets-within 0 _ _ (start .pre .0) (omega arith) (at-column .column .ensures) (at-wide .wide .ensures .0) in
-    let b = meets-within 1 _ _ (start .pre .0) (omega arith) (at-column2 .column2 .ensures) (at-wide2 .wide2 .ensures .0) in
-    (omega arith, omega arith)
-
-returns : tie.Need-returns
-returns c =
-    let at-improve2 = c .before .before .before in
-    let at-improve = at-improve2 .before .before .before .before .before in
-    let at-wide2 = at-improve .before .before .before in
-    let at-column2 = at-wide2 .before in
-    let at-wide = at-column2 .before in
-    let at-column = at-wide .before in
-    mesh-pair _ _ _ _ _ _ _ _ (at-wide .wide .ensures .0 ∙ at-column .column .ensures)
-    (at-wide2 .wide2 .ensures .0 ∙ at-column2 .column2 .ensures) refl refl (at-improve .improve .ensures)
-    (at-improve2 .improve2 .ensures) (c .either .ensures)
+improve-requires-2 c κs = let h = improve-requires (c .before .before .before .before .before) κs in (omega (arith, h .1), omega (arith, h .0))
 
 pub relax-pair-spec : {M : Type 1} → statement M
 relax-pair-spec =
     tie.close
-    (tie.spec (λ c κs. search needs) (λ c κs. search needs) (λ c κs. search needs) (λ c κs. search needs) (λ c. search needs) (λ c. search needs)
-    (λ c. search needs) improve-requires (λ c. search needs) (λ c. search needs) (λ c. search needs) improve-requires-2 (λ c κs. search needs)
-    (λ c. search needs) returns)
+    (tie.spec (λ c κs. search needs) (λ c κs. search needs) (λ c κs. search needs) (λ c κs. search needs) (λ c. search needs)
+    (λ c. search needs) (λ c. search needs) improve-requires (λ c. search needs) (λ c. search needs) (λ c. search needs) improve-requires-2
+    (λ c κs. search needs) (λ c. search needs) (λ c. search (mesh-pair, needs)))

@@ -17,17 +17,8 @@ Inv-loop xs t work k d₀ d = (length d ≡ length d₀) × Runs (BlockEdge each
 abbrev μ-loop : tie.MeasureT-loop
 μ-loop xs t work k d₀ d = sum d
 
-loop-holds : tie.Need-loop-holds Inv-loop μ-loop
-loop-holds c = (search needs, runs-begin _)
-
-loop-less : tie.Need-loop-less Inv-loop μ-loop
-loop-less c = search (round-falls, needs)
-
-loop-again : tie.Need-loop-again Inv-loop μ-loop
-loop-again c = (search needs, search (round-again, needs))
-
-returns : tie.Need-returns Inv-loop μ-loop
-returns c = search (round-last, needs)
-
 pub settle-spec : {M : Type 1} → statement M
-settle-spec = tie.close (tie.spec Inv-loop μ-loop loop-holds (λ c κs. search needs) loop-less loop-again (λ c. search needs) returns)
+settle-spec =
+    tie.close
+    (tie.spec Inv-loop μ-loop (λ c. (search needs, search (runs-begin, needs))) (λ c κs. search needs) (λ c. search (round-falls, needs))
+    (λ c. (search needs, search (round-again, needs))) (λ c. search needs) (λ c. search (round-last, needs)))

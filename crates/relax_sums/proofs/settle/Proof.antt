@@ -17,24 +17,8 @@ Inv-loop xs t waits work k d₀ back₀ d back = (length d ≡ length d₀) × R
 abbrev μ-loop : tie.MeasureT-loop
 μ-loop xs t waits work k d₀ back₀ d back = sum d
 
-loop-holds : tie.Need-loop-holds Inv-loop μ-loop
-loop-holds c = (search needs, runs-begin _)
-
-relax-block-requires : tie.Need-relax-block-requires Inv-loop μ-loop
-relax-block-requires c κs =
-    let start = c .before .before .before .before .before .before in
-    (search needs, start .pre .1)
-
-loop-less : tie.Need-loop-less Inv-loop μ-loop
-loop-less c = search (round-falls, needs)
-
-loop-again : tie.Need-loop-again Inv-loop μ-loop
-loop-again c = (search needs, search (round-again, needs))
-
-returns : tie.Need-returns Inv-loop μ-loop
-returns c = search (round-last, needs)
-
 pub settle-spec : {M : Type 1} → statement M
 settle-spec =
     tie.close
-    (tie.spec Inv-loop μ-loop loop-holds relax-block-requires (λ c. search needs) returns loop-less loop-again)
+    (tie.spec Inv-loop μ-loop (λ c. (search needs, search (runs-begin, needs))) (λ c κs. (search needs, search needs)) (λ c. search needs)
+    (λ c. search (round-last, needs)) (λ c. search (round-falls, needs)) (λ c. (search needs, search (round-again, needs))))

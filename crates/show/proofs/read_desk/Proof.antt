@@ -6,22 +6,10 @@ use Rattle.show.proofs.Reading.{read-loaded, read-unloaded}
 use Rattle.show.proofs.read_desk.Statement.{statement}
 use Rattle.show.proofs.read_desk.Tie as tie
 
-part-read-in-end : tie.Need-part-read-in-end
-part-read-in-end c = search (rows-room, needs)
-
-read-in-requires : tie.Need-read-in-requires
-read-in-requires c κs = search (part-loaded, needs)
-
-returns : tie.Need-returns
-unfolding deskReadAsked
-returns c = search (read-loaded, needs)
-
-returns-2 : tie.Need-returns-2
-unfolding deskReadAsked
-returns-2 c = search (read-unloaded, needs)
-
 pub read-desk-spec : {M : Type 1} → statement M
+unfolding deskReadAsked
 read-desk-spec =
     tie.close
     (tie.spec (λ c. search needs) (λ c κs. search needs) (λ c. search needs) (λ c. search needs) (λ c. search needs)
-    part-read-in-end read-in-requires (λ c. search needs) (λ c. search needs) returns returns-2)
+    (λ c. search (rows-room, needs)) (λ c κs. search (part-loaded, needs)) (λ c. search needs) (λ c. search needs)
+    (λ c. search (read-loaded, needs)) (λ c. search (read-unloaded, needs)))

@@ -6,18 +6,9 @@ use Rattle.loading.proofs.Checked.{said-yes, asked-yes, asked-no}
 use Rattle.show.proofs.write.Statement.{statement}
 use Rattle.show.proofs.write.Tie as tie
 
-write-rows-requires : tie.Need-write-rows-requires
-write-rows-requires c κs = search (said-yes, needs)
-
-returns : tie.Need-returns
-unfolding writeAsked
-returns c = search (asked-yes, needs)
-
-returns-2 : tie.Need-returns-2
-unfolding ofWrite writeAsked refuse
-returns-2 c = search (asked-no, needs)
-
 pub write-spec : {M : Type 1} → statement M
+unfolding writeAsked ofWrite refuse
 write-spec =
     tie.close
-    (tie.spec (λ c κs. search needs) (λ c. search needs) write-rows-requires (λ c. search needs) (λ c. search needs) returns returns-2)
+    (tie.spec (λ c κs. search needs) (λ c. search needs) (λ c κs. search (said-yes, needs)) (λ c. search needs) (λ c. search needs)
+    (λ c. search (asked-yes, needs)) (λ c. search (asked-no, needs)))

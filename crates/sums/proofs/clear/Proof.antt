@@ -1,32 +1,23 @@
 -- `sums::clear` meets its contract. The invariant: the cues passed have no sum.
-use Prim.Native.Nat.{ℕ, _+_, _-_, _≤_, _<_}
+use Prim.Native.Nat.{_+_, _-_, _≤_}
 use native.Mathlib.Omega.{arith}
 use mathlib.Core.Path.{_≡_}
-use lib.ListN.{length, getD}
+use lib.ListN.{length}
 use borrow.Author.Needs.{needs}
 use Rattle.distances.specs.Quickest.{noSum}
-use Rattle.searches.proofs.Starts.{agree-on, started-blank}
+use Rattle.searches.proofs.Starts.{FilledTo, fill-begin, fill-on, started-blank}
 use Rattle.sums.proofs.clear.Statement.{statement}
 use Rattle.sums.proofs.clear.Tie as tie
 
 abbrev Inv-loop : tie.InvT-loop
-Inv-loop d₀ n c₀ d c = (c ≤ n + 1) × (length d ≡ length d₀) × ((a : ℕ) → a < c → getD d a 0 ≡ noSum)
+Inv-loop d₀ n c₀ d c = (c ≤ n + 1) × (length d ≡ length d₀) × FilledTo noSum c d
 
 abbrev μ-loop : tie.MeasureT-loop
 μ-loop d₀ n c₀ d c = n + 1 - c
 
-loop-holds : tie.Need-loop-holds Inv-loop μ-loop
-loop-holds c = (search needs, search needs, λ a h. absurd (omega arith))
-
-loop-again : tie.Need-loop-again Inv-loop μ-loop
-loop-again c =
-    (search needs, search needs, agree-on (λ a. noSum) (c .before .loop .d) (c .before .loop .c) (omega arith) (c .before .loop .inv .2))
-
-returns : tie.Need-returns Inv-loop μ-loop
-returns c = started-blank _ _ _ _ (omega arith) (c .before .loop .inv .2)
-
 pub clear-spec : {M : Type 1} → statement M
 clear-spec =
     tie.close
-    (tie.spec Inv-loop μ-loop loop-holds (λ c. search needs) (λ c. search needs) (λ c. search needs) (λ c. search needs) loop-again
-    (λ c. search needs) returns)
+    (tie.spec Inv-loop μ-loop (λ c. (search needs, search needs, fill-begin _ _)) (λ c. search needs) (λ c. search needs) (λ c. search needs)
+    (λ c. search needs) (λ c. (search needs, search needs, fill-on (c .before .loop .inv .2) (omega arith))) (λ c. search needs)
+    (λ c. started-blank (c .before .loop .inv .2) (omega arith)))

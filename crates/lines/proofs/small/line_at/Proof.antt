@@ -16,20 +16,9 @@ Inv-loop text from row₀ n at₀ c₀ row at c =
 abbrev μ-loop : tie.MeasureT-loop
 μ-loop text from row₀ n at₀ c₀ row at c = n - c
 
-loop-holds : tie.Need-loop-holds Inv-loop μ-loop
-loop-holds c = search (line-begin, needs)
-
-returns : tie.Need-returns Inv-loop μ-loop
-returns c = search (line-bad, needs)
-
-loop-again : tie.Need-loop-again Inv-loop μ-loop
-loop-again c = (search needs, search needs, search (line-turn, needs))
-
-returns-2 : tie.Need-returns-2 Inv-loop μ-loop
-returns-2 c = search (line-end, needs)
-
 pub line-at-spec : {M : Type 1} → statement M
 line-at-spec =
     tie.close
-    (tie.spec Inv-loop μ-loop loop-holds (λ c κs. search needs) (λ c κs. search needs) (λ c. search needs) (λ c. search needs) (λ c. search needs)
-    returns (λ c. search needs) (λ c. search needs) (λ c. search needs) (λ c. search needs) loop-again (λ c. search needs) returns-2)
+    (tie.spec Inv-loop μ-loop (λ c. search (line-begin, needs)) (λ c κs. search needs) (λ c κs. search needs) (λ c. search needs) (λ c. search needs)
+    (λ c. search needs) (λ c. search (line-bad, needs)) (λ c. search needs) (λ c. search needs) (λ c. search needs) (λ c. search needs)
+    (λ c. (search needs, search needs, search (line-turn, needs))) (λ c. search needs) (λ c. search (line-end, needs)))

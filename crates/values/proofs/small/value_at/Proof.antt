@@ -19,44 +19,21 @@ Inv-loop text at end v₀ n₀ d₀ v n d =
 abbrev μ-loop : tie.MeasureT-loop
 μ-loop text at end v₀ n₀ d₀ v n d = length text - (at + n)
 
-returns : tie.Need-returns Inv-loop μ-loop
-returns c = search (value-none, needs)
-
-add-digit-at : tie.Need-add-digit-at Inv-loop μ-loop
-add-digit-at c = omega (arith, next-in _ _ _ (c .before .digit-at .ensures) (c .if1 .left))
-
-loop-holds : tie.Need-loop-holds Inv-loop μ-loop
-loop-holds c = (search (next-in, needs), search needs, search (tens-first, needs), search needs, search (value-begin, needs))
-
-returns-2 : tie.Need-returns-2 Inv-loop μ-loop
-returns-2 c = search (value-long, needs)
-
-mul-v : tie.Need-mul-v Inv-loop μ-loop
-mul-v c = let k = tens-few (c .before .before .loop .n) (c .before .before .loop .v) (search needs) (search needs) in omega arith
-
-add-v : tie.Need-add-v Inv-loop μ-loop
-add-v c = let k = tens-few (c .before .before .loop .n) (c .before .before .loop .v) (search needs) (search needs) in omega arith
-
-add-digit-at-2 : tie.Need-add-digit-at-2 Inv-loop μ-loop
-add-digit-at-2 c = search (more-in, needs)
-
-loop-less : tie.Need-loop-less Inv-loop μ-loop
-loop-less c = let t = c .before .before in less-in _ _ _ (t .before .loop .d) (t .before .loop .inv .3) (t .loop-test .taken)
-
+-- One digit more: t is the loop's test.
 loop-again : tie.Need-loop-again Inv-loop μ-loop
 loop-again c =
     let t = c .before .before in
     let m = more-in _ _ _ (t .before .loop .d) (t .before .loop .inv .3) (t .loop-test .taken) in
     (m, search needs, search (tens-more, needs), search needs, search (value-turn, needs))
 
-returns-3 : tie.Need-returns-3 Inv-loop μ-loop
-returns-3 c = search (value-big, needs)
-
-returns-4 : tie.Need-returns-4 Inv-loop μ-loop
-returns-4 c = search (value-done, needs)
-
 pub value-at-spec : {M : Type 1} → statement M
 value-at-spec =
     tie.close
-    (tie.spec Inv-loop μ-loop (λ c κs. search needs) returns add-digit-at (λ c κs. search needs) loop-holds returns-2 mul-v add-v
-    (λ c. search needs) add-digit-at-2 (λ c κs. search needs) loop-less loop-again returns-3 (λ c. search needs) (λ c κs. search needs) returns-4)
+    (tie.spec Inv-loop μ-loop (λ c κs. search needs) (λ c. search (value-none, needs))
+    (λ c. omega (arith, next-in _ _ _ (c .before .digit-at .ensures) (c .if1 .left))) (λ c κs. search needs)
+    (λ c. (search (next-in, needs), search needs, search (tens-first, needs), search needs, search (value-begin, needs)))
+    (λ c. search (value-long, needs)) (λ c. omega (arith, tens-few (c .before .before .loop .n) (c .before .before .loop .v) (search needs) (search needs)))
+    (λ c. omega (arith, tens-few (c .before .before .loop .n) (c .before .before .loop .v) (search needs) (search needs))) (λ c. search needs)
+    (λ c. search (more-in, needs)) (λ c κs. search needs)
+    (λ c. let t = c .before .before in less-in _ _ _ (t .before .loop .d) (t .before .loop .inv .3) (t .loop-test .taken)) loop-again
+    (λ c. search (value-big, needs)) (λ c. search needs) (λ c κs. search needs) (λ c. search (value-done, needs)))
