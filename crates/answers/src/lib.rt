@@ -2,6 +2,8 @@
 // a loaded show.
 //
 // `read_in`, `write_rows`, `locate_in`, `number_in`, `list_of`, `row_in`, `fewest_in`, `quickest_in`.
+#![tactic(auto)]
+
 ghost use Rattle.std.specs.Prelude.{◌≡◌, ◌≤◌, ◌<◌, length};
 ghost use Rattle.model.specs.Limits.{max_depth, work_size};
 ghost use Rattle.model.specs.Answers.{of_read, of_write, of_locate, of_number, of_list, of_row, of_fewest, of_quickest};

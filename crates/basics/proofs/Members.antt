@@ -64,6 +64,7 @@ flat_mem {A} {B} f y (x ∷ xs) i = go (λ j. flat_mem f y xs j) (Memᴰ.append_
 
 pub mem_flat : {A B : Type 0} (f : A → List B) {x : A} {y : B} {xs : List A} → Memᴰ x xs → Memᴰ y (f x) → Memᴰ y (flat_map f xs)
 unfolding flat_map
+mem_flat f {xs = []} i j = elim i [ ]
 mem_flat f {xs = z ∷ zs} (Memᴰ.head e) j = Memᴰ.append_left (flat_map f zs) (rw e at j)
 mem_flat f {xs = z ∷ zs} (Memᴰ.tail i) j = Memᴰ.append_right (f z) (mem_flat f i j)
 

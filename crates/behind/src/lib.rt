@@ -3,6 +3,8 @@
 //
 // A link joins two cues only in a copy where both are to be seen, as own cue or join: in the deeper of the two copies that own them, or in one below
 // it. `behind` begins there, with the two as cues of its block, and goes on from copy to copy, by the levels of `levels`, to the best row.
+#![tactic(auto)]
+
 ghost use Rattle.std.specs.Prelude.{◌≡◌, ◌+◌, ◌-◌, ◌≤◌, ◌<◌, length};
 ghost use Rattle.model.specs.Limits.{max_joins, max_blocks, max_rows, max_depth};
 ghost use Rattle.model.specs.Rows.{row_count};

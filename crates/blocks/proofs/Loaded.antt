@@ -1,23 +1,24 @@
 -- What the rows and the index of a loaded show say of its blocks.
-use Prim.Native.Nat.{ℕ, zero, suc, ◌+◌, ◌*◌, ◌-◌, ◌≤◌, ◌<◌}
+use Prim.Native.Nat.{ℕ, zero, suc, ◌+◌, ◌*◌, ◌-◌, ◌/◌, ◌%◌, ◌≤◌, ◌<◌}
 use native.Mathlib.Omega.{arith}
 use mathlib.Core.Path.{◌≡◌, refl, sym, ◌∙◌, ap}
 use mathlib.Core.Logic.{◌⊎◌, inl, inr}
-use mathlib.Core.List.{List, ◌∷◌, Memᴰ}
+use mathlib.Core.List.{List, [], ◌∷◌, ◌++◌, Memᴰ}
 use lib.ListN.{length, get_or}
 use lib.Seq.{get_or-take}
 use Rattle.model.specs.Limits.{row_size, max_rows, max_joins, max_own, max_blocks, max_total}
 use Rattle.model.specs.Rows.{cell, row_at, row_count}
 use Rattle.model.specs.Blocks.{Link, Use, Block, block_at, joins_of, own_of, total, blocks_of, last_block, count}
 use Rattle.shows.specs.Accepted.{Show}
+use Rattle.shows.specs.WellFormed.{GoodUse, GoodLink}
 use Rattle.shows.proofs.Accepted.{accepted-show}
 use Rattle.shows.proofs.AtBlock.{joins-small, own-small}
-use Rattle.shows.proofs.BlockAt.{good-at, lower-at, own_of_at}
-use Rattle.verdicts.specs.Index.{link_at, links_from, use_at, uses_from, block_from, joins_at, opening_at, links_end, uses_end, total_at, IndexedBlock}
-use Rattle.blocks.specs.Loaded.{Loaded, IsBlock, LinkRows, UseRows, column_at, LinkRow, UseRow}
+use Rattle.shows.proofs.BlockAt.{good-at, lower-at, joins_of-at, own_of_at}
+use Rattle.verdicts.specs.Index.{link_at, links_from, use_at, uses_from, block_from, IndexedBlock}
+use Rattle.blocks.specs.Loaded.{Loaded, IsBlock, IsRow, LinkRows, UseRows, column_at, LinkRow, UseRow}
 use Rattle.shows.proofs.LastRow.{last_row}
 
--- The links of rows: how many, the one of a row.
+-- The links of rows: how many, the one of a row, one more.
 pub links_from-length : (xs : List ℕ) (a n : ℕ) → length (links_from xs a n) ≡ n
 unfolding links_from
 links_from-length xs a zero = refl
@@ -50,6 +51,11 @@ unfolding uses_from
 uses_from-at xs bs a zero i d h = absurd (omega arith)
 uses_from-at xs bs a (suc n) zero d h = let e : a + 0 ≡ a = omega arith in rw e refl
 uses_from-at xs bs a (suc n) (suc i) d h = let e : a + suc i ≡ a + 1 + i = omega arith in rw e (uses_from-at xs bs (a + 1) n i d (omega arith))
+
+pub uses_from-snoc : (xs : List ℕ) (bs : List Block) (a n : ℕ) → uses_from xs bs a (suc n) ≡ uses_from xs bs a n ++ use_at xs bs (a + n) ∷ []
+unfolding uses_from
+uses_from-snoc xs bs a zero = let e : a + 0 ≡ a = omega arith in rw e refl
+uses_from-snoc xs bs a (suc n) = let e : a + suc n ≡ a + 1 + n = omega arith in rw e (ap (λ zs. use_at xs bs a ∷ zs) (uses_from-snoc xs bs (a + 1) n))
 
 pub uses_from-mem : (xs : List ℕ) (bs : List Block) (a n i : ℕ) → i < n → Memᴰ (use_at xs bs (a + i)) (uses_from xs bs a n)
 unfolding uses_from
@@ -110,12 +116,19 @@ module _ {xs t : List ℕ} (g : Loaded xs t) (k : ℕ) (h : IsBlock xs k) where
   pub block-few : k < max_blocks
   block-few = omega (arith, (loaded-show g).blocks)
 
-  opening-there : opening_at t k < row_count xs
-  opening-there = omega (arith, at.opens, at.links, at.ends)
+  first : 4 * k + 0 ≡ 4 * k
+  first = omega arith
 
-  own-cell : cell xs (opening_at t k) 3 ≡ own_of bs k
+  pub opening-there : get_or t (4 * k + 0) 0 < row_count xs
+  opening-there = rw first (omega (arith, at.opens, at.links, at.ends))
+
+  pub own-cell : cell xs (get_or t (4 * k + 0) 0) 3 ≡ own_of bs k
   unfolding block_from
-  own-cell = sym (own_of_at bs k ∙ ap (λ (b : Block). b.own) at.block)
+  own-cell = rw first (sym (own_of_at bs k ∙ ap (λ (b : Block). b.own) at.block))
+
+  pub joins-cell : cell xs (get_or t (4 * k + 0) 0) 2 ≡ joins_of bs k
+  unfolding block_from
+  joins-cell = rw first (sym (joins_of-at bs k ∙ ap (λ (b : Block). b.joins) at.block))
 
   pub own-few : own_of bs k ≤ max_own
   own-few = own-small k (loaded-show g).small
@@ -130,40 +143,46 @@ module _ {xs t : List ℕ} (g : Loaded xs t) (k : ℕ) (h : IsBlock xs k) where
   rows_few = (loaded-show g).rows.1
 
   -- As results of functions.
-  pub own_read : (a v : ℕ) → a ≡ opening_at t k → v ≡ cell xs a 3 → (v ≡ own_of bs k) × (v ≤ max_own)
-  own_read a v x z =
-      let r : v ≡ own_of bs k = z ∙ ap (λ n. cell xs n 3) x ∙ own-cell in
+  pub own_read : (a b v : ℕ) → a ≡ get_or t (4 * k + 0) 0 → b ≡ a → v ≡ cell xs b 3 → (v ≡ own_of bs k) × (v ≤ max_own)
+  own_read a b v x y z =
+      let r : v ≡ own_of bs k = z ∙ ap (λ n. cell xs n 3) (y ∙ x) ∙ own-cell in
       (r, omega (arith, own-few))
 
-  pub joins-read : (v : ℕ) → v ≡ joins_at t k → (v ≡ joins_of bs k) × (v ≤ max_joins)
-  joins-read v e = let r : v ≡ joins_of bs k = e ∙ at.joins in (r, omega (arith, joins-few))
+  pub joins-read : (a b c v : ℕ) → a ≡ get_or t (4 * k + 0) 0 → b ≡ a → c ≡ cell xs b 2 → v ≡ c → (v ≡ joins_of bs k) × (v ≤ max_joins)
+  joins-read a b c v x y z w =
+      let r : v ≡ joins_of bs k = w ∙ z ∙ ap (λ n. cell xs n 2) (y ∙ x) ∙ joins-cell in
+      (r, omega (arith, joins-few))
 
-  pub opening-read : (a : ℕ) → a ≡ opening_at t k → a < row_count xs
-  opening-read a x = omega (arith, opening-there)
+  pub opening-read : (a b : ℕ) → a ≡ get_or t (4 * k + 0) 0 → b ≡ a → b < row_count xs
+  opening-read a b x y = omega (arith, opening-there)
 
-  pub total-read : (v : ℕ) → v ≡ total_at t k → (v ≡ total bs k) × (v ≤ max_total)
+  pub total-read : (v : ℕ) → v ≡ get_or t (4 * k + 3) 0 → (v ≡ total bs k) × (v ≤ max_total)
   total-read v e = let r : v ≡ total bs k = e ∙ at.total in (r, omega (arith, total-few))
 
-  pub link-rows : (a c : ℕ) → a ≡ opening_at t k → c ≡ links_end t k → LinkRows xs k (a + 1) c
+  pub link-rows : (a b c d : ℕ) → a ≡ get_or t (4 * k + 0) 0 → b ≡ a → c ≡ get_or t (4 * k + 1) 0 → d ≡ c → LinkRows xs k (b + 1) d
   unfolding block_from
-  link-rows a c x z =
+  link-rows a b c d x y z w =
+      let p : b ≡ get_or t (4 * k) 0 = y ∙ x ∙ (rw first refl) in
+      let q : d ≡ get_or t (4 * k + 1) 0 = w ∙ z in
       record {
         opened = omega (arith, at.opening);
         order = omega (arith, at.opens);
         there = omega (arith, at.links, at.ends);
         few = omega (arith, at.links, at.ends, rows_few);
-        links = rw (x, z) (ap (λ (b : Block). b.links) at.block);
+        links = rw (p, q) (ap (λ (b : Block). b.links) at.block);
       }
 
-  pub use_rows : (a c : ℕ) → a ≡ links_end t k → c ≡ uses_end t k → UseRows xs t k a c
+  pub use_rows : (a b c d : ℕ) → a ≡ get_or t (4 * k + 1) 0 → b ≡ a → c ≡ get_or t (4 * k + 2) 0 → d ≡ c → UseRows xs t k b d
   unfolding block_from
-  use_rows a c x z =
+  use_rows a b c d x y z w =
+      let p : b ≡ get_or t (4 * k + 1) 0 = y ∙ x in
+      let q : d ≡ get_or t (4 * k + 2) 0 = w ∙ z in
       record {
-        begin = x;
+        begin = p;
         order = omega (arith, at.links);
         there = omega (arith, at.ends);
         few = omega (arith, at.ends, rows_few);
-        uses = rw (x, z) (ap (λ (b : Block). b.uses) at.block);
+        uses = rw (p, q) (ap (λ (b : Block). b.uses) at.block);
       }
 
   -- A row among those of the links, and of the uses.

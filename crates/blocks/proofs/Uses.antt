@@ -1,5 +1,5 @@
 -- The uses of a block, by their rows.
-use Prim.Native.Nat.{ℕ, ◌+◌, ◌-◌, ◌≤◌, ◌<◌}
+use Prim.Native.Nat.{ℕ, ◌+◌, ◌*◌, ◌-◌, ◌≤◌, ◌<◌}
 use native.Mathlib.Omega.{arith}
 use mathlib.Core.Path.{◌≡◌, refl, ◌∙◌, ap}
 use mathlib.Core.List.{List}
@@ -9,7 +9,7 @@ use Rattle.shows.specs.WellFormed.{Cue}
 use Rattle.shows.proofs.BlockAt.{joins_of-at, own_of_at}
 use Rattle.basics.specs.Members.{Apart}
 use Rattle.basics.proofs.Members.{get_d_mem}
-use Rattle.verdicts.specs.Index.{use_at, uses_end}
+use Rattle.verdicts.specs.Index.{use_at}
 use Rattle.blocks.specs.Loaded.{Loaded, IsBlock, uses_begin, UseRows, UseRow, column_at}
 use Rattle.blocks.proofs.Loaded.{use_rows, uses_from-length, uses_from-at}
 
@@ -26,8 +26,8 @@ module _ {xs t : List ℕ} {k a e : ℕ} (rows : UseRows xs t k a e) where
 -- The rows of the uses of a block, as the index has them.
 pub uses-of : {xs t : List ℕ} → Loaded xs t → (k : ℕ) → IsBlock xs k → UseRows xs t k (uses_begin t k) (uses_begin t k + length (block_at (blocks_of xs) k).uses)
 uses-of {xs} {t} g k h =
-    let rows : UseRows xs t k (uses_begin t k) (uses_end t k) = use_rows g k h _ _ refl refl in
-    let e : uses_begin t k + length (block_at (blocks_of xs) k).uses ≡ uses_end t k = omega (arith, use_rows_length rows, rows.order) in
+    let rows : UseRows xs t k (get_or t (4 * k + 1) 0) (get_or t (4 * k + 2) 0) = use_rows g k h _ _ _ _ refl refl refl refl in
+    let e : uses_begin t k + length (block_at (blocks_of xs) k).uses ≡ get_or t (4 * k + 2) 0 = omega (arith, use_rows_length rows, rows.order) in
     rw e rows
 
 -- The cues that a use names: those of its block, none twice.

@@ -1,5 +1,5 @@
 -- A loaded show, and the rows of its blocks. Rows are counted from 0 here.
-use Rattle.std.specs.Prelude.{ℕ, ◌+◌, ◌-◌, ◌≤◌, ◌<◌, ◌≡◌, length, get_or}
+use Rattle.std.specs.Prelude.{ℕ, ◌+◌, ◌*◌, ◌-◌, ◌≤◌, ◌<◌, ◌≡◌, length, get_or}
 use mathlib.Core.List.{List, Memᴰ}
 use Rattle.model.specs.Limits.{max_rows}
 use Rattle.model.specs.Rows.{cell, row_count}
@@ -8,7 +8,7 @@ use Rattle.model.specs.Verdicts.{verdict}
 use Rattle.model.specs.Behind.{opening_row}
 use Rattle.model.specs.declared.Verdict.TheVariants.{Accepted}
 use Rattle.shows.specs.WellFormed.{GoodUse, GoodLink}
-use Rattle.verdicts.specs.Index.{link_at, links_from, use_at, uses_from, links_end, Indexed}
+use Rattle.verdicts.specs.Index.{link_at, links_from, use_at, uses_from, Indexed}
 
 -- The rows xs are accepted, and t is the index of their blocks.
 pub record Loaded (xs t : List ℕ) : Type 0 where
@@ -24,7 +24,7 @@ IsRow xs r = r < row_count xs
 
 -- The row at which the uses of block k begin, as the index has it.
 abbrev pub uses_begin : List ℕ → ℕ → ℕ
-uses_begin t k = links_end t k
+uses_begin t k = get_or t (4 * k + 1) 0
 
 -- The rows from first on, before end, are those of block k's links; of its uses. Counted from 1, the row that opens the block is row first.
 pub record LinkRows (xs : List ℕ) (k first end : ℕ) : Type 0 where

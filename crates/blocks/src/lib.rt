@@ -3,8 +3,10 @@
 //
 // Of the show: `last`, `count`. Of a block: `own`, `joins`, `total`, `link_rows`, `use_rows`. Of a link's row: `from`, `to`, `label`. Of a
 // use's row: `used`, `column`, `join_at`, `size_of`. A `Place` is where a cue is, and `block_on` goes along the rows that lead there.
-ghost use Rattle.std.specs.Prelude.{◌≡◌, ◌≤◌, ◌<◌};
-ghost use Rattle.model.specs.Limits.{row_size, max_joins, max_own, max_total};
+#![tactic(auto)]
+
+ghost use Rattle.std.specs.Prelude.{◌≡◌, ◌+◌, ◌*◌, ◌-◌, ◌≤◌, ◌<◌, get_or};
+ghost use Rattle.model.specs.Limits.{row_size, max_joins, max_own, max_blocks, max_total};
 ghost use Rattle.model.specs.Rows.{cell, row_count};
 ghost use Rattle.model.specs.Blocks.{joins_of, own_of, total, blocks_of, last_block, count};
 ghost use Rattle.verdicts.specs.Index.{link_at, use_at};
@@ -18,6 +20,15 @@ pub const JOINS: usize = MAX_JOINS as usize;
 
 // The first value of a row that names a cue.
 const COLUMNS: usize = 3;
+
+// The numbers of a block in the index: its opening row, the first row behind its links, the first behind its uses, its total.
+const ENTRY: usize = verdicts::ENTRY;
+
+const USES: usize = 1;
+
+const END: usize = 2;
+
+const TOTAL: usize = 3;
 
 // The numbers of the whole index.
 pub const INDEX: usize = verdicts::INDEX;
@@ -54,6 +65,14 @@ fn value(xs: &[u32], r: usize, c: usize) -> u32
     xs[r * ROW_SIZE + c]
 }
 
+// Number c of block k in the index.
+fn entry(t: &[u32; INDEX], k: usize, c: usize) -> u32
+    requires { (k < max_blocks) × (c < 4) }
+    ensures { result ≡ get_or t.now (4 * k + c) 0 }
+{
+    t[ENTRY * k + c]
+}
+
 // The last block, which is the show: the block of the last row.
 pub fn last(xs: &[u32], t: &[u32; INDEX]) -> usize
     requires { Loaded xs.now t.now }
@@ -67,7 +86,7 @@ pub fn own(xs: &[u32], t: &[u32; INDEX], k: usize) -> u32
     requires { Loaded xs.now t.now × IsBlock xs.now k }
     ensures { (result ≡ own_of (blocks_of xs.now) k) × (result ≤ max_own) }
 {
-    value(xs, verdicts::opening_at(t, k), COLUMNS)
+    value(xs, wide(entry(t, k, 0)), COLUMNS)
 }
 
 // The joins of block k.
@@ -75,7 +94,7 @@ pub fn joins(xs: &[u32], t: &[u32; INDEX], k: usize) -> usize
     requires { Loaded xs.now t.now × IsBlock xs.now k }
     ensures { (result ≡ joins_of (blocks_of xs.now) k) × (result ≤ max_joins) }
 {
-    verdicts::joins_at(t, k)
+    wide(value(xs, wide(entry(t, k, 0)), 2))
 }
 
 // The total of block k.
@@ -83,7 +102,7 @@ pub fn total(xs: &[u32], t: &[u32; INDEX], k: usize) -> u32
     requires { Loaded xs.now t.now × IsBlock xs.now k }
     ensures { (result ≡ total (blocks_of xs.now) k) × (result ≤ max_total) }
 {
-    verdicts::total_at(t, k)
+    entry(t, k, TOTAL)
 }
 
 // The count of cues: the total of the show.
@@ -99,10 +118,10 @@ pub fn link_rows(xs: &[u32], t: &[u32; INDEX], k: usize) -> Rows
     requires { Loaded xs.now t.now × IsBlock xs.now k }
     ensures { LinkRows xs.now k result.first result.end }
 {
-    let opening = verdicts::opening_at(t, k);
+    let opening = wide(entry(t, k, 0));
     Rows {
         first: opening + 1,
-        end: verdicts::links_end(t, k),
+        end: wide(entry(t, k, USES)),
     }
 }
 
@@ -112,8 +131,8 @@ pub fn use_rows(xs: &[u32], t: &[u32; INDEX], k: usize) -> Rows
     ensures { UseRows xs.now t.now k result.first result.end }
 {
     Rows {
-        first: verdicts::links_end(t, k),
-        end: verdicts::uses_end(t, k),
+        first: wide(entry(t, k, USES)),
+        end: wide(entry(t, k, END)),
     }
 }
 

@@ -1,5 +1,7 @@
 // Checks the cases of documents 01 and 02 by the library, and random shows with the answers that a second tool gave.
 // A line for each case says ok or WRONG; the last line has the counts.
+#![tactic(auto)]
+
 mod asking;
 mod judging;
 mod lines;

@@ -1,4 +1,6 @@
 // The show file as bytes. Others call parse, which reads it to rows; measure and emit, which write it from rows; and put_bytes.
+#![tactic(auto)]
+
 ghost use Rattle.std.specs.Prelude.{◌≡◌, true, ◌+◌, ◌*◌, ◌-◌, ◌≤◌, ◌<◌, length, take, drop};
 ghost use Rattle.std.proofs.lemmas.List.Edits.{sets};
 ghost use Rattle.model.specs.Choice.{if_lt};

@@ -1,6 +1,6 @@
 -- The copies that the rows of a place lead to: which block each is a copy of, which part of the
 -- copy around it, and which of them have a cue.
-use Prim.Native.Nat.{ℕ, zero, suc, ◌+◌, ◌-◌, ◌≤◌, ◌<◌}
+use Prim.Native.Nat.{ℕ, zero, suc, ◌+◌, ◌*◌, ◌-◌, ◌≤◌, ◌<◌}
 use native.Mathlib.Omega.{arith}
 use native.Mathlib.Decide.{dec_lt}
 use mathlib.Core.Path.{◌≡◌, refl, sym, ◌∙◌, ap}
@@ -14,7 +14,7 @@ use Rattle.shows.proofs.Ranges.{part-use, cue_at-own}
 use Rattle.shows.proofs.BlockAt.{own_of_at}
 use Rattle.shows.proofs.Locality.{part-total, part-numbered, Under, itself, part_of, under_sound, show_sound}
 use Rattle.shows.proofs.Trails.{part-at_part, after-snoc, number-after, steps-after}
-use Rattle.verdicts.specs.Index.{use_at, uses_end}
+use Rattle.verdicts.specs.Index.{use_at}
 use Rattle.blocks.specs.Loaded.{Loaded, IsBlock, uses_begin, UseRows}
 use Rattle.blocks.specs.Places.{block_on, UsesTo, Takes, Found}
 use Rattle.blocks.specs.declared.Place.{Place}
@@ -55,8 +55,8 @@ module _ {xs t : List ℕ} (g : Loaded xs t) where
       → nth_use (block_at bs k).uses p ≡ use_at xs bs r
   unfolding nth_use
   use_of k p r h e low high =
-      let end : ℕ = uses_end t k in
-      let rows : UseRows xs t k (uses_begin t k) end = use_rows g k h (uses_begin t k) end refl refl in
+      let end : ℕ = get_or t (4 * k + 2) 0 in
+      let rows : UseRows xs t k (uses_begin t k) end = use_rows g k h _ (uses_begin t k) _ end refl refl refl refl in
       let n : length (block_at bs k).uses ≡ end - uses_begin t k =
       ap length rows.uses ∙ uses_from-length xs bs (uses_begin t k) (end - uses_begin t k) in
       let q : uses_begin t k + (p - 1) ≡ r = omega arith in

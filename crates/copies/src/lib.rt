@@ -2,6 +2,8 @@
 //
 // `descend` goes from the show along the rows of a place, use by use: a use gives the copy inside its block, the number that its cues
 // follow, and the cues that its joins meet.
+#![tactic(auto)]
+
 ghost use Rattle.std.specs.Prelude.{◌≡◌, ◌+◌, ◌≤◌};
 ghost use Rattle.model.specs.Limits.{max_joins, max_total};
 ghost use Rattle.model.specs.Unfolding.{cue_at};

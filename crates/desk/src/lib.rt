@@ -1,4 +1,6 @@
 // The blocks that come with the desk. Reading the second way calls fits, put_before and opens_first.
+#![tactic(auto)]
+
 mod built_in;
 
 ghost use Rattle.std.specs.Prelude.{◌≡◌, ◌+◌, ◌*◌, ◌≤◌, length};

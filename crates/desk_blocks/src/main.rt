@@ -1,4 +1,6 @@
 // Prints the table of the blocks that come with the desk, line by line as in a show file. It is no show by itself: its last block has joins.
+#![tactic(auto)]
+
 use plain_runs::DESK_BYTES;
 
 fn main() {

@@ -6,6 +6,8 @@
 //
 // Others call `summarise`, which fills the work area with the summaries of all blocks, `fewest`,
 // which answers the question, and `common`, which says how far two places have the same rows.
+#![tactic(auto)]
+
 ghost use Rattle.std.specs.Prelude.{◌≡◌, ◌+◌, ◌*◌, ◌≤◌, ◌<◌, ◌++◌, length, take, drop, replicate};
 ghost use Rattle.model.specs.Limits.{no_chain, max_depth, work_size, summary_size, summary_width};
 ghost use Rattle.model.specs.Blocks.{joins_of, blocks_of, count};

@@ -4,6 +4,8 @@
 //
 // Of one estimate: `improve`, `put`. Of the cues that a use's row names: `put_met`, `gather`. Of
 // all of them: `clear`. And `either`, of two tests.
+#![tactic(auto)]
+
 ghost use Rattle.std.specs.Prelude.{◌≡◌, ◌+◌, ◌≤◌, ◌<◌, ◌⊎◌, true, false, length};
 ghost use Rattle.model.specs.Limits.{no_chain};
 ghost use Rattle.searches.specs.Rounds.{orb, One, Round, Fell};

@@ -2,6 +2,8 @@
 // one block after another, without unfolding.
 //
 // `levels` makes the table for the blocks below one; `wins` says which of two levels is better.
+#![tactic(auto)]
+
 ghost use Rattle.std.specs.Prelude.{◌≡◌, ◌+◌, ◌<◌, replicate};
 ghost use Rattle.model.specs.Limits.{max_joins};
 ghost use Rattle.model.specs.Behind.{depth_wins};

@@ -1,5 +1,7 @@
 // Lines of values at a place of a text, and the line of names that a text starts with. Every kind of file has them so: how many values a line has, the
 // lent row says, and its names are lent too. Others call line_at and starts; small has line_at for small files.
+#![tactic(auto)]
+
 pub mod small;
 
 ghost use Rattle.std.specs.Prelude.{◌≡◌, ◌≤◌, ◌<◌, length, take, get_or};

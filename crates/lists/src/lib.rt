@@ -5,6 +5,8 @@
 // labels lo to hi lead to. Both go down to the copy that owns the cue, mark which of its cues are
 // linked to it, and walk the copies inside in the order of their numbers; records of `neighbours` say
 // which of them have a cue to give.
+#![tactic(auto)]
+
 ghost use Rattle.std.specs.Prelude.{◌≡◌, [], ◌∷◌, ◌+◌, ◌*◌, ◌-◌, ◌≤◌, ◌<◌, ◌/◌, min, length};
 ghost use Rattle.model.specs.Limits.{max_joins, max_own, max_total};
 ghost use Rattle.model.specs.Unfolding.{show_links};

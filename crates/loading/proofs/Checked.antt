@@ -12,7 +12,7 @@ use Rattle.model.specs.declared.Verdict.{Verdict}
 use Rattle.model.specs.declared.Verdict.TheVariants.{Accepted, Refused}
 use Rattle.shows.proofs.Outcomes.{on-yes, on-no}
 use Rattle.shows.proofs.RefusalPlaces.{place-few}
-use Rattle.verdicts.specs.Judging.{IsChecked}
+use Rattle.verdicts.specs.Passing.{IsChecked}
 use Rattle.blocks.specs.Loaded.{Loaded}
 use Rattle.loading.specs.Loads.{HasLoaded, Loads}
 use Rattle.loading.specs.declared.Loading.TheVariants.{Ready, Refused as Unloaded}

@@ -15,7 +15,7 @@ use Rattle.model.specs.declared.Verdict.{Verdict}
 use Rattle.model.specs.declared.Verdict.TheVariants.{Accepted, Refused}
 use Rattle.shows.proofs.DeskTable.{with_length, with_row}
 use Rattle.shows.proofs.Desk.{desk_length, own-place}
-use Rattle.verdicts.specs.Judging.{IsChecked}
+use Rattle.verdicts.specs.Passing.{IsChecked}
 use Rattle.desk.specs.Own.{opens_first, own_numbers}
 use Rattle.desk.proofs.Own.{first-yes, first-no}
 use Rattle.loading.specs.Loads.{Loads, BehindTable}

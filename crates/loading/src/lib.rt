@@ -1,5 +1,7 @@
 // The one loading step of a file: its lines are read to rows, the rows checked, and the index of their blocks made, all once. Others call `load`, and
 // `load_desk` for the second way of reading. (Rows that are lent are loaded by `verdicts::check`.)
+#![tactic(auto)]
+
 ghost use Rattle.std.specs.Prelude.{◌≡◌, ◌*◌, ◌≤◌, ◌<◌, length, replicate};
 ghost use Rattle.model.specs.Limits.{row_size, max_rows, desk_rows};
 ghost use Rattle.model.specs.Verdicts.{verdict, read_file, by_line, in_lines, numbers_of, file_verdict};

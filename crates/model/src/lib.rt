@@ -1,4 +1,6 @@
 // What the questions answer. Only types: their meaning stands in specs/, beginning with Answers.antt. And the limits, as numbers.
+#![tactic(auto)]
+
 pub mod limits;
 
 // A refusal by number, with its place: a line of the file, a row of the lent rows, or 0.

@@ -1,5 +1,5 @@
 -- Laws of marks: flags for the cues of a block.
-use Prim.Native.Nat.{ℕ, suc, ◌+◌, ◌/◌, ◌%◌, ◌-◌, ◌≤◌, ◌<◌}
+use Prim.Native.Nat.{ℕ, zero, suc, ◌+◌, ◌/◌, ◌%◌, ◌-◌, ◌≤◌, ◌<◌}
 use native.Mathlib.Omega.{arith}
 use native.Mathlib.Decide.{ℕ_discrete, dec_lt}
 use mathlib.Core.Path.{◌≡◌, refl, sym, ◌∙◌, ap}
@@ -15,7 +15,7 @@ use Rattle.shows.proofs.BlockAt.{own_of_at}
 use Rattle.basics.proofs.Choices.{lt_then, lt_else}
 use Rattle.verdicts.specs.Index.{link_at, links_from, use_at, uses_from}
 use Rattle.blocks.specs.Loaded.{LinkRows, UseRow, column_at, IsJoinAt}
-use Rattle.verdicts.proofs.Adding.{links-more, uses-more}
+use Rattle.blocks.proofs.Loaded.{uses_from-snoc}
 use Rattle.blocks.proofs.Meeting.{use_arity, use_column, use_meets, use_only, use_apart}
 use Rattle.neighbours.specs.declared.Ask.{Ask}
 use Rattle.neighbours.specs.Picks.{near_end, there, fits, IsLink, Picked}
@@ -214,6 +214,11 @@ module _ (xs : List ℕ) (q : Ask) (r own c : ℕ) (s : List ℕ) where
   link-no f label a b x = added_none s s refl (λ u k p. true≢false (sym p.label ∙ (rw (← a) (sym b ∙ x))))
 
 -- The links of rows.
+links_from-snoc : (xs : List ℕ) (a n : ℕ) → links_from xs a (suc n) ≡ links_from xs a n ++ link_at xs (a + n) ∷ []
+unfolding links_from
+links_from-snoc xs a zero = let e : a + 0 ≡ a = omega arith in rw e refl
+links_from-snoc xs a (suc n) = let e : a + suc n ≡ a + 1 + n = omega arith in rw e (ap (λ zs. link_at xs a ∷ zs) (links_from-snoc xs (a + 1) n))
+
 pub links-begin : (xs : List ℕ) (q : Ask) (a own c : ℕ) (s : List ℕ) → Added own (Picked q (links_from xs a (a - a)) c) s s
 unfolding links_from
 links-begin xs q a own c s =
@@ -229,7 +234,7 @@ module _ (xs : List ℕ) (q : Ask) (a own c r : ℕ) (s w v : List ℕ) where
       next =
           let e : r + 1 - a ≡ suc (r - a) = omega arith in
           let f : a + (r - a) ≡ r = omega arith in
-          rw (e, links-more xs a (r - a), f) refl
+          rw (e, links_from-snoc xs a (r - a), f) refl
 
       to : (u : ℕ) → Picked q (links_from xs a (r - a)) c u ⊎ IsLink q (link_at xs r) c u → Picked q (links_from xs a (r + 1 - a)) c u
       to u (inl p) = record { link = p.link; member = rw next (Memᴰ.append_left _ p.member); label = p.label; from = p.from; to = p.to }
@@ -362,7 +367,7 @@ module _ (xs m : List ℕ) (a own c : ℕ) (s : List ℕ) where
       next =
           let e : r + 1 - a ≡ suc (r - a) = omega arith in
           let f : a + (r - a) ≡ r = omega arith in
-          rw (e, uses-more xs (blocks_of xs) a (r - a), f) refl
+          rw (e, uses_from-snoc xs (blocks_of xs) a (r - a), f) refl
 
       still : (get_or v inside_at 0 ≡ 1 → ⊥) → (u : Use) → Memᴰ u (us (r - a)) ⊎ Memᴰ u (use_at xs (blocks_of xs) r ∷ []) → Quiet m c u
       still n u (inl i) = (x.quiet (λ f. n (y.added.stays f))).at u i

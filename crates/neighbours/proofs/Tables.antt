@@ -15,8 +15,7 @@ use Rattle.shows.proofs.BlockAt.{own_of_at}
 use Rattle.basics.proofs.Choices.{lt_then, lt_else}
 use Rattle.verdicts.specs.Index.{use_at, uses_from, links_from}
 use Rattle.blocks.specs.Loaded.{Loaded, LinkRows, UseRows, UseRow, IsJoinAt}
-use Rattle.verdicts.proofs.Adding.{uses-more}
-use Rattle.blocks.proofs.Loaded.{loaded-show}
+use Rattle.blocks.proofs.Loaded.{loaded-show, uses_from-snoc}
 use Rattle.blocks.proofs.Meeting.{use_arity, use_only, use_apart}
 use Rattle.neighbours.specs.declared.Ask.{Ask}
 use Rattle.neighbours.specs.Near.{Flag, Near, ByUses, UseMarked, UsesMarked, KnownOwn, Exact, Done, DoneUse, DoneUses, Table, RecordsKept, Copied, Settled, UseStep, UsesStep, MarksStep, RecordMade}
@@ -155,7 +154,7 @@ module _ (xs : List ℕ) (q : Ask) (a own c : ℕ) (m s : List ℕ) where
       next =
           let e : r + 1 - a ≡ suc (r - a) = omega arith in
           let f : a + (r - a) ≡ r = omega arith in
-          rw (e, uses-more xs (blocks_of xs) a (r - a), f) refl
+          rw (e, uses_from-snoc xs (blocks_of xs) a (r - a), f) refl
 
       go : (u : Use) → Memᴰ u (us (r - a)) ⊎ Memᴰ u (use_at xs (blocks_of xs) r ∷ []) → DoneUse m₂ c u
       go u (inl i) = (uses-kept y.kept x.done).at u i

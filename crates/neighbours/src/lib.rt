@@ -3,6 +3,8 @@
 //
 // `marks_of` marks the cues that a cue of a block is linked to, and makes the records that this
 // takes; `bit` is a bit of a record.
+#![tactic(auto)]
+
 ghost use Rattle.std.specs.Prelude.{◌≡◌, ◌+◌, ◌*◌, ◌-◌, ◌≤◌, ◌<◌, length, replicate};
 ghost use Rattle.model.specs.Limits.{max_joins, max_own};
 ghost use Rattle.model.specs.Rows.{row_count};

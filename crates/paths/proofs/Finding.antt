@@ -15,22 +15,17 @@ use Rattle.shows.specs.Numbering.{IsPlace}
 use Rattle.shows.proofs.Numbering.{numbering}
 use Rattle.verdicts.specs.Index.{use_at}
 use Rattle.blocks.specs.Loaded.{Loaded, IsBlock}
-use Rattle.blocks.specs.Places.{block_on, UsesTo, Takes, Along, Found}
+use Rattle.blocks.specs.Places.{block_on, Takes, Along, Found}
 use Rattle.blocks.specs.declared.Place.{Place}
 use Rattle.blocks.proofs.Loaded.{loaded-show}
-use Rattle.paths.specs.Locating.{place_of, in_copy, MayLocate, UseFrom, Descends, ends, goes, depth_in, own_in, Reached, Down, Positions}
-
--- The block l uses below block k, along the rows of these uses.
-unfoldable block_below : List ℕ → ℕ → List ℕ → ℕ → ℕ
-block_below xs k rows zero = k
-block_below xs k rows (suc l) = (use_at xs (blocks_of xs) (get_or rows l 0)).block
+use Rattle.paths.specs.Locating.{place_of, in_copy, MayLocate, UseFrom, Descends, ends, goes, block_below, Reached, Down, Positions}
 
 -- What is known of each level of the way down from block k.
 record Level (xs t : List ℕ) (k : ℕ) (rows path : List ℕ) (l : ℕ) : Type 0 where
   pub row : UseFrom xs t (block_below xs k rows l) (get_or rows l 0)
   pub takes : Takes t (block_below xs k rows l) (get_or path l 0) (get_or rows l 0)
 
-leads-level : {xs t : List ℕ} {b k : ℕ} (rows path : List ℕ) → Descends xs t b k rows path → (l : ℕ) → l < length path → Level xs t k rows path l
+leads-level : {xs t : List ℕ} {k : ℕ} (rows path : List ℕ) → Descends xs t k rows path → (l : ℕ) → l < length path → Level xs t k rows path l
 unfolding block_below
 leads-level [] [] ends l h = absurd (omega arith)
 leads-level (r ∷ rows) (p ∷ path) (goes u e s) zero h = record { row = u; takes = e }
@@ -39,15 +34,9 @@ leads-level (r ∷ rows) (p ∷ path) (goes u e s) (suc zero) h =
 leads-level (r ∷ rows) (p ∷ path) (goes u e s) (suc (suc l)) h =
     let y = leads-level rows path s (suc l) (omega arith) in record { row = y.row; takes = y.takes }
 
-leads-length : {xs t : List ℕ} {b k : ℕ} (rows path : List ℕ) → Descends xs t b k rows path → length rows ≡ length path
+leads-length : {xs t : List ℕ} {k : ℕ} (rows path : List ℕ) → Descends xs t k rows path → length rows ≡ length path
 leads-length [] [] ends = refl
 leads-length (r ∷ rows) (p ∷ path) (goes u e s) = ap suc (leads-length rows path s)
-
-leads-block : {xs t : List ℕ} {b k : ℕ} (rows path : List ℕ) → Descends xs t b k rows path → block_below xs k rows (length path) ≡ b
-unfolding block_below
-leads-block [] [] ends = refl
-leads-block (r ∷ rows) (p ∷ []) (goes u e s) = leads-block rows [] s
-leads-block (r ∷ rows) (p ∷ x ∷ path) (goes u e s) = leads-block rows (x ∷ path) s
 
 -- In a longer list.
 longer-block : (xs rows rest : List ℕ) (l : ℕ) → l ≤ length rows → block_below xs (last_block (blocks_of xs)) rows l ≡ block_on xs (rows ++ rest) l
@@ -70,25 +59,34 @@ show_asks {xs} k n g e h low high room =
       room = room;
     }
 
-module _ {xs t lent after : List ℕ} {k n end depth : ℕ} (p : Reached xs t k 0 (in_copy xs k n) lent end after) (ed : depth ≡ depth_in end)
-    (e : k ≡ last_block (blocks_of xs)) (g : Loaded xs t) (low : 1 ≤ n) (high : n ≤ count (blocks_of xs)) where
+module _ {xs t lent after : List ℕ} {k n depth block own : ℕ} (g : Loaded xs t) (low : 1 ≤ n) (high : n ≤ count (blocks_of xs))
+    (e : k ≡ last_block (blocks_of xs)) (p : Reached xs t k 0 (in_copy xs k n) lent depth block own after) where
   abbrev bs : List Block
   bs = blocks_of xs
 
   abbrev q : paths.Place
   q = paths.place_in bs (last_block bs) n
 
+  same : in_copy xs k n ≡ q
+  same = rw e refl
+
   placed : IsPlace bs n q
   placed = (numbering bs (loaded-show g).good).each n low high
 
-  leads : Descends xs t q.block (last_block bs) p.rows q.path
+  leads : Descends xs t (last_block bs) p.rows q.path
   leads = rw (← e) p.leads
 
   many : length p.rows ≡ length q.path
   many = leads-length p.rows q.path leads
 
   deep_is : depth ≡ length q.path
-  deep_is = rw (← e) (ed ∙ p.deep ∙ zero-add (length (in_copy xs k n).path))
+  deep_is = rw (← e) (p.deep ∙ zero-add (length (in_copy xs k n).path))
+
+  copy_is : block ≡ q.block
+  copy_is = rw (← e) p.copy
+
+  own_is : own ≡ q.own
+  own_is = rw (← e) p.cue
 
   after_is : after ≡ p.rows ++ drop (length p.rows) lent
   unfolding overwrite
@@ -122,24 +120,26 @@ module _ {xs t lent after : List ℕ} {k n end depth : ℕ} (p : Reached xs t k 
   pub reached-down : Down xs t after depth
   reached-down = record { deep = deep; long = omega (arith, deep_is, long); at = λ l h. row_at l (omega (arith, deep_is)) }
 
-  pub reached-uses : UsesTo xs after depth
-  reached-uses = rw deep_is along.uses
-
-  module _ {block own : ℕ} (eb : block ≡ block_on xs after depth) (eo : own ≡ own_in end) where
-    own_is : own ≡ q.own
-    own_is = rw (← e) (eo ∙ p.cue)
-
-    pub reached-found : Found xs t after (record { cue = n; depth = depth; block = block; own = own })
-    reached-found =
-        record { path = q.path; depth = deep_is; deep = deep; along = along; block = eb; number = rw own_is placed.number; some = low }
-
-    copy_is : block ≡ q.block
-    copy_is = eb ∙ rw deep_is (sym (block-is (length q.path) (omega arith)) ∙ leads-block p.rows q.path leads)
-
-    pub reached-place : record { cue = n; depth = depth; block = block; own = own } ≡ place_of n q
-    reached-place = rw (deep_is, copy_is, own_is) refl
+  pub reached-found : Found xs t after (record { cue = n; depth = depth; block = block; own = own })
+  reached-found =
+      record {
+        path = q.path;
+        depth = deep_is;
+        deep = deep;
+        along = along;
+        block =
+            p.end ∙ ap (λ (m : ℕ). block_below xs m p.rows (length p.rows)) e
+            ∙ ap (block_below xs (last_block bs) p.rows) many
+            ∙ block-is (length q.path) (omega arith)
+            ∙ ap (block_on xs after) (sym deep_is);
+        number = rw own_is placed.number;
+        some = low;
+      }
 
   -- Once the rows are positions, they are the path.
+  pub reached-place : record { cue = n; depth = depth; block = block; own = own } ≡ place_of n q
+  reached-place = rw (deep_is, copy_is, own_is) refl
+
   pub reached-path : (final : List ℕ) → Positions xs t after depth final → final ≡ overwrite q.path lent
   unfolding overwrite
   reached-path final s = ext_get_or 0 final (q.path ++ drop (length q.path) lent) size (λ i h. at i (dec_lt i (length q.path)))

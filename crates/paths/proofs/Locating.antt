@@ -1,5 +1,5 @@
 -- Cues that fall into uses, and the way down to the copy that owns one.
-use Prim.Native.Nat.{ℕ, suc, ◌+◌, ◌*◌, ◌-◌, ◌≤◌, ◌<◌}
+use Prim.Native.Nat.{ℕ, suc, ◌+◌, ◌-◌, ◌≤◌, ◌<◌}
 use native.Mathlib.Omega.{arith}
 use native.Mathlib.Nat.{add-zero}
 use native.Mathlib.Numerals.{add-one}
@@ -21,10 +21,10 @@ use Rattle.basics.proofs.Choices.{lt_then, lt_else}
 use Rattle.shows.proofs.BlockAt.{Lower, lower_skip, good-at, total-at, own_of_at}
 use Rattle.shows.proofs.AtBlock.{total-skip, block_at_hit, block_at_skip, place_in_hit, place_in_skip}
 use Rattle.verdicts.specs.Index.{use_at, uses_from}
-use Rattle.blocks.specs.Loaded.{Loaded, IsBlock, UseRows, IsRow, UseRow}
+use Rattle.blocks.specs.Loaded.{Loaded, IsBlock, UseRows, UseRow}
 use Rattle.blocks.specs.Places.{Takes}
 use Rattle.blocks.proofs.Loaded.{uses_from-next, loaded-show, use_row, used_block}
-use Rattle.paths.specs.Locating.{uses_of, cues_of, in_copy, in_uses, MayLocate, UseFrom, Descends, ends, goes, depth_in, own_in, Reached}
+use Rattle.paths.specs.Locating.{uses_of, cues_of, in_copy, in_uses, MayLocate, UseFrom, Descends, ends, goes, block_below, Reached}
 
 -- Where cue n of a copy of block k is, over all blocks: what a block means does not depend on the blocks behind which it stands.
 module _ (b : Block) (earlier : List Block) where
@@ -115,14 +115,8 @@ module _ {xs t : List ℕ} {k n first r rest : ℕ} (g : Loaded xs t) (h : IsBlo
   abbrev end : ℕ
   end = q.end
 
-  rest-row : UseRow xs k r
+  pub rest-row : UseRow xs k r
   rest-row = use_row g k h r q.rows q.from q.to
-
-  pub rest-there : IsRow xs r
-  rest-there = rest-row.there
-
-  pub rest-block : (u : ℕ) → u ≡ (use_at xs (blocks_of xs) r).block → IsBlock xs u
-  rest-block u = used_block u rest-row
 
   module _ (u s : ℕ) (eu : u ≡ (use_at xs (blocks_of xs) r).block) (es : s ≡ total (blocks_of xs) u) where
     placed : (below : ℕ → ℕ → paths.Place) → paths.uses_place (total (blocks_of xs)) below 1 n (uses_of xs k)
@@ -173,23 +167,25 @@ module _ {xs t lent : List ℕ} {k n depth : ℕ} (a : MayLocate xs t lent k (to
   whole = place_in_at (blocks_of xs) (loaded-show a.loaded).good k n a.block
 
   -- An own one: the way ends here.
-  pub copy-here : n ≤ own → (end : ℕ) → depth_in end ≡ depth → own_in end ≡ n → Reached xs t k depth (in_copy xs k n) lent end lent
-  unfolding overwrite
-  copy-here l end ed eo =
+  pub copy-here : n ≤ own → Reached xs t k depth (in_copy xs k n) lent depth k n lent
+  unfolding overwrite block_below
+  copy-here l =
       rw (whole ∙ lt_else (block_at (blocks_of xs) k).own n _ _ (rw own_is at l))
       (record {
-        deep = ed ∙ sym (add-zero depth);
-        cue = eo;
+        deep = sym (add-zero depth);
+        copy = refl;
+        cue = refl;
         rows = [];
         leads = ends;
+        end = refl;
         written = sym (take-append-drop depth lent);
       })
 
   -- A later one, which is cue m of the uses.
   module _ (m : ℕ) (em : m ≡ n - own) (l : own < n) where
-    pub copy-uses : (end : ℕ) (after : List ℕ) → Reached xs t k depth (in_uses xs k m) lent end after
-        → Reached xs t k depth (in_copy xs k n) lent end after
-    copy-uses end after p = rw (whole ∙ lt_then (block_at (blocks_of xs) k).own n _ _ (rw own_is at l)) (rw (em, own_is) at p)
+    pub copy-uses : (d b o : ℕ) (after : List ℕ) → Reached xs t k depth (in_uses xs k m) lent d b o after
+        → Reached xs t k depth (in_copy xs k n) lent d b o after
+    copy-uses d b o after p = rw (whole ∙ lt_then (block_at (blocks_of xs) k).own n _ _ (rw own_is at l)) (rw (em, own_is) at p)
 
     pub uses-asks : MayLocate xs t lent k (cues_of xs (uses_of xs k)) m depth
     uses-asks =
@@ -203,8 +199,14 @@ module _ {xs t lent : List ℕ} {k n depth : ℕ} (a : MayLocate xs t lent k (to
         }
 
 -- One step down.
-leads-named : {xs t : List ℕ} {b k m : ℕ} {rows path : List ℕ} → k ≡ m → Descends xs t b k rows path → Descends xs t b m rows path
+leads-named : {xs t : List ℕ} {k m : ℕ} {rows path : List ℕ} → k ≡ m → Descends xs t k rows path → Descends xs t m rows path
 leads-named e l = rw e at l
+
+below_step : (xs : List ℕ) (r block k : ℕ) (rows : List ℕ) → block ≡ (use_at xs (blocks_of xs) r).block
+    → block_below xs block rows (length rows) ≡ block_below xs k (r ∷ rows) (suc (length rows))
+unfolding block_below
+below_step xs r block k [] e = e
+below_step xs r block k (x ∷ rows) e = refl
 
 step-written : (depth r : ℕ) (rows lent : List ℕ) → depth < length lent
     → take (depth + 1) (set lent depth r) ++ overwrite rows (drop (depth + 1) (set lent depth r)) ≡ take depth lent ++ overwrite (r ∷ rows) (drop depth lent)
@@ -222,38 +224,37 @@ step-written depth r rows lent l =
     )
 
 module _ {xs t lent : List ℕ} {k n depth r block rest : ℕ} (a : MayLocate xs t lent k (cues_of xs (uses_of xs k)) n depth)
-    (f : Falls xs t k n r block rest) (now : List ℕ) (same : now ≡ lent) where
-  lower : block < k
-  lower = rw f.named f.row.row.lower
+    (f : Falls xs t k n r block rest) where
+  pub falls_lower : block < k
+  falls_lower = rw f.named f.row.row.lower
 
-  pub falls_less : (m : ℕ) → 2 * k ≡ m → 2 * block + 1 < m
-  falls_less m e = omega (arith, lower)
+  pub falls_room : depth < length lent
+  falls_room = omega (arith, a.short, a.room, falls_lower)
 
-  pub falls_room : depth < length now
-  falls_room = rw same (omega (arith, a.short, a.room, lower))
-
-  pub copy-asks : (v : ℕ) → MayLocate xs t (set now depth v) block (total (blocks_of xs) block) rest (depth + 1)
+  pub copy-asks : (v : ℕ) → MayLocate xs t (set lent depth v) block (total (blocks_of xs) block) rest (depth + 1)
   copy-asks v =
       record {
         loaded = a.loaded;
         block = used_block block f.row.row f.named;
         low = f.low;
         high = f.high;
-        short = omega (arith, a.short, lower);
-        room = rw (same, length-set) a.room;
+        short = omega (arith, a.short, falls_lower);
+        room = rw length-set a.room;
       }
 
-  pub uses-step : (v end : ℕ) (after : List ℕ) → v ≡ r
-      → Reached xs t block (depth + 1) (in_copy xs block rest) (set now depth v) end after → Reached xs t k depth (in_uses xs k n) lent end after
+  pub uses-step : (v d b o : ℕ) (after : List ℕ) → v ≡ r
+      → Reached xs t block (depth + 1) (in_copy xs block rest) (set lent depth v) d b o after → Reached xs t k depth (in_uses xs k n) lent d b o after
   unfolding paths.step_then
-  uses-step v end after e p =
+  uses-step v d b o after e p =
       rw (f.place (paths.place_in (blocks_of xs)))
       (record {
         deep = p.deep ∙ deeper (length (in_copy xs block rest).path);
+        copy = p.copy;
         cue = p.cue;
         rows = r ∷ p.rows;
         leads = goes f.row f.takes (leads-named f.named p.leads);
-        written = rw same at p.written ∙ rw e (step-written depth r p.rows lent (rw same at falls_room));
+        end = p.end ∙ below_step xs r block k p.rows f.named;
+        written = p.written ∙ rw e (step-written depth r p.rows lent falls_room);
       })
     where
       deeper : (m : ℕ) → depth + 1 + m ≡ depth + suc m

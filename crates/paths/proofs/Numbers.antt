@@ -76,8 +76,8 @@ module _ {xs t path : List ℕ} {k base done : ℕ} (a : MayNumber xs t path k (
       ∙ rw (add-one done, drop-cons path done 0 l, e, own_of_at (blocks_of xs) k)
       (sym (number_in_at (blocks_of xs) (loaded-show a.loaded).good k base (get_or path done 0 ∷ drop (suc done) path) c))
 
-  pub uses-asks : done < length path → (b : ℕ) → b ≤ base + own → MayNumber xs t path k (cues_of xs (uses_of xs k)) b (done + 1)
-  uses-asks l b h =
+  pub uses-asks : done < length path → MayNumber xs t path k (cues_of xs (uses_of xs k)) (base + own) (done + 1)
+  uses-asks l =
       record { loaded = a.loaded; block = a.block; fits = omega (arith, a.fits, copy-total a.loaded k); done = omega arith }
 
 -- A path that goes on into the p-th use of block k, whose uses stand in these rows.

@@ -1,5 +1,5 @@
 -- The way down to a cue: where a cue of a copy of a block is, and the rows of the uses that lead there.
-use Rattle.std.specs.Prelude.{ℕ, ◌+◌, ◌/◌, ◌%◌, ◌≤◌, ◌<◌, ◌≡◌, List, [], ◌∷◌, ◌++◌, length, get_or, take, drop}
+use Rattle.std.specs.Prelude.{ℕ, zero, suc, ◌+◌, ◌≤◌, ◌<◌, ◌≡◌, List, [], ◌∷◌, ◌++◌, length, get_or, take, drop}
 use Rattle.model.specs.Limits.{max_depth}
 use Rattle.model.specs.Blocks.{Use, block_at, sum_over, total, blocks_of}
 use Rattle.model.specs.Paths as paths
@@ -41,25 +41,25 @@ pub record UseFrom (xs t : List ℕ) (k r : ℕ) : Type 0 where
   pub row : UseRow xs k r
   pub from : uses_begin t k ≤ r
 
--- The rows of a list are those of the uses that a path takes from block k down to block b.
-pub data Descends (xs t : List ℕ) (b : ℕ) : ℕ → List ℕ → List ℕ → Type 0 where
-  ends : Descends xs t b b [] []
-  goes : {k r p : ℕ} {rows path : List ℕ} → UseFrom xs t k r → Takes t k p r → Descends xs t b (use_at xs (blocks_of xs) r).block rows path
-      → Descends xs t b k (r ∷ rows) (p ∷ path)
+-- The rows of a list are those of the uses that a path from block k takes.
+pub data Descends (xs t : List ℕ) : ℕ → List ℕ → List ℕ → Type 0 where
+  ends : {k : ℕ} → Descends xs t k [] []
+  goes : {k r p : ℕ} {rows path : List ℕ} → UseFrom xs t k r → Takes t k p r → Descends xs t (use_at xs (blocks_of xs) r).block rows path
+      → Descends xs t k (r ∷ rows) (p ∷ path)
 
--- Where a way down ends, in one number: the depth times 4294967296, and the own cue, which is less than that.
-abbrev pub depth_in : ℕ → ℕ
-depth_in end = end / 4294967296
-
-abbrev pub own_in : ℕ → ℕ
-own_in end = end % 4294967296
+-- The block l uses below block k, along the rows of these uses.
+unfoldable pub block_below : List ℕ → ℕ → List ℕ → ℕ → ℕ
+block_below xs k rows zero = k
+block_below xs k rows (suc l) = (use_at xs (blocks_of xs) (get_or rows l 0)).block
 
 -- What is answered of a place q in a copy of block k, and what the lent list holds afterwards, where so many of its rows are those before.
-pub record Reached (xs t : List ℕ) (k before : ℕ) (q : paths.Place) (lent : List ℕ) (end : ℕ) (after : List ℕ) : Type 0 where
-  pub deep : depth_in end ≡ before + length q.path
-  pub cue : own_in end ≡ q.own
+pub record Reached (xs t : List ℕ) (k before : ℕ) (q : paths.Place) (lent : List ℕ) (depth block own : ℕ) (after : List ℕ) : Type 0 where
+  pub deep : depth ≡ before + length q.path
+  pub copy : block ≡ q.block
+  pub cue : own ≡ q.own
   pub rows : List ℕ
-  pub leads : Descends xs t q.block k rows q.path
+  pub leads : Descends xs t k rows q.path
+  pub end : block ≡ block_below xs k rows (length rows)
   pub written : after ≡ take before lent ++ overwrite rows (drop before lent)
 
 -- The first rows of a list, so many of them, are those of uses on a way down from the show.

@@ -3,6 +3,8 @@
 //
 // `find` gives a cue's place with the rows of the uses that lead there, `locate` with the path, `number` the number of a path and an own
 // cue.
+#![tactic(auto)]
+
 ghost use Rattle.std.specs.Prelude.{◌≡◌, ◌+◌, ◌-◌, ◌≤◌, ◌<◌, length, get_or, drop};
 ghost use Rattle.model.specs.Limits.{max_total, max_depth};
 ghost use Rattle.model.specs.Blocks.{total, blocks_of, last_block, count};
@@ -11,36 +13,21 @@ ghost use Rattle.model.specs.Lists.{overwrite};
 ghost use Rattle.model.specs.Questions.{show_number};
 ghost use Rattle.blocks.specs.Loaded.{Loaded};
 ghost use Rattle.blocks.specs.Places.{Takes, Found};
-ghost use Rattle.paths.specs.Locating.{uses_of, cues_of, in_copy, in_uses, MayLocate, depth_in, own_in, Reached, place_of, UseFrom, Down, Positions};
+ghost use Rattle.paths.specs.Locating.{uses_of, cues_of, in_copy, in_uses, MayLocate, Reached, place_of, UseFrom, Down, Positions};
 ghost use Rattle.paths.specs.Numbering.{from_copy, from_uses, MayNumber};
 
 use blocks::{INDEX, Place, wide};
 use model::limits::MAX_DEPTH;
 
+// Where a way down ends: its depth, and the block and the own cue there.
+#[derive(Drop)]
+struct End {
+    depth: usize,
+    block: usize,
+    own: u32,
+}
+
 // Locating.
-
-// The numbers that 32 bits hold.
-const FIELD: u64 = 4294967296;
-
-// Where a way down ends, in one number, which each copy on the way passes on as it is: the depth above, and below it in 32 bits the own cue.
-fn end_of(depth: usize, own: u32) -> u64
-    requires { depth ≤ max_depth }
-    ensures { (depth_in result ≡ depth) × (own_in result ≡ own) }
-{
-    depth as u64 * FIELD + own as u64
-}
-
-fn depth_in(end: u64) -> usize
-    ensures { result ≡ depth_in end }
-{
-    (end / FIELD) as usize
-}
-
-fn own_in(end: u64) -> u32
-    ensures { result ≡ own_in end }
-{
-    (end % FIELD) as u32
-}
 
 // Cue n, which is none of the first cues, so many of them, counted from behind these.
 fn past(n: u32, many: u32) -> u32
@@ -59,13 +46,17 @@ fn locate_copy(
     n: u32,
     depth: usize,
     rows: &mut [u32],
-) -> u64
+) -> End
     requires { MayLocate xs.now t.now rows.old k (total (blocks_of xs.now) k) n depth }
-    ensures { Reached xs.now t.now k depth (in_copy xs.now k n) rows.old result rows.new }
+    ensures { Reached xs.now t.now k depth (in_copy xs.now k n) rows.old result.depth result.block result.own rows.new }
 {
     let own = blocks::own(xs, t, k);
     if n <= own {
-        return end_of(depth, n);
+        return End {
+            depth: depth,
+            block: k,
+            own: n,
+        };
     }
     locate_uses(xs, t, k, past(n, own), depth, rows)
 }
@@ -79,9 +70,9 @@ fn locate_uses(
     n: u32,
     depth: usize,
     rows: &mut [u32],
-) -> u64
+) -> End
     requires { MayLocate xs.now t.now rows.old k (cues_of xs.now (uses_of xs.now k)) n depth }
-    ensures { Reached xs.now t.now k depth (in_uses xs.now k n) rows.old result rows.new }
+    ensures { Reached xs.now t.now k depth (in_uses xs.now k n) rows.old result.depth result.block result.own rows.new }
 {
     let us = blocks::use_rows(xs, t, k);
     let mut r = us.first;
@@ -105,12 +96,11 @@ pub fn find(xs: &[u32], t: &[u32; INDEX], v: u32, rows: &mut [u32; MAX_DEPTH]) -
 {
     let last = blocks::last(xs, t);
     let end = locate_copy(xs, t, last, v, 0, rows);
-    let depth = depth_in(end);
     Place {
         cue: v,
-        depth: depth,
-        block: blocks::block_on(xs, t, rows, depth),
-        own: own_in(end),
+        depth: end.depth,
+        block: end.block,
+        own: end.own,
     }
 }
 
@@ -146,14 +136,12 @@ pub fn locate(xs: &[u32], t: &[u32; INDEX], n: u32, path: &mut [u32]) -> Place
 {
     let last = blocks::last(xs, t);
     let end = locate_copy(xs, t, last, n, 0, path);
-    let depth = depth_in(end);
-    let block = blocks::block_on(xs, t, path, depth);
-    positions(xs, t, depth, path);
+    positions(xs, t, end.depth, path);
     Place {
         cue: n,
-        depth: depth,
-        block: block,
-        own: own_in(end),
+        depth: end.depth,
+        block: end.block,
+        own: end.own,
     }
 }
 

@@ -1,4 +1,6 @@
 // The blocks that come with the desk, made from their description: the rows of one plain run after the other, and the file of them.
+#![tactic(auto)]
+
 ghost use Rattle.std.specs.Prelude.{◌≡◌, [], ◌∷◌, ◌+◌, ◌*◌, ◌<◌, ◌≤◌, length};
 ghost use Rattle.model.specs.Limits.{row_size, desk_blocks};
 ghost use Rattle.model.specs.Rows.{file_text};

@@ -1,5 +1,7 @@
 // What the unfolding program prints for a file, part by part: the lines of a show's links are made as they are wanted, from the table of
 // marks of one cue after the other.
+#![tactic(auto)]
+
 ghost use Rattle.std.specs.Prelude.{◌≡◌, false, ◌+◌, ◌*◌, ◌≤◌, length, replicate};
 ghost use Rattle.model.specs.Limits.{row_size, max_rows};
 ghost use Rattle.model.specs.Blocks.{blocks_of};

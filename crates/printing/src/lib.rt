@@ -1,4 +1,6 @@
 // The text that the unfolding program prints: numbers, lines and titles, put into lent bytes.
+#![tactic(auto)]
+
 ghost use Rattle.std.specs.Prelude.{◌≡◌, [], ◌∷◌, ◌++◌, ◌+◌, ◌≤◌, ◌<◌, ◌%◌, length};
 ghost use Rattle.model.specs.Printed.{number_text, values_text, links_title, cues_title, refusal_text};
 ghost use Rattle.codec.specs.Writing.{Puts};

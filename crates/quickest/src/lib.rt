@@ -4,6 +4,8 @@
 // block is kept in the work area only while the question is answered.
 //
 // Others call `quickest`.
+#![tactic(auto)]
+
 ghost use Rattle.std.specs.Prelude.{◌≡◌, ◌+◌, ◌*◌, ◌≤◌, ◌<◌, length, replicate};
 ghost use Rattle.model.specs.Limits.{max_depth, work_size, summary_width};
 ghost use Rattle.model.specs.Blocks.{joins_of, blocks_of, count};

@@ -3,6 +3,8 @@
 //
 // Others call `clear_block`, `settle` and `from_cue`. Up to `relax_use` this is about one use: two
 // cues edge by edge, more of them eight estimates at a time.
+#![tactic(auto)]
+
 ghost use Rattle.std.specs.Prelude.{◌≡◌, ◌+◌, ◌*◌, ◌≤◌, ◌<◌, ◌⊎◌, false, length};
 ghost use Rattle.model.specs.Limits.{no_chain, summary_size, summary_width};
 ghost use Rattle.model.specs.Blocks.{blocks_of, block_at};

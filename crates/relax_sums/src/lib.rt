@@ -5,6 +5,8 @@
 //
 // Others call `clear_block`, `settle` and `from_cue`. Up to `relax_use` this is about one use: two
 // or three cues edge by edge, more of them eight sums at a time.
+#![tactic(auto)]
+
 ghost use Rattle.std.specs.Prelude.{◌≡◌, ◌+◌, ◌*◌, ◌≤◌, ◌<◌, length, get_or};
 ghost use Rattle.model.specs.Limits.{summary_size, summary_width};
 ghost use Rattle.model.specs.Blocks.{blocks_of, block_at};

@@ -1,8 +1,8 @@
 -- The tests of the code are the model's checks 5 to 8 of the row.
 use Prim.Native.Nat.{ℕ, zero, suc, ◌+◌, ◌*◌, ◌-◌, ◌≤◌, ◌<◌}
 use native.Mathlib.Omega.{arith}
-use native.Mathlib.Decide.{ℕ_discrete}
-use mathlib.Core.Path.{◌≡◌, refl, sym, ◌∙◌, ap}
+use native.Mathlib.Decide.{ℕ_discrete, dec_lt}
+use mathlib.Core.Path.{◌≡◌, refl, sym, ◌∙◌, ap, ap₂}
 use mathlib.Core.Bool.{Bool, true, false, not, cond}
 use mathlib.Core.List.{List, [], ◌∷◌, ◌++◌}
 use lib.ListN.{length, get_or, take, drop}
@@ -31,14 +31,13 @@ use Rattle.model.specs.Rules.{
   in_order,
   fault,
 }
-use Rattle.basics.proofs.Choices.{lt_then, lt_else, eq_then, eq_else, true_then, true_else}
-use Rattle.rules.specs.Cells.{cells, use_below}
-use Rattle.rules.specs.Faults.{named_fault, open_fault, or_else, followed_fault}
-use Rattle.rules.proofs.Tests.{spelt, cells-spelt}
+use Rattle.basics.proofs.Choices.{lt_then, lt_else, eq_then, eq_else}
+use Rattle.rules.specs.Cells.{cells, key_below}
+use Rattle.rules.specs.Faults.{named_fault, open_fault, or_else, link_order, use_order, link_fault, use_fault, fault_of}
 
 -- A choice by a choice.
 module _ {A : Type 0} where
-  pub push_lt : (a b : ℕ) (t u : Bool) (x y : A) → if_true (if_lt a b t u) x y ≡ if_lt a b (if_true t x y) (if_true u x y)
+  push_lt : (a b : ℕ) (t u : Bool) (x y : A) → if_true (if_lt a b t u) x y ≡ if_lt a b (if_true t x y) (if_true u x y)
   unfolding if_lt if_true
   push_lt a b t u x y = go (ltb a b)
     where
@@ -46,7 +45,7 @@ module _ {A : Type 0} where
       go true = refl
       go false = refl
 
-  pub push_eq : (a b : ℕ) (t u : Bool) (x y : A) → if_true (if_eq a b t u) x y ≡ if_eq a b (if_true t x y) (if_true u x y)
+  push_eq : (a b : ℕ) (t u : Bool) (x y : A) → if_true (if_eq a b t u) x y ≡ if_eq a b (if_true t x y) (if_true u x y)
   unfolding if_eq if_true
   push_eq a b t u x y = go (eqb a b)
     where
@@ -54,25 +53,25 @@ module _ {A : Type 0} where
       go true = refl
       go false = refl
 
-  pub push_true : (c t u : Bool) (x y : A) → if_true (if_true c t u) x y ≡ if_true c (if_true t x y) (if_true u x y)
+  push_true : (c t u : Bool) (x y : A) → if_true (if_true c t u) x y ≡ if_true c (if_true t x y) (if_true u x y)
   unfolding if_true
   push_true true t u x y = refl
   push_true false t u x y = refl
 
-  pub push_not : (t : Bool) (x y : A) → if_true (not t) x y ≡ if_true t y x
+  push_not : (t : Bool) (x y : A) → if_true (not t) x y ≡ if_true t y x
   unfolding if_true
   push_not true x y = refl
   push_not false x y = refl
 
-  pub if_true_lem : (x y : A) → if_true true x y ≡ x
+  if_true_lem : (x y : A) → if_true true x y ≡ x
   unfolding if_true
   if_true_lem x y = refl
 
-  pub if_false : (x y : A) → if_true false x y ≡ y
+  if_false : (x y : A) → if_true false x y ≡ y
   unfolding if_true
   if_false x y = refl
 
-pub ruleset pushed = (push_lt, push_eq, push_true, push_not, if_true_lem, if_false)
+ruleset pushed = (push_lt, push_eq, push_true, push_not, if_true_lem, if_false)
 
 -- Checks 6 and 7, and then the next.
 checked : (x y z : Bool) (next : ℕ) → if_true x (if_true y (if_true z next 7) 6) 6 ≡ or_else (if_true x (if_true y (if_true z 0 7) 6) 6) next
@@ -83,9 +82,14 @@ checked true false z next = refl
 checked false y z next = refl
 
 -- The columns of a row by their places.
-columns-cells : (xs : List ℕ) (r : ℕ) → (row_at xs r).columns ≡ cells xs (r * row_size + 3) 8
-unfolding row_at cell spelt
-columns-cells xs r = sym (cells-spelt xs (r * row_size) 3 8)
+pub columns-cells : (xs : List ℕ) (r : ℕ) → (row_at xs r).columns ≡ cells xs (r * row_size + 3) 8
+unfolding row_at cell cells
+columns-cells xs r =
+    ap₂ ◌∷◌ refl (ap₂ ◌∷◌ (at _ _ (omega arith)) (ap₂ ◌∷◌ (at _ _ (omega arith)) (ap₂ ◌∷◌ (at _ _ (omega arith))
+    (ap₂ ◌∷◌ (at _ _ (omega arith)) (ap₂ ◌∷◌ (at _ _ (omega arith)) (ap₂ ◌∷◌ (at _ _ (omega arith)) (ap₂ ◌∷◌ (at _ _ (omega arith)) refl)))))))
+  where
+    at : (a b : ℕ) → a ≡ b → get_or xs a 0 ≡ get_or xs b 0
+    at a b e = ap (λ (k : ℕ). get_or xs k 0) e
 
 take_cells : (xs : List ℕ) (p n i : ℕ) → i ≤ n → take i (cells xs p n) ≡ cells xs p i
 unfolding cells
@@ -123,6 +127,10 @@ module _ (s : Seen) (xs : List ℕ) (r : ℕ) where
   unfolding row_at cell
   label-cell = refl
 
+  kind-cell : w.kind ≡ get_or xs (r * row_size + 1) 0
+  unfolding row_at cell
+  kind-cell = refl
+
   -- An opening names no cue and follows any row.
   open_order : (v : Row) → w.kind ≡ 0 → in_order v w ≡ true
   unfolding in_order
@@ -156,8 +164,7 @@ module _ (s : Seen) (xs : List ℕ) (r : ℕ) where
       (if_true (if_lt max_own (get_or w.columns 0 0) false true) (if_true true (every is_zero (cells xs (r * row_size + 3 + 1) (8 - 1))) false) false) false
   unfolding in_range label_fits own_fits every
   open_range q =
-      rw (eq_then w.kind 0 (if_lt max_joins w.label false true) _ q, open_named q, idle-cells 1 (omega arith) (open_used q))
-      (rw (eq_then w.kind 0 (if_lt max_own (get_or w.columns 0 0) false true) true q))
+      rw (eq_then w.kind 0 (if_lt max_joins w.label false true) _ q, eq_then w.kind 0 (if_lt max_own (get_or w.columns 0 0) false true) true q, open_named q, idle-cells 1 (omega arith) (open_used q))
 
   pub open_law : w.kind ≡ 0 → fault s w ≡ open_fault xs (r * row_size) (length s.joins)
   unfolding fault open_fault distinct row_at cell
@@ -166,21 +173,33 @@ module _ (s : Seen) (xs : List ℕ) (r : ℕ) where
       rw (open_follows q, open_range q, open_named q, open_order s.before q, e) (simp pushed)
 
   -- There is no other kind.
-  pub no_kind : (w.kind ≡ 0 → ⊥) → (w.kind ≡ 1 → ⊥) → (w.kind ≡ 2 → ⊥) → fault s w ≡ 5
+  no_kind : (w.kind ≡ 0 → ⊥) → (w.kind ≡ 1 → ⊥) → (w.kind ≡ 2 → ⊥) → fault s w ≡ 5
   unfolding fault may_follow
   no_kind a b c = rw (eq_else w.kind 0 _ _ a, eq_else w.kind 1 _ _ b, eq_else w.kind 2 _ _ c) (if_false _ 5)
 
-  -- Checks 6 and 7 of what a link or a use names, then check 8.
-  abbrev pub order : ℕ
-  order = if_true (in_order s.before w) 0 8
+  -- A link and a use belong to the current block.
+  goes_on_is : goes_on s w ≡ if_eq (get_or xs (r * row_size) 0 + 1) (length s.joins) true false
+  unfolding goes_on
+  goes_on_is = rw block-cell
 
-  named-law : (many : ℕ) → many ≤ 8 → (w.kind ≡ 0 → ⊥) → columns_used s w ≡ many
-      → if_true (in_range s w) (if_true (distinct (named s w)) order 7) 6
-      ≡ if_true (label_fits w) (or_else (named_fault xs (r * row_size) many (cues_in s)) order) 6
+  -- What belongs to a block that is there.
+  module _ (blocks k x : ℕ) where
+    guarded : if_lt k blocks (if_eq (k + 1) blocks x 5) 5 ≡ if_eq (k + 1) blocks x 5
+    guarded = go (dec_lt k blocks)
+      where
+        go : Dec (k < blocks) → if_lt k blocks (if_eq (k + 1) blocks x 5) 5 ≡ if_eq (k + 1) blocks x 5
+        go (yes h) = lt_then _ _ _ _ h
+        go (no h) = lt_else _ _ _ _ (omega arith) ∙ sym (eq_else _ _ _ _ (λ e. omega arith))
+
+  -- Checks 6 and 7 of what a link or a use names, then check 8.
+  named-law : (many cues : ℕ) (t o : Bool) (next : ℕ) → many ≤ 8 → (w.kind ≡ 0 → ⊥) → columns_used s w ≡ many → cues ≡ cues_in s
+      → label_fits w ≡ t → in_order s.before w ≡ o → if_true o 0 8 ≡ next
+      → if_true (in_range s w) (if_true (distinct (named s w)) (if_true (in_order s.before w) 0 8) 7) 6
+      ≡ if_true t (or_else (named_fault xs (r * row_size) many cues) next) 6
   unfolding in_range own_fits named_fault
-  named-law many h n e =
-      rw (eq_else w.kind 0 _ true n, named-cells many h n e, idle-cells many h e)
-      (simp pushed (ap (λ (y : ℕ). if_true (label_fits w) y 6) (checked (every (is_cue (cues_in s)) a) (every is_zero b) (distinct a) order)))
+  named-law many cues t o next h n e c l i f =
+      rw (l, eq_else w.kind 0 _ true n, named-cells many h n e, idle-cells many h e, c, i, f)
+      (simp pushed (ap (λ (y : ℕ). if_true t y 6) (checked (every (is_cue (cues_in s)) a) (every is_zero b) (distinct a) next)))
     where
       a : List ℕ
       a = cells xs (r * row_size + 3) many
@@ -212,72 +231,67 @@ module _ (s : Seen) (xs : List ℕ) (r : ℕ) where
   unfolding may_follow
   use_follows q = eq_else _ _ _ _ (λ e. omega arith) ∙ eq_else _ _ _ _ (λ e. omega arith) ∙ eq_then _ _ _ _ q
 
-  -- No link stands behind a use.
-  pub late_link : w.kind ≡ 1 → 2 ≤ s.before.kind → fault s w ≡ 5
-  unfolding fault if_true
-  late_link q h = rw (link-follows q, lt_else s.before.kind 2 true false h) (go (goes_on s w) _)
-    where
-      go : (t : Bool) (x : ℕ) → if_true (if_true t false false) x 5 ≡ 5
-      go true x = refl
-      go false x = refl
+  -- The order of the row and the one before it, which stands at row q.
+  module _ (p : ℕ) (same : (s.before.kind ≡ 0 → ⊥) → s.before ≡ row_at xs p) where
+    link-key : (v : ℕ) → link_key (row_at xs v) ≡ cells xs (v * row_size + 3) 2 ++ (get_or xs (v * row_size + 2) 0 ∷ [])
+    unfolding link_key row_at cell
+    link-key v = ap (λ (l : List ℕ). take 2 l ++ (get_or xs (v * row_size + 2) 0 ∷ [])) (columns-cells xs v) ∙ ap (λ (l : List ℕ). l ++ (get_or xs (v * row_size + 2) 0 ∷ [])) (take_cells xs (v * row_size + 3) 8 2 (omega arith))
 
-  -- Check 8 is for a row behind one of its own kind.
-  pub order_other : (w.kind ≡ s.before.kind → ⊥) → order ≡ 0
-  unfolding in_order
-  order_other n = rw (eq_else w.kind s.before.kind _ true n) (if_true_lem 0 8)
+    use_key_lem : (v : ℕ) → use_key (row_at xs v) ≡ cells xs (v * row_size + 3) 8 ++ (get_or xs (v * row_size + 2) 0 ∷ [])
+    unfolding use_key row_at cell
+    use_key_lem v = ap (λ (l : List ℕ). l ++ (get_or xs (v * row_size + 2) 0 ∷ [])) (columns-cells xs v)
 
-  use_key_lem : (v : ℕ) → use_key (row_at xs v) ≡ cells xs (v * row_size + 3) 8 ++ (get_or xs (v * row_size + 2) 0 ∷ [])
-  unfolding use_key row_at cell
-  use_key_lem v = ap (λ (l : List ℕ). l ++ (get_or xs (v * row_size + 2) 0 ∷ [])) (columns-cells xs v)
-
-  order-use : w.kind ≡ 2 → s.before.kind ≡ 2 → 1 ≤ r → s.before ≡ row_at xs (r - 1)
-      → order ≡ if_true (use_below xs (r * row_size) (r * row_size - row_size)) 8 0
-  unfolding in_order use_below
-  order-use q e l b =
-      let v : r * row_size - row_size ≡ (r - 1) * row_size = omega arith in
-      rw (eq_then w.kind s.before.kind _ true (q ∙ sym e), eq_else w.kind 1 _ _ (λ z. omega arith), eq_then w.kind 2 _ _ q)
-      (rw (v, b, use_key_lem (r - 1), use_key_lem r) (push_not _ 0 8))
-
-  -- A link and a use of block k, the current one.
-  module _ (k cues : ℕ) (count : length s.joins ≡ k + 1) (has : cues_in s ≡ cues) where
-    goes_on_is : goes_on s w ≡ if_eq (get_or xs (r * row_size) 0) k true false
-    unfolding goes_on
-    goes_on_is = rw (block-cell, count) (go (ℕ_discrete (get_or xs (r * row_size) 0) k))
+    link-ordered : w.kind ≡ 1 → if_true (in_order s.before w) 0 8 ≡ link_order xs (r * row_size) (p * row_size) s.before.kind
+    unfolding link_order in_order key_below
+    link-ordered q = go (ℕ_discrete s.before.kind 1)
       where
-        go : Dec (get_or xs (r * row_size) 0 ≡ k) → if_eq (get_or xs (r * row_size) 0 + 1) (k + 1) true false ≡ if_eq (get_or xs (r * row_size) 0) k true false
-        go (yes e) = eq_then _ _ _ _ (omega arith) ∙ sym (eq_then _ _ _ _ e)
-        go (no n) = eq_else _ _ _ _ (λ e. n (omega arith)) ∙ sym (eq_else _ _ _ _ n)
+        go : Dec (s.before.kind ≡ 1) → if_true (in_order s.before w) 0 8 ≡ link_order xs (r * row_size) (p * row_size) s.before.kind
+        go (yes e) =
+            let b : s.before ≡ row_at xs p = same (λ z. omega arith) in
+            rw (eq_then w.kind s.before.kind _ _ (q ∙ sym e), eq_then w.kind 1 _ _ q, eq_then s.before.kind 1 _ _ e, b, link-key p, link-key r)
+        go (no n) =
+            rw (eq_else w.kind s.before.kind _ _ (λ z. n (sym z ∙ q)), eq_else s.before.kind 1 _ _ n) (if_true_lem 0 8)
 
-    pub link-law : w.kind ≡ 1 → s.before.kind < 2
-        → fault s w
-        ≡ if_eq (get_or xs (r * row_size) 0) k
-        (if_lt (get_or xs (r * row_size + 2) 0) 1 6
-        (if_lt max_label (get_or xs (r * row_size + 2) 0) 6 (or_else (named_fault xs (r * row_size) 2 cues) order))) 5
-    unfolding fault
-    link-law q h =
-        rw (named-law 2 (omega arith) (λ e. omega arith) (link-used q), link-label q, link-follows q, goes_on_is, has, label-cell)
-        (rw (lt_then s.before.kind 2 true false h) (simp pushed))
+    use_ordered : w.kind ≡ 2 → if_true (in_order s.before w) 0 8 ≡ use_order xs (r * row_size) (p * row_size) s.before.kind
+    unfolding use_order in_order key_below
+    use_ordered q = go (ℕ_discrete s.before.kind 2)
+      where
+        go : Dec (s.before.kind ≡ 2) → if_true (in_order s.before w) 0 8 ≡ use_order xs (r * row_size) (p * row_size) s.before.kind
+        go (yes e) =
+            let b : s.before ≡ row_at xs p = same (λ z. omega arith) in
+            rw (eq_then w.kind s.before.kind _ _ (q ∙ sym e), eq_else w.kind 1 _ _ (λ z. omega arith), eq_then w.kind 2 _ _ q, eq_then s.before.kind 2 _ _ e, b, use_key_lem p, use_key_lem r)
+            (push_not _ 0 8)
+        go (no n) =
+            rw (eq_else w.kind s.before.kind _ _ (λ z. n (sym z ∙ q)), eq_else s.before.kind 2 _ _ n) (if_true_lem 0 8)
 
-    module _ (many : ℕ) (few : many ≤ 8) (joins : many ≡ get_or s.joins (get_or xs (r * row_size + 2) 0) 0) (q : w.kind ≡ 2) where
-      abbrev within : ℕ → ℕ
-      within x = if_eq (get_or xs (r * row_size) 0) k (if_lt (get_or xs (r * row_size + 2) 0) (get_or xs (r * row_size) 0) x 6) 5
+    link-law : w.kind ≡ 1 → fault s w ≡ link_fault xs (r * row_size) (p * row_size) (length s.joins) (cues_in s) s.before.kind
+    unfolding fault link_fault
+    link-law q =
+        rw (guarded (length s.joins) (get_or xs (r * row_size) 0) _, link-follows q, goes_on_is, named-law 2 (cues_in s) _ _ _ (omega arith) (λ e. omega arith) (link-used q) refl (link-label q) refl (link-ordered q))
+        (simp pushed (rw label-cell refl))
 
-      use_law : fault s w ≡ within (or_else (named_fault xs (r * row_size) many cues) order)
-      unfolding fault
-      use_law =
-          let used : columns_used s w ≡ many = use_used q ∙ ap (λ (i : ℕ). get_or s.joins i 0) label-cell ∙ sym joins in
-          rw (named-law many few (λ e. omega arith) used, use_label q, use_follows q, goes_on_is, has, label-cell, block-cell)
-          (simp pushed)
+    use_law : (many : ℕ) → many ≤ 8 → many ≡ get_or s.joins w.label 0 → w.kind ≡ 2
+        → fault s w ≡ use_fault xs (r * row_size) (p * row_size) (length s.joins) (cues_in s) s.before.kind many
+    unfolding fault use_fault
+    use_law many h m q =
+        rw (guarded (length s.joins) (get_or xs (r * row_size) 0) _, use_follows q, goes_on_is, named-law many (cues_in s) _ _ _ h (λ e. omega arith) (use_used q ∙ sym m) refl (use_label q) refl (use_ordered q))
+        (simp pushed (rw (label-cell, block-cell) refl))
 
-      -- By whether it follows another use.
-      use_ordered : (follows : Bool) → order ≡ if_true follows (if_true (use_below xs (r * row_size) (r * row_size - row_size)) 8 0) 0
-          → fault s w ≡ within (followed_fault xs (r * row_size) many cues follows)
-      unfolding followed_fault
-      use_ordered follows e = use_law ∙ ap (λ (o : ℕ). within (or_else (named_fault xs (r * row_size) many cues) o)) e
+    -- The law: what the code finds is what the model's checks 5 to 8 say of the row.
+    pub fault-law : (many : ℕ) → many ≤ 8 → (w.kind ≡ 2 → many ≡ get_or s.joins w.label 0)
+        → fault_of xs (r * row_size) (p * row_size) (length s.joins) (cues_in s) s.before.kind many ≡ fault s w
+    unfolding fault_of
+    fault-law many h m = rw (← kind-cell) (go (ℕ_discrete w.kind 0) (ℕ_discrete w.kind 1) (ℕ_discrete w.kind 2))
+      where
+        Goal : Type 0
+        Goal =
+            if_eq w.kind 0 (open_fault xs (r * row_size) (length s.joins))
+            (if_eq w.kind 1 (link_fault xs (r * row_size) (p * row_size) (length s.joins) (cues_in s) s.before.kind)
+            (if_eq w.kind 2 (use_fault xs (r * row_size) (p * row_size) (length s.joins) (cues_in s) s.before.kind many) 5))
+            ≡ fault s w
 
-      pub use_first : (follows : Bool) → follows ≡ false → s.before.kind < 2 → fault s w ≡ within (followed_fault xs (r * row_size) many cues follows)
-      use_first follows f h = use_ordered follows (order_other (λ e. omega arith) ∙ sym (true_else follows _ 0 f))
-
-      pub use_next : (follows : Bool) → follows ≡ true → 1 ≤ r → s.before ≡ row_at xs (r - 1) → s.before.kind ≡ 2
-          → fault s w ≡ within (followed_fault xs (r * row_size) many cues follows)
-      use_next follows f l b e = use_ordered follows (order-use q e l b ∙ sym (true_then follows _ 0 f))
+        go : Dec (w.kind ≡ 0) → Dec (w.kind ≡ 1) → Dec (w.kind ≡ 2) → Goal
+        go (yes a) b c = eq_then _ _ _ _ a ∙ sym (open_law a)
+        go (no a) (yes b) c = eq_else _ _ _ _ a ∙ eq_then _ _ _ _ b ∙ sym (link-law b)
+        go (no a) (no b) (yes c) = eq_else _ _ _ _ a ∙ eq_else _ _ _ _ b ∙ eq_then _ _ _ _ c ∙ sym (use_law many h (m c) c)
+        go (no a) (no b) (no c) = eq_else _ _ _ _ a ∙ eq_else _ _ _ _ b ∙ eq_else _ _ _ _ c ∙ sym (no_kind a b c)

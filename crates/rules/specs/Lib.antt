@@ -1,3 +1,2 @@
 pub mod Cells
-pub mod Fine
 pub mod Faults

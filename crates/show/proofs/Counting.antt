@@ -8,7 +8,7 @@ use Rattle.model.specs.Questions.{count_asked}
 use Rattle.model.specs.declared.Verdict.{Verdict}
 use Rattle.model.specs.declared.Verdict.TheVariants.{Accepted}
 use Rattle.model.specs.declared.CountAnswer.TheVariants.{Cues}
-use Rattle.verdicts.specs.Judging.{IsChecked}
+use Rattle.verdicts.specs.Passing.{IsChecked}
 use Rattle.loading.proofs.Checked.{asked_yes}
 
 pub count_yes : (xs t : List ℕ) (v : Verdict) (c : IsChecked xs t v) (n : ℕ) → v ≡ Accepted → n ≡ count (blocks_of xs) → of_count (Cues n) ≡ count_asked xs

@@ -9,7 +9,7 @@ use Rattle.model.specs.declared.Refusal.{Refusal}
 use Rattle.model.specs.declared.Verdict.{Verdict}
 use Rattle.model.specs.declared.Verdict.TheVariants.{Refused}
 use Rattle.model.specs.declared.QuickestAnswer.TheVariants.{Refused as Untimed}
-use Rattle.verdicts.specs.Judging.{IsChecked}
+use Rattle.verdicts.specs.Passing.{IsChecked}
 use Rattle.loading.proofs.Checked.{asked_no}
 
 pub quickest-no : (xs table : List ℕ) (v : Verdict) (c : IsChecked xs table v) (s t : ℕ) (file work : List ℕ) (f : Refusal) (p : ℕ) → v ≡ Refused f

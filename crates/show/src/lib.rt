@@ -1,6 +1,8 @@
 // The show library: every question of documents 01 and 02, for all bytes, rows, numbers and lent buffers. Each promise is an equation with the
 // model's definition of the question: what is returned, in document 01's numbers, and what the lent list that is written holds
 // afterwards, refused calls included. What is lent to be read stays as it was.
+#![tactic(auto)]
+
 ghost use Rattle.std.specs.Prelude.{◌≡◌};
 ghost use Rattle.model.specs.Answers.{of_list};
 ghost use Rattle.model.specs.Questions.{outcome};

@@ -1,5 +1,7 @@
 // The show library for C and Rust. Numbers pass as themselves, and a slice as a pointer and a length in elements. Each function returns 0
 // for an answer, whose values then stand first in `given`, or the refusal's number and place. The promises are those of the library.
+#![tactic(auto)]
+
 ghost use Rattle.std.specs.Prelude.{◌≡◌, [], ◌∷◌, ◌+◌, ◌*◌, ◌/◌, ◌%◌, ◌≤◌, ◌<◌, min, length};
 ghost use Rattle.model.specs.Lists.{overwrite};
 ghost use Rattle.model.specs.Answers.{flag, of_read, of_list};

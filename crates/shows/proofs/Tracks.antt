@@ -58,7 +58,7 @@ unfolding start
 tracks_start = record { count = refl; joins = λ k. sym (joins-beyond [] k (omega arith)); own = refl; good = none; small = small-none; few = omega arith }
 
 -- The cues of the current block.
-pub cues-now : (s : Seen) (b : Block) (earlier : List Block) → Tracks s (b ∷ earlier) → cues_in s ≡ b.own + b.joins
+cues-now : (s : Seen) (b : Block) (earlier : List Block) → Tracks s (b ∷ earlier) → cues_in s ≡ b.own + b.joins
 unfolding cues_in
 cues-now s b earlier t =
     let e : length s.joins - 1 ≡ length earlier = omega (arith, t.count) in

@@ -4,6 +4,8 @@
 //
 // Of one sum: `lesser`, `sum_of`, `improve`, `put`. Of the cues that a use's row names: `put_met`,
 // `gather`. Of all of them: `clear`.
+#![tactic(auto)]
+
 ghost use Rattle.std.specs.Prelude.{◌≡◌, ◌+◌, ◌≤◌, ◌<◌, ◌⊎◌, true, false, length};
 ghost use Rattle.distances.specs.Quickest.{no_sum};
 ghost use Rattle.searches.specs.Rounds.{One, Round, Fell};

@@ -1,5 +1,7 @@
 // The links from one cue as a table of marks, without unfolding: for the program that prints them.
 // `mark_cue` makes it.
+#![tactic(auto)]
+
 ghost use Rattle.std.specs.Prelude.{◌≡◌, ◌+◌, ◌≤◌, ◌<◌, length, take};
 ghost use Rattle.model.specs.Limits.{printed_cues};
 ghost use Rattle.model.specs.Blocks.{blocks_of, count};

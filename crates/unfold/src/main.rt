@@ -1,4 +1,6 @@
 // The unfolding program: reads a show file from standard input and prints its links, or how many cues it has, or why it is refused.
+#![tactic(auto)]
+
 ghost use Rattle.printed.specs.Parts.{Prints};
 
 use blocks::INDEX;

@@ -1,5 +1,7 @@
 // A value at a place of a text, with the byte that ends it: up to five digits, with zeros in front or not, and no more than 65,535. Every kind of file
 // has its values so, and nothing here knows of show files. Others call value_at; small has it for small files.
+#![tactic(auto)]
+
 pub mod small;
 
 ghost use Rattle.std.specs.Prelude.{◌≡◌};

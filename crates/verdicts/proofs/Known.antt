@@ -1,23 +1,22 @@
--- What is known after the first rows, as long as none has a fault.
-use Prim.Native.Nat.{ℕ, zero, suc, ◌+◌, ◌-◌, ◌≤◌, ◌<◌}
+-- What the pass carries from row to row is what the model's checks know, as long as no row has a fault.
+use Prim.Native.Nat.{ℕ, zero, suc, ◌+◌, ◌*◌, ◌-◌, ◌≤◌}
 use native.Mathlib.Omega.{arith}
 use native.Mathlib.Decide.{ℕ_discrete}
 use mathlib.Core.Path.{◌≡◌, refl, sym, ◌∙◌, ap}
-use mathlib.Core.List.{List, [], ◌∷◌, ◌++◌, append-nil}
-use lib.ListN.{length, get_or}
-use Rattle.model.specs.Choice.{if_eq}
-use Rattle.model.specs.Rows.{Row, cell, row_at, rows_from, row_count, rows_of}
-use Rattle.model.specs.Rules.{Seen, cues_in, after}
-use Rattle.model.specs.Blocks.{add_rows, blocks_of}
-use Rattle.model.specs.Verdicts.{opening_rows}
-use Rattle.basics.proofs.Choices.{eq_then, eq_else}
-use Rattle.shows.proofs.Accepted.{open_count}
-use Rattle.shows.proofs.RefusalPlaces.{rows-length}
+use mathlib.Core.List.{List, [], ◌∷◌, ◌++◌}
+use lib.ListN.{length, get_or, length-append}
+use lib.Seq.{get_or-append_seam}
+use Rattle.model.specs.Limits.{row_size, max_joins, max_own}
+use Rattle.model.specs.Rows.{Row, cell, row_at, rows_from}
+use Rattle.model.specs.Rules.{Seen, start, cues_in, fault, after}
+use Rattle.model.specs.Blocks.{add_row, add_rows}
+use Rattle.basics.proofs.Choices.{eq_then, eq_else, lt_else}
+use Rattle.shows.proofs.AtBlock.{head_small}
 use Rattle.shows.proofs.Tracks.{Tracks, tracks_start, tracks_step}
-use Rattle.verdicts.specs.Passing.{seen_to, blocks_to, openings_to, fault_at, kind_at, Fine}
+use Rattle.verdicts.specs.Passing.{cues_of, next_state, seen_to, state_to, blocks_to, Fine}
 
 -- The blocks of the first rows, by rows and by steps.
-blocks-on : (xs : List ℕ) (n r : ℕ) → add_rows (blocks_to xs r) (rows_from xs r n) ≡ blocks_to xs (r + n)
+pub blocks-on : (xs : List ℕ) (n r : ℕ) → add_rows (blocks_to xs r) (rows_from xs r n) ≡ blocks_to xs (r + n)
 unfolding rows_from add_rows blocks_to
 blocks-on xs zero r = let e : r + 0 ≡ r = omega arith in rw e
 blocks-on xs (suc n) r =
@@ -25,122 +24,124 @@ blocks-on xs (suc n) r =
     let f : suc r + n ≡ r + suc n = omega arith in
     rw (e, ← f) (blocks-on xs n (suc r))
 
-blocks-rows : (xs : List ℕ) (n : ℕ) → add_rows [] (rows_from xs 0 n) ≡ blocks_to xs n
+pub blocks-all : (xs : List ℕ) (n : ℕ) → add_rows [] (rows_from xs 0 n) ≡ blocks_to xs n
 unfolding blocks_to
-blocks-rows xs n = let e : 0 + n ≡ n = omega arith in rw e at (blocks-on xs n 0)
+blocks-all xs n = let e : 0 + n ≡ n = omega arith in rw e at (blocks-on xs n 0)
 
-pub blocks-all : (xs : List ℕ) → blocks_of xs ≡ blocks_to xs (row_count xs)
-unfolding blocks_of rows_of
-blocks-all xs = blocks-rows xs (row_count xs)
+pub record KnownRows (xs : List ℕ) (r : ℕ) : Type 0 where
+  pub tracks : Tracks (seen_to xs r) (blocks_to xs r)
+  pub blocks : (state_to xs r).blocks ≡ length (seen_to xs r).joins
+  pub cues : (state_to xs r).cues ≡ cues_in (seen_to xs r)
+  pub kind : (state_to xs r).kind ≡ (seen_to xs r).before.kind
+  pub same : ((seen_to xs r).before.kind ≡ 0 → ⊥) → (seen_to xs r).before ≡ row_at xs (r - 1)
 
--- There are as many openings as blocks.
-pub openings-count : (xs : List ℕ) (r : ℕ) → length (openings_to xs r) ≡ length (blocks_to xs r)
-openings-count xs r = let e = open_count 1 (rows_from xs 0 r) [] in rw (← blocks-rows xs r) (omega arith)
+pub known_start : (xs : List ℕ) → KnownRows xs 0
+unfolding seen_to state_to blocks_to start cues_in
+known_start xs =
+    record { tracks = tracks_start; blocks = refl; cues = omega arith; kind = refl; same = λ n. absurd (n refl) }
 
--- One row more without a fault.
-pub fine_more : (xs : List ℕ) (r : ℕ) → Fine xs r → fault_at xs r ≡ 0 → Fine xs (r + 1)
-fine_more xs r f e q l = go (ℕ_discrete q r)
-  where
-    go : Dec (q ≡ r) → fault_at xs q ≡ 0
-    go (yes z) = rw z e
-    go (no n) = f q (omega arith)
+-- The cues of a block that was just opened.
+opened-cues : (own label : ℕ) → own ≤ max_own → label ≤ max_joins → cues_of own label ≡ own + label
+unfolding cues_of
+opened-cues own label h k = lt_else _ _ _ _ h ∙ lt_else _ _ _ _ k
 
-pub fine-less : (xs : List ℕ) (r q : ℕ) → q ≤ r → Fine xs r → Fine xs q
-fine-less xs r q h f i l = f i (omega arith)
+opened-seen : (joins : List ℕ) (own label : ℕ) (w : Row) → cues_in (record { joins = joins ++ (label ∷ []); own = own; before = w }) ≡ own + label
+unfolding cues_in
+opened-seen joins own label w =
+    let e : length (joins ++ (label ∷ [])) - 1 ≡ length joins = omega (arith, length-append joins (label ∷ [])) in
+    rw (e, get_or-append_seam joins label [] 0)
 
--- The blocks of these rows are what the checks know of them.
-eight : (xs : List ℕ) (r : ℕ) → length (row_at xs r).columns ≡ 8
-unfolding row_at
-eight xs r = refl
+module _ (xs : List ℕ) (r : ℕ) (k : KnownRows xs r) (ok : fault (seen_to xs r) (row_at xs r) ≡ 0) where
+  abbrev pub s : Seen
+  s = seen_to xs r
 
-pub tracked : (xs : List ℕ) (r : ℕ) → Fine xs r → Tracks (seen_to xs r) (blocks_to xs r)
-unfolding seen_to blocks_to
-tracked xs zero f = tracks_start
-tracked xs (suc r) f =
-    tracks_step (seen_to xs r) (row_at xs r) (blocks_to xs r) (eight xs r) (f r (omega arith)) (tracked xs r (fine-less xs (suc r) r (omega arith) f))
+  abbrev pub w : Row
+  w = row_at xs r
 
--- The row before, and its kind.
-after-before : (s : Seen) (w : Row) → (after s w).before ≡ w
-unfolding after
-after-before s w = go (ℕ_discrete w.kind 0)
-  where
-    opened : Seen
-    opened = record { joins = s.joins ++ (w.label ∷ []); own = get_or w.columns 0 0; before = w }
+  eight : length w.columns ≡ 8
+  unfolding row_at
+  eight = refl
 
-    other : Seen
-    other = record { joins = s.joins; own = s.own; before = w }
+  tracked : Tracks (after s w) (add_row (blocks_to xs r) w)
+  tracked = tracks_step s w (blocks_to xs r) eight ok k.tracks
 
-    go : Dec (w.kind ≡ 0) → (if_eq w.kind 0 opened other).before ≡ w
-    go (yes q) = ap (λ (x : Seen). x.before) (eq_then w.kind 0 opened other q)
-    go (no n) = ap (λ (x : Seen). x.before) (eq_else w.kind 0 opened other n)
+  kind-is : w.kind ≡ get_or xs (r * row_size + 1) 0
+  unfolding row_at cell
+  kind-is = refl
 
-pub before-is : (xs : List ℕ) (r : ℕ) → 1 ≤ r → (seen_to xs r).before ≡ row_at xs (r - 1)
-unfolding seen_to
-before-is xs zero h = absurd (omega arith)
-before-is xs (suc r) h = let e : suc r - 1 ≡ r = omega arith in rw e (after-before (seen_to xs r) (row_at xs r))
+  open_small : w.kind ≡ 0 → (get_or xs (r * row_size + 3) 0 ≤ max_own) × (get_or xs (r * row_size + 2) 0 ≤ max_joins)
+  unfolding add_row row_at cell
+  open_small q = head_small (rw (eq_then w.kind 0 _ _ q) at tracked.small)
 
-pub kind-cell : (xs : List ℕ) (r : ℕ) → (row_at xs r).kind ≡ kind_at xs r
-unfolding row_at cell
-kind-cell xs r = refl
+  after_open : w.kind ≡ 0 → after s w ≡ record { joins = s.joins ++ (w.label ∷ []); own = get_or w.columns 0 0; before = w }
+  unfolding after
+  after_open q = eq_then _ _ _ _ q
 
-pub before-kind : (xs : List ℕ) (r : ℕ) → 1 ≤ r → (seen_to xs r).before.kind ≡ kind_at xs (r - 1)
-before-kind xs r h = ap (λ (w : Row). w.kind) (before-is xs r h) ∙ kind-cell xs (r - 1)
+  after-other : (w.kind ≡ 0 → ⊥) → after s w ≡ record { joins = s.joins; own = s.own; before = w }
+  unfolding after
+  after-other n = eq_else _ _ _ _ n
 
--- A row that opens no block leaves its cues and the openings as they are.
-other_seen : (s : Seen) (w : Row) → (w.kind ≡ 0 → ⊥) → after s w ≡ record { joins = s.joins; own = s.own; before = w }
-unfolding after
-other_seen s w n = eq_else _ _ _ _ n
+  pub after-before : (after s w).before ≡ w
+  after-before = go (ℕ_discrete w.kind 0)
+    where
+      go : Dec (w.kind ≡ 0) → (after s w).before ≡ w
+      go (yes q) = ap (λ (x : Seen). x.before) (after_open q)
+      go (no n) = ap (λ (x : Seen). x.before) (after-other n)
 
-pub cues-on : (xs : List ℕ) (r : ℕ) → (kind_at xs r ≡ 0 → ⊥) → cues_in (seen_to xs (suc r)) ≡ cues_in (seen_to xs r)
-unfolding seen_to cues_in
-cues-on xs r n = ap cues_in (other_seen (seen_to xs r) (row_at xs r) (λ z. n (sym (kind-cell xs r) ∙ z)))
+  next-open : w.kind ≡ 0
+      → state_to xs (suc r)
+      ≡ record { blocks = (state_to xs r).blocks + 1; cues = cues_of (get_or xs (r * row_size + 3) 0) (get_or xs (r * row_size + 2) 0); kind = get_or xs (r * row_size + 1) 0 }
+  unfolding state_to next_state
+  next-open q = eq_then _ _ _ _ (sym kind-is ∙ q)
 
-rows_snoc : (xs : List ℕ) (r n : ℕ) → rows_from xs r (suc n) ≡ rows_from xs r n ++ (row_at xs (r + n) ∷ [])
-unfolding rows_from
-rows_snoc xs r zero = let e : r + 0 ≡ r = omega arith in rw e
-rows_snoc xs r (suc n) =
-    let e : r + 1 + n ≡ r + suc n = omega arith in
-    ap (λ (l : List Row). row_at xs r ∷ l) (rw e at (rows_snoc xs (r + 1) n))
+  next-other : (w.kind ≡ 0 → ⊥)
+      → state_to xs (suc r) ≡ record { blocks = (state_to xs r).blocks; cues = (state_to xs r).cues; kind = get_or xs (r * row_size + 1) 0 }
+  unfolding state_to next_state
+  next-other n = eq_else _ _ _ _ (λ e. n (kind-is ∙ e))
 
-openings-snoc : (p : ℕ) (ws : List Row) (w : Row) → opening_rows p (ws ++ (w ∷ [])) ≡ opening_rows p ws ++ if_eq w.kind 0 ((p + length ws) ∷ []) []
-unfolding opening_rows
-openings-snoc p [] w = let e : p + 0 ≡ p = omega arith in rw e
-openings-snoc p (v ∷ ws) w =
-    let e : suc p + length ws ≡ p + suc (length ws) = omega arith in
-    go (rw e at (openings-snoc (suc p) ws w)) (ℕ_discrete v.kind 0)
-  where
-    more : List ℕ
-    more = opening_rows (suc p) (ws ++ (w ∷ []))
+  -- The parts of what is known after the row.
+  blocks-next : (state_to xs (suc r)).blocks ≡ length (after s w).joins
+  blocks-next = go (ℕ_discrete w.kind 0)
+    where
+      go : Dec (w.kind ≡ 0) → (state_to xs (suc r)).blocks ≡ length (after s w).joins
+      go (yes q) = rw (next-open q, after_open q) (omega (arith, k.blocks, length-append s.joins (w.label ∷ [])))
+      go (no n) = rw (next-other n, after-other n) k.blocks
 
-    own : List ℕ
-    own = opening_rows (suc p) ws
+  cues-same : cues_in (record { joins = s.joins; own = s.own; before = w }) ≡ cues_in s
+  unfolding cues_in
+  cues-same = refl
 
-    last : List ℕ
-    last = if_eq w.kind 0 ((p + suc (length ws)) ∷ []) []
+  cues-open : cues_of (get_or xs (r * row_size + 3) 0) (get_or xs (r * row_size + 2) 0) ≡ cues_of (get_or w.columns 0 0) w.label
+  unfolding row_at cell
+  cues-open = refl
 
-    go : more ≡ own ++ last → Dec (v.kind ≡ 0) → if_eq v.kind 0 (p ∷ more) more ≡ if_eq v.kind 0 (p ∷ own) own ++ last
-    go below (yes q) = rw (eq_then v.kind 0 (p ∷ more) more q, eq_then v.kind 0 (p ∷ own) own q, below)
-    go below (no n) = rw (eq_else v.kind 0 (p ∷ more) more n, eq_else v.kind 0 (p ∷ own) own n, below)
+  small : w.kind ≡ 0 → (get_or w.columns 0 0 ≤ max_own) × (w.label ≤ max_joins)
+  unfolding row_at cell
+  small q = open_small q
 
-openings-next : (xs : List ℕ) (r : ℕ) → openings_to xs (suc r) ≡ openings_to xs r ++ if_eq (kind_at xs r) 0 ((r + 1) ∷ []) []
-openings-next xs r =
-    let e : 0 + r ≡ r = omega arith in
-    let f : 1 + length (rows_from xs 0 r) ≡ r + 1 = omega (arith, rows-length xs 0 r) in
-    rw (rows_snoc xs 0 r, e, ← kind-cell xs r) (rw f at (openings-snoc 1 (rows_from xs 0 r) (row_at xs r)))
+  cues-next : (state_to xs (suc r)).cues ≡ cues_in (after s w)
+  cues-next = go (ℕ_discrete w.kind 0)
+    where
+      go : Dec (w.kind ≡ 0) → (state_to xs (suc r)).cues ≡ cues_in (after s w)
+      go (yes q) =
+          rw (next-open q, after_open q)
+          (cues-open ∙ opened-cues _ _ (small q).0 (small q).1 ∙ sym (opened-seen s.joins (get_or w.columns 0 0) w.label w))
+      go (no n) = rw (next-other n, after-other n) (k.cues ∙ sym cues-same)
 
-pub openings-open : (xs : List ℕ) (r : ℕ) → kind_at xs r ≡ 0 → openings_to xs (r + 1) ≡ openings_to xs r ++ ((r + 1) ∷ [])
-openings-open xs r q =
-    let e : r + 1 ≡ suc r = omega arith in
-    ap (openings_to xs) e ∙ openings-next xs r ∙ ap (λ (l : List ℕ). openings_to xs r ++ l) (eq_then (kind_at xs r) 0 ((r + 1) ∷ []) [] q)
+  kind-next : (state_to xs (suc r)).kind ≡ (after s w).before.kind
+  kind-next = go (ℕ_discrete w.kind 0)
+    where
+      go : Dec (w.kind ≡ 0) → (state_to xs (suc r)).kind ≡ (after s w).before.kind
+      go (yes q) = rw (next-open q, after-before) (sym kind-is)
+      go (no n) = rw (next-other n, after-before) (sym kind-is)
 
-openings-other : (xs : List ℕ) (r : ℕ) → (kind_at xs r ≡ 0 → ⊥) → openings_to xs (suc r) ≡ openings_to xs r
-openings-other xs r n = openings-next xs r ∙ rw (eq_else (kind_at xs r) 0 ((r + 1) ∷ []) [] n) (append-nil (openings_to xs r))
+  pub known_next : KnownRows xs (suc r)
+  unfolding seen_to blocks_to
+  known_next =
+      let e : suc r - 1 ≡ r = omega arith in
+      record { tracks = tracked; blocks = blocks-next; cues = cues-next; kind = kind-next; same = λ n. rw e after-before }
 
--- So do rows of another kind, one behind another.
-pub openings-on : (xs : List ℕ) (first kind d : ℕ) → (kind ≡ 0 → ⊥) → ((q : ℕ) → first ≤ q → q < first + d → kind_at xs q ≡ kind)
-    → openings_to xs (first + d) ≡ openings_to xs first
-openings-on xs first kind zero n h = let e : first + 0 ≡ first = omega arith in rw e
-openings-on xs first kind (suc d) n h =
-    let e : first + suc d ≡ suc (first + d) = omega arith in
-    let k : kind_at xs (first + d) ≡ kind = h (first + d) (omega arith) (omega arith) in
-    rw e (openings-other xs (first + d) (λ z. n (sym k ∙ z)) ∙ openings-on xs first kind d n (λ q a b. h q a (omega arith)))
+-- As long as no row has a fault.
+pub known : (xs : List ℕ) (r : ℕ) → Fine xs r → KnownRows xs r
+known xs zero f = known_start xs
+known xs (suc r) f = known_next xs r (known xs r (λ q h. f q (omega arith))) (f r (omega arith))

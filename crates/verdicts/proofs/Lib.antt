@@ -1,8 +1,7 @@
+pub mod Steps
 pub mod Known
-pub mod Entering
-pub mod Adding
-pub mod Runs
-pub mod UseRuns
-pub mod Blocking
-pub mod Scanning
-pub mod Judging
+pub mod Tables
+pub mod Indexing
+pub mod Going
+pub mod Openings
+pub mod Checking

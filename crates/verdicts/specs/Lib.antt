@@ -1,4 +1,2 @@
 pub mod Index
 pub mod Passing
-pub mod Running
-pub mod Judging

@@ -1,57 +1,42 @@
 // The check of lent rows, refusals 4 to 10 with their places, and the index of blocks that every question shares: `check`.
 //
-// The rows are gone through block by block: the opening, the links, the uses. What comes behind these must open the next block, else its
-// fault is 5; so the first fault in the order of the rows is found.
-//
-// The index has two numbers for each block k, at 2 * k and on: its joins, the row that opens it and the first row behind its links in one,
-// its total in the other. A block ends where the next one opens; behind the last stands the end of the rows. Rows are counted from 0 here.
-// A total that is too large is kept as 2,147,483,648. Only `joins_at`, `opening_at`, `links_end`, `uses_end`, `total_at`, `packed` and
-// `enter` know this.
-ghost use Rattle.std.specs.Prelude.{◌≡◌, ◌+◌, ◌*◌, ◌≤◌, ◌<◌, length, replicate};
-ghost use Rattle.model.specs.Limits.{row_size, max_rows, max_blocks};
-ghost use Rattle.model.specs.Rows.{rows_of};
-ghost use Rattle.model.specs.Blocks.{blocks_of};
-ghost use Rattle.model.specs.Verdicts.{refused, may_stand, opening_rows, check_blocks, verdict};
-ghost use Rattle.verdicts.specs.Index.{index_size, joins_at, opening_at, links_end, uses_end, total_at, entered};
-ghost use Rattle.verdicts.specs.Passing.{capped, fault_at};
-ghost use Rattle.verdicts.specs.Running.{BeforeLinks, LinksRead, BeforeUse, BeforeUses, UsesRead, BeforeBlock, Opened, Blocked, Scanned};
-ghost use Rattle.verdicts.specs.Judging.{rows_in, AllRead, passes_at, placed, IsChecked};
+// The index is one table of four numbers for each block k, at 4 * k and on: the row that opens it, the first row behind its links, the
+// first row behind its uses, and its total. Rows are counted from 0 here. A total that is too large is kept as 2,147,483,648.
+#![tactic(auto)]
 
-use model::limits::{MAX_BLOCKS, MAX_ROWS, MAX_TOTAL, ROW_SIZE};
+ghost use Rattle.std.specs.Prelude.{◌≡◌, true, ◌+◌, ◌*◌, ◌-◌, ◌≤◌, ◌<◌, length, get_or, replicate};
+ghost use Rattle.verdicts.specs.Index.{index_size};
+ghost use Rattle.verdicts.specs.Passing.{capped, joins_at, many_of, Many, cues_of, put_at, open_indexed, use_indexed, row_indexed, next_state, Scanned, own_at, stands_at, passes_at, row_number_of, place_from, rows_in, judged, IsChecked};
+ghost use Rattle.model.specs.Limits.{row_size, max_rows};
+ghost use Rattle.model.specs.Verdicts.{refused};
+
+use model::limits::{MAX_BLOCKS, MAX_JOINS, MAX_OWN, MAX_ROWS, MAX_TOTAL, ROW_SIZE};
 use model::{Refusal, Verdict};
 
-// A limit in the other width that the code compares it in.
+// Limits in the other widths that the code compares them in.
 const MAX_TOTAL_64: u64 = MAX_TOTAL as u64;
+
+const MAX_ROWS_32: u32 = MAX_ROWS as u32;
+
+const MAX_JOINS_64: usize = MAX_JOINS as usize;
 
 // What stands for a total that is too large.
 const TOO_LARGE: u32 = MAX_TOTAL + 1;
 
 // The numbers of a block in the index, and of the whole index.
-const ENTRY: usize = 2;
+pub const ENTRY: usize = 4;
 
-pub const INDEX: usize = ENTRY * MAX_BLOCKS as usize + 1;
+pub const INDEX: usize = ENTRY * MAX_BLOCKS as usize;
 
-// Three counts stand in one number of the index, as digits: one of joins, two of rows. A count is less than its room.
-const JOINS_ROOM: u32 = 16;
-
-const ROWS_ROOM: u32 = 2048;
-
-// Rows without a fault: the first row behind them, and the fault there that ended them, or 0.
+// What is carried from row to row: how many blocks are open, how many cues the last of them has, the kind of the last row.
 #[derive(Drop)]
-pub struct Run {
-    pub end: usize,
-    pub fault: u32,
+pub struct State {
+    pub blocks: u32,
+    pub cues: u32,
+    pub kind: u32,
 }
 
-// The same of uses, with the sum of the totals of what they name.
-#[derive(Drop)]
-pub struct UseRun {
-    pub end: usize,
-    pub fault: u32,
-    pub total: u64,
-}
-
-// The first fault of 5 to 8 that was found, or 0, and its row, counted from 1; without a fault, how many blocks there are.
+// The first fault of 5 to 8 that was found, or 0, and its row, counted from 1; and how many blocks were opened.
 #[derive(Drop)]
 pub struct Scan {
     pub fault: u32,
@@ -71,257 +56,239 @@ fn long(x: u32) -> u64
     x as u64
 }
 
-// The joins of block k.
-pub fn joins_at(t: &[u32; INDEX], k: usize) -> usize
-    requires { k < max_blocks }
-    ensures { result ≡ joins_at t.now k }
+// A number by its place, 0 past the end.
+pub fn get(xs: &[u32], i: usize) -> u32
+    ensures { result ≡ get_or xs.now i 0 }
 {
-    wide(t[ENTRY * k] % JOINS_ROOM)
+    if i < xs.len() { xs[i] } else { 0 }
 }
 
-// The row that opens it.
-pub fn opening_at(t: &[u32; INDEX], k: usize) -> usize
-    requires { k < max_blocks }
-    ensures { (result ≡ opening_at t.now k) × (result < 2048) }
+// A number of the table put in at its place.
+fn put(t: &mut [u32; INDEX], i: usize, v: u32)
+    ensures { t.new ≡ put_at t.old i v }
 {
-    wide(t[ENTRY * k] / JOINS_ROOM % ROWS_ROOM)
+    if i < INDEX {
+        t[i] = v;
+    }
 }
 
-// The first row behind its links.
-pub fn links_end(t: &[u32; INDEX], k: usize) -> usize
-    requires { k < max_blocks }
-    ensures { result ≡ links_end t.now k }
+// The sum of two totals, held to one more than the largest.
+fn add_totals(a: u32, b: u32) -> u32
+    ensures { result ≡ capped (a + b) }
 {
-    wide(t[ENTRY * k] / (JOINS_ROOM * ROWS_ROOM))
-}
-
-// The first row behind its uses.
-pub fn uses_end(t: &[u32; INDEX], k: usize) -> usize
-    requires { k < max_blocks }
-    ensures { result ≡ uses_end t.now k }
-{
-    wide(t[ENTRY * k + 2] / JOINS_ROOM % ROWS_ROOM)
-}
-
-// Its total.
-pub fn total_at(t: &[u32; INDEX], k: usize) -> u32
-    requires { k < max_blocks }
-    ensures { result ≡ total_at t.now k }
-{
-    t[ENTRY * k + 1]
-}
-
-// The first number of a block's entry: row r opens it, and its links end before row `end`.
-fn packed(joins: u32, r: usize, end: usize) -> u32
-    requires { (joins < 16) × (r < max_rows) × (end ≤ max_rows) }
-    ensures { result ≡ (end * 2048 + r) * 16 + joins }
-{
-    (end as u32 * ROWS_ROOM + r as u32) * JOINS_ROOM + joins
-}
-
-// The entry of block k, the last so far, which ends before row `end`.
-fn enter(t: &mut [u32; INDEX], k: usize, counts: u32, total: u32, end: usize)
-    requires { (k < max_blocks) × (end ≤ max_rows) }
-    ensures { t.new ≡ entered t.old k counts total end }
-{
-    let at = ENTRY * k;
-    t[at] = counts;
-    t[at + 1] = total;
-    t[at + 2] = end as u32 * JOINS_ROOM;
-}
-
-// A total, or what stands for one that is too large.
-fn cap(sum: u64) -> u32
-    ensures { result ≡ capped sum }
-{
+    let sum = long(a) + long(b);
     if MAX_TOTAL_64 < sum {
         return TOO_LARGE;
     }
     sum as u32
 }
 
-// The links of block k, which has so many cues, from row `first` on.
-fn links(xs: &[u32], n: usize, first: usize, k: u32, cues: u32) -> Run
-    requires { BeforeLinks xs.now n first k cues }
-    ensures { LinksRead xs.now n first k cues result }
+// The joins of block k, which the row that opens it has.
+fn joins_at(xs: &[u32], t: &[u32; INDEX], k: u32) -> usize
+    ensures { result ≡ joins_at xs.now t.now k }
 {
-    let mut r = first;
-    let mut key = 0u64;
-    while r < n {
-        let p = r * ROW_SIZE;
-        if xs[p + 1] != 1 {
-            return Run { end: r, fault: 0 };
-        }
-        let f = rules::link_fault(xs, p, k, cues, key);
-        if f != 0 {
-            return Run { end: r, fault: f };
-        }
-        key = rules::link_key(xs, p);
-        r += 1;
-    }
-    Run { end: r, fault: 0 }
+    let f = wide(get(t, wide(k) * ENTRY));
+    wide(get(xs, f * ROW_SIZE + 2))
 }
 
-// The fault of row r, which is a use like all rows from `first` to it, behind the opening and the links of block k.
-fn fault_of_use(xs: &[u32], t: &[u32; INDEX], first: usize, r: usize, k: u32, cues: u32) -> u32
-    requires { BeforeUse xs.now t.now first r k cues }
-    ensures { result ≡ fault_at xs.now r }
+// The own cues of block k.
+fn own_at(xs: &[u32], t: &[u32; INDEX], k: u32) -> u32
+    ensures { result ≡ own_at xs.now t.now k }
 {
-    let p = r * ROW_SIZE;
-    if xs[p] != k {
-        return 5;
+    let f = wide(get(t, wide(k) * ENTRY));
+    get(xs, f * ROW_SIZE + 3)
+}
+
+// How many joins the block has that a use at p names.
+fn many_of(xs: &[u32], t: &[u32; INDEX], p: usize, blocks: u32) -> usize
+    requires { p + row_size ≤ length xs.now }
+    ensures { Many (many_of xs.now t.now p blocks) result }
+{
+    if xs[p + 1] != 2 {
+        return 0;
     }
     let label = xs[p + 2];
-    if label >= k {
-        return 6;
+    if label >= blocks {
+        return 0;
     }
-    rules::use_fault(xs, p, joins_at(t, wide(label)), cues, first < r)
+    let j = joins_at(xs, t, label);
+    if MAX_JOINS_64 < j {
+        return 0;
+    }
+    j
 }
 
-// The uses of block k, from row `first` on, and what they add to its total.
-fn uses(xs: &[u32], t: &[u32; INDEX], n: usize, first: usize, k: u32, cues: u32) -> UseRun
-    requires { BeforeUses xs.now t.now n first k cues }
-    ensures { UsesRead xs.now t.now n first k cues result }
+// How many cues a block has.
+fn cues_of(own: u32, joins: u32) -> u32
+    ensures { result ≡ cues_of own joins }
 {
-    let mut r = first;
-    let mut sum = 0u64;
+    if MAX_OWN < own {
+        return 0;
+    }
+    if MAX_JOINS < joins {
+        return 0;
+    }
+    own + joins
+}
+
+// What an opening at row r puts into the table.
+fn index_open(t: &mut [u32; INDEX], at: usize, r: u32, own: u32)
+    requires { (r < max_rows) × (at < 17179869184) }
+    ensures { t.new ≡ open_indexed t.old at r own }
+{
+    put(t, at, r);
+    put(t, at + 1, r + 1);
+    put(t, at + 2, r + 1);
+    put(t, at + 3, own);
+}
+
+// What a use of block k adds to the total.
+fn index_use(t: &mut [u32; INDEX], at: usize, k: usize)
+    requires { (at < 17179869184) × (k < 4294967296) }
+    ensures { t.new ≡ use_indexed t.old at k }
+{
+    let used = get(t, k * ENTRY + 3);
+    let total = add_totals(get(t, at + 3), used);
+    put(t, at + 3, total);
+}
+
+// The table after row r, which has passed.
+fn index_row(t: &mut [u32; INDEX], block: u32, kind: u32, label: u32, own: u32, r: u32)
+    requires { r < max_rows }
+    ensures { t.new ≡ row_indexed t.old block kind label own r }
+{
+    let at = block as usize * ENTRY;
+    if kind == 0 {
+        index_open(t, at, r, own);
+        return;
+    }
+    put(t, at + 2, r + 1);
+    if kind == 1 {
+        put(t, at + 1, r + 1);
+        return;
+    }
+    index_use(t, at, label as usize);
+}
+
+// What is carried on after the row at p, which has passed.
+fn next_state(xs: &[u32], p: usize, s: State) -> State
+    requires { (p + row_size ≤ length xs.now) × (s.blocks ≤ max_rows) }
+    ensures { result ≡ next_state xs.now p s }
+{
+    let kind = xs[p + 1];
+    if kind == 0 {
+        return State {
+            blocks: s.blocks + 1,
+            cues: cues_of(xs[p + 3], xs[p + 2]),
+            kind: kind,
+        };
+    }
+    State {
+        blocks: s.blocks,
+        cues: s.cues,
+        kind: kind,
+    }
+}
+
+// The row before row r, or the first.
+fn row_before(r: usize) -> usize
+    ensures { result ≡ r - 1 }
+{
+    if r == 0 {
+        return 0;
+    }
+    r - 1
+}
+
+// Checks 5 to 8 of n rows in one pass, with the index of what was read in a table that was empty.
+pub fn pass(xs: &[u32], n: usize, t: &mut [u32; INDEX]) -> Scan
+    requires { (n * row_size ≤ length xs.now) × (n ≤ max_rows) × (t.old ≡ replicate index_size 0) }
+    ensures { Scanned xs.now n t.new result }
+{
+    let mut s = State {
+        blocks: 0,
+        cues: 0,
+        kind: 0,
+    };
+    let mut r = 0;
     while r < n {
         let p = r * ROW_SIZE;
-        if xs[p + 1] != 2 {
-            return UseRun {
-                end: r,
-                fault: 0,
-                total: sum,
-            };
-        }
-        let f = fault_of_use(xs, t, first, r, k, cues);
-        if f != 0 {
-            return UseRun {
-                end: r,
-                fault: f,
-                total: sum,
-            };
-        }
-        sum = sum + long(total_at(t, wide(xs[p + 2])));
-        r += 1;
-    }
-    UseRun {
-        end: r,
-        fault: 0,
-        total: sum,
-    }
-}
-
-// The links and the uses of block k, which row r opens, and its entry in the index.
-fn block_rows(xs: &[u32], t: &mut [u32; INDEX], n: usize, r: usize, k: u32) -> Run
-    requires { Opened xs.now t.old n r k }
-    ensures { Blocked xs.now t.new n r k result }
-{
-    let p = r * ROW_SIZE;
-    let joins = xs[p + 2];
-    let own = xs[p + 3];
-    let cues = own + joins;
-    let l = links(xs, n, r + 1, k, cues);
-    let behind = l.end;
-    if l.fault != 0 {
-        return l;
-    }
-    let u = uses(xs, t, n, behind, k, cues);
-    enter(
-        t,
-        wide(k),
-        packed(joins, r, behind),
-        cap(long(own) + u.total),
-        u.end,
-    );
-    Run {
-        end: u.end,
-        fault: u.fault,
-    }
-}
-
-// Block k, which row r is to open.
-fn block(xs: &[u32], t: &mut [u32; INDEX], n: usize, r: usize, k: u32) -> Run
-    requires { BeforeBlock xs.now t.old n r k }
-    ensures { Blocked xs.now t.new n r k result }
-{
-    let p = r * ROW_SIZE;
-    if xs[p + 1] != 0 {
-        return Run { end: r, fault: 5 };
-    }
-    let f = rules::open_fault(xs, p, k);
-    if f != 0 {
-        return Run { end: r, fault: f };
-    }
-    block_rows(xs, t, n, r, k)
-}
-
-// Checks 5 to 8 of n rows, with the index of what was read in a table that was empty.
-fn pass(xs: &[u32], t: &mut [u32; INDEX], n: usize) -> Scan
-    requires { (n * row_size ≤ length xs.now) × (n ≤ max_rows) × (t.old ≡ replicate index_size 0) }
-    ensures { Scanned xs.now t.new n result }
-{
-    let mut r = 0;
-    let mut k = 0;
-    while r < n {
-        let b = block(xs, t, n, r, k);
-        if b.fault != 0 {
+        let many = many_of(xs, t, p, s.blocks);
+        let k = rules::fault(
+            xs,
+            p,
+            row_before(r) * ROW_SIZE,
+            s.blocks,
+            s.cues,
+            s.kind,
+            many,
+        );
+        if k != 0 {
             return Scan {
-                fault: b.fault,
-                row: (b.end + 1) as u32,
-                blocks: k,
+                fault: k,
+                row: (r + 1) as u32,
+                blocks: s.blocks,
             };
         }
-        r = b.end;
-        k += 1;
+        index_row(t, xs[p], xs[p + 1], xs[p + 2], xs[p + 3], r as u32);
+        s = next_state(xs, p, s);
+        r += 1;
     }
     Scan {
         fault: 0,
         row: 0,
-        blocks: k,
+        blocks: s.blocks,
     }
 }
 
-// Check 9 of block k: whether it may stand where it stands.
+// Check 9 of block k.
 fn stands(xs: &[u32], t: &[u32; INDEX], blocks: u32, k: u32) -> bool
-    requires { AllRead xs.now t.now blocks × (k < blocks) }
-    ensures { result ≡ may_stand (blocks_of xs.now) k }
+    requires { k < 4294967295 }
+    ensures { result ≡ stands_at xs.now t.now blocks k }
 {
-    let joins = joins_at(t, wide(k));
+    let joins = joins_at(xs, t, k);
     if k + 1 != blocks {
         return 0 < joins;
     }
     if joins != 0 {
         return false;
     }
-    let p = opening_at(t, wide(k)) * ROW_SIZE;
-    0 < xs[p + 3]
+    0 < own_at(xs, t, k)
 }
 
 // Check 9 or 10 of block k.
 fn passes(xs: &[u32], t: &[u32; INDEX], blocks: u32, k: u32, number: u32) -> bool
-    requires { AllRead xs.now t.now blocks × (k < blocks) }
-    ensures { result ≡ passes_at number xs.now k }
+    requires { k < 4294967295 }
+    ensures { result ≡ passes_at number xs.now t.now blocks k }
 {
     if number == 9 {
         return stands(xs, t, blocks, k);
     }
-    if MAX_TOTAL < total_at(t, wide(k)) {
+    if MAX_TOTAL < get(t, wide(k) * ENTRY + 3) {
         return false;
     }
     true
 }
 
-// The opening row of the first block that fails check 9 or 10, counted from 1, or 0.
+// The number of a row that has so many rows before it.
+fn row_number(r: u32) -> u32
+    ensures { result ≡ row_number_of r }
+{
+    if r < MAX_ROWS_32 {
+        return r + 1;
+    }
+    0
+}
+
+// The opening row of the first block that fails check 9 or 10, or 0.
 fn check_blocks(xs: &[u32], t: &[u32; INDEX], blocks: u32, number: u32) -> u32
-    requires { AllRead xs.now t.now blocks }
-    ensures { placed number result ≡ check_blocks number (passes_at number xs.now) 0 (opening_rows 1 (rows_of xs.now)) }
+    ensures { result ≡ place_from (passes_at number xs.now t.now blocks) t.now 0 blocks }
 {
     let mut k = 0;
     while k < blocks {
         let fine = passes(xs, t, blocks, k, number);
         if !fine {
-            return (opening_at(t, wide(k)) + 1) as u32;
+            return row_number(get(t, wide(k) * ENTRY));
         }
         k += 1;
     }
@@ -351,21 +318,20 @@ fn refuse(number: u32, place: u32) -> Verdict
 }
 
 // The verdict on n rows, after the pass over them.
-fn judge(xs: &[u32], t: &[u32; INDEX], n: usize, s: Scan) -> Verdict
-    requires { (n ≡ rows_in xs.now) × Scanned xs.now t.now n s }
-    ensures { result ≡ verdict xs.now }
+fn judge(xs: &[u32], t: &[u32; INDEX], n: usize, fault: u32, row: u32, blocks: u32) -> Verdict
+    ensures { result ≡ judged xs.now t.now n fault row blocks }
 {
     if n == 0 {
         return refuse(4, 0);
     }
-    if s.fault != 0 {
-        return refuse(s.fault, s.row);
+    if fault != 0 {
+        return refuse(fault, row);
     }
-    let ends = check_blocks(xs, t, s.blocks, 9);
+    let ends = check_blocks(xs, t, blocks, 9);
     if ends != 0 {
         return refuse(9, ends);
     }
-    let totals = check_blocks(xs, t, s.blocks, 10);
+    let totals = check_blocks(xs, t, blocks, 10);
     if totals != 0 {
         return refuse(10, totals);
     }
@@ -378,6 +344,6 @@ pub fn check(xs: &[u32], t: &mut [u32; INDEX]) -> Verdict
     ensures { IsChecked xs.now t.new result }
 {
     let n = rows_in(xs);
-    let s = pass(xs, t, n);
-    judge(xs, t, n, s)
+    let s = pass(xs, n, t);
+    judge(xs, t, n, s.fault, s.row, s.blocks)
 }

@@ -1,4 +1,6 @@
 // The wait file, read in one pass to a table of waits. Others call read.
+#![tactic(auto)]
+
 ghost use Rattle.std.specs.Prelude.{◌≡◌, true, ◌+◌, ◌<◌, set};
 ghost use Rattle.model.specs.Waits.{wait_names, is_outside, no_waits, wait_file};
 ghost use Rattle.lines.specs.Scanning.{starts_with};

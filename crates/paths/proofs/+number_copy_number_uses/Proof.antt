@@ -94,7 +94,7 @@ number-copy-add-number-uses t c = omega (arith, own-fits c.before.before.before.
 number-copy-number-uses-requires : (t : ℕ) → number-copy-lts.Need-number-uses-requires (number-copy-claims t) (number-copy-at t) number-copy.Post
 number-copy-number-uses-requires t c κs =
     let p = c.before.before.before.before.requires in
-    (omega (arith, p.0), uses-asks p.1 _ c.before.own.ensures.0 c.if1.true _ (omega arith))
+    (omega (arith, p.0), uses-asks p.1 _ c.before.own.ensures.0 c.if1.true)
 
 number-copy-returns : (t : ℕ) → number-copy-lts.Need-returns (number-copy-claims t) (number-copy-at t) number-copy.Post
 number-copy-returns t c = number-on c.before.before.before.before.before.requires.1 _ c.before.before.own.ensures.0 _ _ c.before.if1.true c.number-uses.ensures

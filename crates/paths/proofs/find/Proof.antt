@@ -1,8 +1,7 @@
 -- `find`: the show is a copy of the last block, with no step before it.
 use borrow.Author.Rules.{rules}
-use native.Mathlib.Omega.{arith}
-use Rattle.blocks.proofs.Places.{uses-fewer}
-use Rattle.paths.proofs.Finding.{show_asks, reached-uses, reached-found}
+use mathlib.Core.Path.{refl}
+use Rattle.paths.proofs.Finding.{show_asks, reached-found}
 use Rattle.paths.proofs.find.Statement.{statement}
 use Rattle.paths.proofs.find.Tie as tie
 
@@ -12,11 +11,11 @@ locate-copy-requires c κs =
     let last = c.before.last.ensures in
     show_asks _ _ p.0 last.0 last.1 p.1 p.2 (search rules)
 
-block-on-requires : tie.Need-block-on-requires
-block-on-requires c κs = (search rules, uses-fewer {n = c.before.before.depth-in.result} _ (search (reached-uses, rules)) (omega arith))
+returns : tie.Need-returns
+returns c =
+    let l = c.before.before in
+    let p = l.before.before.requires in
+    (refl, reached-found p.0 p.1 p.2 l.last.ensures.0 c.locate-copy.ensures, search rules)
 
 pub find_spec : {M : Type 1} → statement M
-find_spec =
-    tie.close
-    (tie.spec (λ c κs. search rules) locate-copy-requires (λ c κs. search rules) block-on-requires (λ c κs. search rules)
-    (λ c. search (reached-found, rules)))
+find_spec = tie.close (tie.spec (λ c κs. search rules) locate-copy-requires returns)

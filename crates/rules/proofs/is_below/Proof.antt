@@ -1,23 +1,33 @@
--- The loop's invariant: what is left to compare decides.
+-- `rules::is_below` meets its contract.
 use borrow.Author.Rules.{rules}
 use Prim.Native.Nat.{◌-◌, ◌≤◌}
-use native.Mathlib.Omega.{arith}
-use Rattle.rules.proofs.Tests.{BelowRest, below-begin, below_apart, below_on, below-done}
+use Rattle.rules.proofs.Tests.{KeyRest, key_begin, key_less, key_more, key_on, key_done}
 use Rattle.rules.proofs.is_below.Statement.{statement}
 use Rattle.rules.proofs.is_below.Tie as tie
 
 abbrev invariant-loop : tie.invariant-loop
-invariant-loop xs p q i₀ i = (i ≤ 8) × BelowRest xs p q i
+invariant-loop xs p q n a b i₀ i = (i ≤ n) × KeyRest xs p q n a b i
 
 abbrev decreases-loop : tie.decreases-loop
-decreases-loop xs p q i₀ i = 8 - i
+decreases-loop xs p q n a b i₀ i = n - i
+
+loop-holds : tie.Need-loop-init invariant-loop decreases-loop
+loop-holds c = search (key_begin, rules)
+
+returns : tie.Need-returns invariant-loop decreases-loop
+returns c = search (key_less, rules)
+
+returns-2 : tie.Need-returns-2 invariant-loop decreases-loop
+returns-2 c = search (key_more, rules)
+
+loop-again : tie.Need-loop-preserved invariant-loop decreases-loop
+loop-again c = search (key_on, rules)
+
+returns-3 : tie.Need-returns-3 invariant-loop decreases-loop
+returns-3 c = search (key_done, rules)
 
 pub is-below-spec : {M : Type 1} → statement M
 is-below-spec =
     tie.close
-    (tie.spec invariant-loop decreases-loop (λ c. search (below-begin, rules)) (λ c. search rules) (λ c. search rules) (λ c. search rules) (λ c. search rules)
-    (λ c. search rules) (λ c. search rules) (λ c. search rules) (λ c. search rules)
-    (λ c. below_apart _ _ _ _ (search rules) (omega arith) (search rules)) (λ c. search rules) (λ c. search rules)
-    (λ c. (omega arith, below_on _ _ _ _ (search rules) (omega arith) (search rules))) (λ c. search rules) (λ c. search rules) (λ c. search rules)
-    (λ c. search rules) (λ c. search rules) (λ c. search rules)
-    (λ c. below-done _ _ _ _ c.before.before.before.loop.invariant.1 (omega arith)))
+    (tie.spec invariant-loop decreases-loop loop-holds (λ c. search rules) (λ c. search rules) (λ c. search rules) (λ c. search rules) (λ c. search rules)
+    (λ c. search rules) returns returns-2 (λ c. search rules) (λ c. search rules) loop-again returns-3)

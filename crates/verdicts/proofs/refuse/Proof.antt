@@ -1,9 +1,12 @@
 -- `verdicts::refuse` meets its contract.
-use mathlib.Core.Path.{refl}
 use Rattle.model.specs.Verdicts.{refused, refusal}
+use mathlib.Core.Path.{refl}
 use Rattle.verdicts.proofs.refuse.Statement.{statement}
 use Rattle.verdicts.proofs.refuse.Tie as tie
 
-pub refuse-spec : {M : Type 1} → statement M
+returns : tie.Need-returns
 unfolding refused refusal
-refuse-spec = tie.close (tie.spec (λ c. refl))
+returns c = refl
+
+pub refuse-spec : {M : Type 1} → statement M
+refuse-spec = tie.close (tie.spec returns)
