@@ -141,7 +141,7 @@ pub data Under (z : Copy) : Copy → Type 0 where
   part_of : {x : Copy} (y : Copy) → Under z y → (p : Part) → IsPart y p → x ≡ part-copy y p → Under z x
 
 -- The same, beginning with a part of z.
-pub under_part : {z x : Copy} (p : Part) → IsPart z p → Under (part-copy z p) x → Under z x
+pub under_part : {z : Copy} (p : Part) {x : Copy} → IsPart z p → Under (part-copy z p) x → Under z x
 under_part {z} p i (itself e) = part_of z (itself refl) p i e
 under_part p i (part_of y u q j e) = part_of y (under_part p i u) q j e
 

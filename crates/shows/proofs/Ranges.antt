@@ -56,12 +56,15 @@ parts_from-use size base (u ∷ us) p i = go (λ j. parts_from-use size (base + 
     go rest (inl e) = Memᴰ.head (ap (λ (q : Part). q.of) e)
     go rest (inr j) = Memᴰ.tail (rest j)
 
+used_part : (size : ℕ → ℕ) (q : Use) (base : ℕ) (us : List Use) → Memᴰ q us → (p : Part) × Memᴰ p (parts_from size base us) × (p.of ≡ q)
+unfolding parts_from
+used_part size q base us (Memᴰ.head {x = u} {xs = us'} e) = (record { of = u; base = base }, Memᴰ.head refl, sym e)
+used_part size q base us (Memᴰ.tail {x = u} {xs = us'} i) =
+    let (p, j, e) = used_part size q (base + size u.block) us' i in (p, Memᴰ.tail j, e)
+
 pub parts_from-of : (size : ℕ → ℕ) (base : ℕ) (us : List Use) (q : Use) → Memᴰ q us
     → (p : Part) × Memᴰ p (parts_from size base us) × (p.of ≡ q)
-unfolding parts_from
-parts_from-of size base us q (Memᴰ.head {x = u} {xs = us'} e) = (record { of = u; base = base }, Memᴰ.head refl, sym e)
-parts_from-of size base us q (Memᴰ.tail {x = u} {xs = us'} i) =
-    let (p, j, e) = parts_from-of size (base + size u.block) us' q i in (p, Memᴰ.tail j, e)
+parts_from-of size base us q i = used_part size q base us i
 
 module _ (size : ℕ → ℕ) where
   -- Every copy lies in the range of them all.
