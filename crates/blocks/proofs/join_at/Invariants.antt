@@ -1,0 +1,11 @@
+-- `join_at`: no join before i meets the cue.
+use borrow.Author.Rules.{rules}
+use Prim.Native.Nat.{◌-◌, ◌≤◌}
+use Rattle.blocks.proofs.Meeting.{Sought, sought_begin, sought_on, join_at_stop, join_at_done}
+use Rattle.blocks.proofs.join_at.Given as goal
+
+abbrev pub invariant-loop-i : goal.invariant-loop-i
+invariant-loop-i l = (l.i ≤ l.joins) × Sought l.xs l.r l.c l.i
+
+abbrev pub decreases-loop-i : goal.decreases-loop-i
+decreases-loop-i l = l.joins - l.i
