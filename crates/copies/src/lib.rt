@@ -14,7 +14,7 @@ ghost use Rattle.copies.specs.Copies.{inner_base, MayStep, Stepped, ColumnsFit, 
 use blocks::{INDEX, JOINS, Place, column, joins, last, own, size_of, use_rows, used, wide};
 
 // A copy of a block in the show: its block, the number that its own cues follow, and the cues that its joins meet.
-#[derive(Drop)]
+#[derive(Clone, Copy)]
 pub struct Frame {
     pub block: usize,
     pub base: u32,
