@@ -34,7 +34,7 @@ pub const BLOCK: usize = JOINS * RECORD;
 
 // What is asked for: the cues that links with labels lo to hi lead to from the cue, or inward from
 // which they lead to it, that are greater than after; and how many of them may be written.
-#[derive(Drop)]
+#[derive(Clone, Copy)]
 pub struct Ask {
     pub inward: bool,
     pub lo: u32,

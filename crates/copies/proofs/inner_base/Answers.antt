@@ -27,13 +27,13 @@ pub overflow_add-b-in-loop-i : goal.overflow_add-b-in-loop-i
 overflow_add-b-in-loop-i c =
     let pre = c.requires in
     let inv = c.loop-i.invariant in
-    omega (arith, inner_base-fits pre.0 _ _ pre.1 _ c.use_rows-rows.ensures inv.0 c.loop-i-test.true _ _ inv.2 c.type_size.ensures)
+    omega (arith, inner_base-fits pre.0 _ _ pre.1 _ c.use_rows-rows.ensures inv.0 c.loop-i-test.true _ _ inv.2 c.size_of-b.ensures)
 
 pub loop-i-preserved : goal.loop-i-preserved
 loop-i-preserved c =
     let pre = c.requires in
     let inv = c.loop-i.invariant in
-    (omega arith, omega arith, inner_base-next pre.0 _ _ pre.1 _ c.use_rows-rows.ensures inv.0 c.loop-i-test.true _ _ inv.2 c.type_size.ensures)
+    (omega arith, omega arith, inner_base-next pre.0 _ _ pre.1 _ c.use_rows-rows.ensures inv.0 c.loop-i-test.true _ _ inv.2 c.size_of-b.ensures)
 
 pub returns : goal.returns
 returns c =
