@@ -20,7 +20,7 @@ use copies::{Frame, descend};
 use levels::{TABLE, level_at, levels, wins};
 
 // Two cues of a block.
-#[derive(Drop)]
+#[derive(Clone, Copy)]
 pub struct Pair {
     pub block: usize,
     pub from: u32,
@@ -29,7 +29,7 @@ pub struct Pair {
 
 // The use that leads on from a copy to the best link: the level of that link below it, the row of the use, from 0,
 // and the joins of the used block that meet the two cues, from 0. Level 0 is none.
-#[derive(Drop)]
+#[derive(Clone, Copy)]
 pub struct Lead {
     pub level: u8,
     pub row: usize,
@@ -38,7 +38,7 @@ pub struct Lead {
 }
 
 // The number of a link's row, from 1, and how many uses lead to the copy in which it stands. Row 0 is none.
-#[derive(Drop)]
+#[derive(Clone, Copy)]
 pub struct RowAt {
     pub row: u32,
     pub depth: usize,

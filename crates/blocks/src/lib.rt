@@ -42,7 +42,7 @@ pub struct Rows {
 
 // Where a cue is: its number, how many uses lead from the show down to the copy that owns it, that copy's block, and the own cue. The rows
 // of these uses stand in a list beside it (`Found`).
-#[derive(Drop)]
+#[derive(Clone, Copy)]
 pub struct Place {
     pub cue: u32,
     pub depth: usize,

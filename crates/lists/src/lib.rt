@@ -37,7 +37,7 @@ const LOW_TABLE: usize = BLOCK * LOW;
 const MAX_TOTAL_64: usize = MAX_TOTAL as usize;
 
 // How many cues were written, and whether there is a further one.
-#[derive(Drop)]
+#[derive(Clone, Copy)]
 pub struct Listed {
     pub written: u32,
     pub more: bool,
@@ -45,7 +45,7 @@ pub struct Listed {
 
 // A copy that the walk comes to, whatever its joins meet: its block, the number that its own cues
 // follow, and the cue of it whose links are listed.
-#[derive(Drop)]
+#[derive(Clone, Copy)]
 pub struct Visit {
     pub block: usize,
     pub base: u32,
@@ -54,7 +54,7 @@ pub struct Visit {
 
 // The copy inside such a one that the use of a row makes: the block that has the use, the row, the
 // number that the cues of the copy follow, and the cue of the block whose links are listed.
-#[derive(Drop)]
+#[derive(Clone, Copy)]
 pub struct Inner {
     pub block: usize,
     pub row: usize,

@@ -44,7 +44,7 @@ pub struct Ask {
 }
 
 // A cue of a block: the block, how many own cues it has, and the cue.
-#[derive(Drop)]
+#[derive(Clone, Copy)]
 pub struct BlockCue {
     pub block: usize,
     pub own: u32,
