@@ -9,7 +9,7 @@ pub improve-c-requires : goal.improve-c-requires
 improve-c-requires c = (search (column-within, rules), search (column-within, rules))
 
 pub improve-e-requires : goal.improve-e-requires
-improve-e-requires c = let h = improve-c-requires c in (omega (arith, h.1), omega (arith, h.0))
+improve-e-requires c = (search (column-within, rules), search (column-within, rules))
 
 pub returns : goal.returns
 returns c = search (mesh_pair, rules)
