@@ -9,9 +9,7 @@ use Rattle.quickest.proofs.search.Goals as goal
 
 pub sink_alone-requires : goal.sink_alone-requires
 sink_alone-requires c =
-    let start =
-    c in
-    (record { sums = start.pre.0; found = start.pre.2; size = search rules }, search rules)
+    (record { sums = c.requires.0; found = c.requires.2; size = search rules }, search rules)
 
 pub bounds-d-wide : goal.bounds-d-wide
 bounds-d-wide c =
@@ -19,9 +17,9 @@ bounds-d-wide c =
       arith,
       own-few c.requires.0.loaded c.requires.2,
       c.wide.ensures.0,
-      c.sink_alone.auto.1.1.1.1.1.1.1.0,
-      c.sink_shared.auto.1.1.1.1.1.1.1.1.0,
-      c.climb.auto.1.1.1.1.1.1.1.0,
+      c.sink_alone.auto.d,
+      c.sink_shared.auto.d,
+      c.climb.auto.d,
       c.requires.3,
     )
 
@@ -29,6 +27,6 @@ pub returns : goal.returns
 returns c =
     quickest-is c.requires.0.loaded c.requires.0.waited c.requires.2 _ _
     (answered c.requires.0.loaded c.requires.1 c.requires.2 _ c.common-shared.ensures
-    c.sink_shared.new.1.1.1.1.1.1.1.1.0 c.sink_alone.new.1.1.1.1.1.1.1.0
+    c.sink_shared.new.d c.sink_alone.new.d
     c.wide.result _ c.wide.ensures.0 refl
     c.sink_shared.ensures c.sink_alone.ensures)

@@ -8,6 +8,6 @@ pub returns : goal.returns
 returns c =
     (
       search rules,
-      area-zeros c.sum_blocks.new.1.1.1.1.0 _ c.put_zeros.ensures
-          (c.sum_blocks.auto.1.1.1.1.0 ∙ c.requires.4),
+      area-zeros c.sum_blocks.new.work _ c.put_zeros.ensures
+          (c.sum_blocks.auto.work ∙ c.requires.4),
     )
