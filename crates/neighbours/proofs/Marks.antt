@@ -18,7 +18,7 @@ use Rattle.blocks.specs.Loaded.{LinkRows, UseRow, column_at, IsJoinAt}
 use Rattle.blocks.proofs.Loaded.{uses_from-snoc}
 use Rattle.blocks.proofs.Meeting.{use_arity, use_column, use_meets, use_only, use_apart}
 use Rattle.neighbours.specs.declared.Ask.{Ask}
-use Rattle.neighbours.specs.Picks.{near_end, there, fits, IsLink, Picked}
+use Rattle.neighbours.specs.Picks.{near_end, fits, IsLink, Picked}
 use Rattle.neighbours.specs.Near.{Near, by-link, by-use, IsColumn, ByRow, ByUse, ByUses, Quiet, UseMarked, UsesMarked, Marks}
 use Rattle.neighbours.specs.Records.{record_size, inside_at, bits_at, record_at, bit_at, set_bit, own_bit, mark_of, On, HasMark, IsCue, Added}
 use Rattle.neighbours.proofs.Bits.{set_same, set_other, bit_none}

@@ -1,7 +1,7 @@
 -- A record of marks, and what it has for the cues of a block: a flag for each join, then one for
 -- what is inside, then 32 bytes with a bit for each own cue. A table has a record for each join of
 -- each block.
-use Rattle.std.specs.Prelude.{ℕ, ◌+◌, ◌-◌, ◌*◌, ◌/◌, ◌%◌, ◌^◌, ◌≤◌, ◌<◌, ◌≡◌, ◌↔◌, ◌⊎◌, List, length, get_or}
+use Rattle.std.specs.Prelude.{ℕ, ◌+◌, ◌-◌, ◌*◌, ◌/◌, ◌%◌, ◌^◌, ◌≤◌, ◌≡◌, ◌↔◌, ◌⊎◌, List, length, get_or}
 use Rattle.std.specs.Int.Bits.{bit_or}
 use Rattle.model.specs.Choice.{if_lt}
 use Rattle.model.specs.Limits.{max_joins, max_own}

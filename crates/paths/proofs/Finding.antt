@@ -16,7 +16,6 @@ use Rattle.shows.proofs.Numbering.{numbering}
 use Rattle.verdicts.specs.Index.{use_at}
 use Rattle.blocks.specs.Loaded.{Loaded, IsBlock}
 use Rattle.blocks.specs.Places.{block_on, Takes, Along, Found}
-use Rattle.blocks.specs.declared.Place.{Place}
 use Rattle.blocks.proofs.Loaded.{loaded-show}
 use Rattle.paths.specs.Locating.{place_of, in_copy, MayLocate, UseFrom, Descends, ends, goes, block_below, Reached, Down, Positions}
 
@@ -25,17 +24,21 @@ record Level (xs t : List ℕ) (k : ℕ) (rows path : List ℕ) (l : ℕ) : Type
   pub row : UseFrom xs t (block_below xs k rows l) (get_or rows l 0)
   pub takes : Takes t (block_below xs k rows l) (get_or path l 0) (get_or rows l 0)
 
-leads-level : {xs t : List ℕ} {k : ℕ} (rows path : List ℕ) → Descends xs t k rows path → (l : ℕ) → l < length path → Level xs t k rows path l
+leads-level : {xs t : List ℕ} (rows path : List ℕ) {k : ℕ} → Descends xs t k rows path → (l : ℕ) → l < length path → Level xs t k rows path l
 unfolding block_below
 leads-level [] [] ends l h = absurd (omega arith)
+leads-level [] (p ∷ path) d l h = elim d [ ]
+leads-level (r ∷ rows) [] d l h = elim d [ ]
 leads-level (r ∷ rows) (p ∷ path) (goes u e s) zero h = record { row = u; takes = e }
 leads-level (r ∷ rows) (p ∷ path) (goes u e s) (suc zero) h =
     let y = leads-level rows path s zero (omega arith) in record { row = y.row; takes = y.takes }
 leads-level (r ∷ rows) (p ∷ path) (goes u e s) (suc (suc l)) h =
     let y = leads-level rows path s (suc l) (omega arith) in record { row = y.row; takes = y.takes }
 
-leads-length : {xs t : List ℕ} {k : ℕ} (rows path : List ℕ) → Descends xs t k rows path → length rows ≡ length path
+leads-length : {xs t : List ℕ} (rows path : List ℕ) {k : ℕ} → Descends xs t k rows path → length rows ≡ length path
 leads-length [] [] ends = refl
+leads-length [] (p ∷ path) d = elim d [ ]
+leads-length (r ∷ rows) [] d = elim d [ ]
 leads-length (r ∷ rows) (p ∷ path) (goes u e s) = ap suc (leads-length rows path s)
 
 -- In a longer list.

@@ -165,6 +165,13 @@ module _ {xs t path : List ℕ} {k base done first end p q : ℕ} (i : Into xs t
             ∙ rw (← i.step, uses-here, b_is, block-is)
             (sym (rw (← s) at (number-into xs (blocks_of xs) size (paths.number_in (blocks_of xs)) rest c (end - first) first base (p - 1) (omega arith))))
 
+-- The step that is next, and the cues before its use as they are summed.
+pub record Steps (xs t path : List ℕ) (k base done first end p at r b : ℕ) : Type 0 where
+  pub into : Into xs t path k base (done + 1) first end p (get_or path done 0)
+  pub low : 1 ≤ p
+  pub high : p ≤ end - first
+  pub summed : Summed into low high at r b
+
 -- In the show.
 module _ {xs t : List ℕ} (g : Loaded xs t) (k : ℕ) (e : k ≡ last_block (blocks_of xs)) (path : List ℕ) where
   pub show_asks : IsBlock xs k → MayNumber xs t path k (total (blocks_of xs) k) 0 0

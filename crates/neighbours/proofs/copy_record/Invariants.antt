@@ -1,11 +1,9 @@
 -- `copy_record`: the loop copies one byte more each turn.
-use borrow.Author.Rules.{rules}
 use Prim.Native.Nat.{◌-◌, ◌≤◌}
 use mathlib.Core.Path.{◌≡◌}
 use lib.ListN.{length}
 use Rattle.neighbours.specs.Near.{Copied}
 use Rattle.neighbours.specs.Records.{record_size}
-use Rattle.neighbours.proofs.Tables.{copied_begin, copied_on, copied_done}
 use Rattle.neighbours.proofs.copy_record.Given as goal
 
 abbrev pub invariant-loop-j : goal.invariant-loop-j

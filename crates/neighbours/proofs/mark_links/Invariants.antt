@@ -1,12 +1,10 @@
 -- `mark_links`: the loop marks by one row more each turn.
-use borrow.Author.Rules.{rules}
 use Prim.Native.Nat.{◌-◌, ◌≤◌}
 use mathlib.Core.Path.{◌≡◌}
 use lib.ListN.{length}
 use Rattle.verdicts.specs.Index.{links_from}
 use Rattle.neighbours.specs.Picks.{Picked}
 use Rattle.neighbours.specs.Records.{record_size, Added}
-use Rattle.neighbours.proofs.Marks.{links-begin, links-on, links-done, added-long}
 use Rattle.neighbours.proofs.mark_links.Given as goal
 
 abbrev pub invariant-loop-r : goal.invariant-loop-r

@@ -1,11 +1,9 @@
 -- `mark_row`: the loop marks by one column more each turn.
-use borrow.Author.Rules.{rules}
 use Prim.Native.Nat.{◌-◌, ◌≤◌}
 use mathlib.Core.Path.{◌≡◌}
 use lib.ListN.{length}
 use Rattle.neighbours.specs.Near.{ByRow}
 use Rattle.neighbours.specs.Records.{record_size, Added}
-use Rattle.neighbours.proofs.Marks.{row-begin, row_on, row_done, added-long}
 use Rattle.neighbours.proofs.mark_row.Given as goal
 
 abbrev pub invariant-loop-j : goal.invariant-loop-j

@@ -20,7 +20,8 @@ shape_of-path c = search rules
 pub returns : goal.returns
 returns c =
     let p = c.requires in
-    let e = c.last-last.ensures.0 in (
-      reached-place p.0 p.1 p.2 e c.locate_copy-end.ensures,
-      reached-path p.0 p.1 p.2 e c.locate_copy-end.ensures _ c.positions.ensures,
-    )
+    let e = c.last-last.ensures.0 in
+    record {
+      value = reached-place p.0 p.1 p.2 e c.locate_copy-end.ensures;
+      path_after = reached-path p.0 p.1 p.2 e c.locate_copy-end.ensures _ c.positions.ensures;
+    }

@@ -1,5 +1,4 @@
 -- `number`: the show is a copy of the last block after 0, and no path that has a number is too long.
-use borrow.Author.Rules.{rules}
 use Rattle.paths.proofs.Numbers.{show_asks, show_number_lem}
 use Rattle.paths.proofs.number.Goals as goal
 

@@ -1,8 +1,6 @@
 -- `positions`: the rows before level l are positions, the others are as they were.
-use borrow.Author.Rules.{rules}
-use native.Mathlib.Omega.{arith}
 use Prim.Native.Nat.{◌-◌}
-use Rattle.paths.proofs.Finding.{Turned, turned_begin, turned_there, turned_row, turned_on, turned_done}
+use Rattle.paths.proofs.Finding.{Turned}
 use Rattle.paths.proofs.positions.Given as goal
 
 abbrev pub invariant-loop-l : goal.invariant-loop-l
