@@ -1,6 +1,6 @@
 -- The C interface: each function returns one number and leaves the values of an answer in a lent list, `given`.
 use Rattle.std.specs.Prelude.{ℕ, ◌+◌, ◌*◌, min, ◌≡◌, List, length}
-use Rattle.std.specs.Borrow.{Bor}
+use Rattle.std.specs.Borrow.{MutBor}
 use denote.Triple.Both.{Both}
 use Rattle.model.specs.Choice.{if_lt}
 use Rattle.model.specs.Verdicts.{refusal}
@@ -45,7 +45,7 @@ short_of ahead = code (on_accepted ahead (λ f. returned f) (returned (refusal 1
 
 -- A list that is lent to be written, at entry and at exit.
 abbrev pub Lent : Type 0
-Lent = Both (Bor (List ℕ)) (Bor (List ℕ))
+Lent = Both (MutBor (List ℕ)) (MutBor (List ℕ))
 
 -- The promise of a function: it tells what the question returns, with `given`. The verdict `ahead` says what comes ahead of the refusal of a short `given`:
 -- for a question about rows or a file the verdict on them, since 12, 13 and 14 come behind 11.
