@@ -46,7 +46,7 @@ enum Step {
 }
 
 // A file and the place in it where the next line begins.
-#[derive(Drop)]
+#[derive(Clone, Copy)]
 struct Reader<'a> {
     file: &'a [u8],
     at: usize,

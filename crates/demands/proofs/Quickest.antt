@@ -1,5 +1,5 @@
 -- The quickest answer under a lawful wait file: it is the smallest sum of waits over all chains, below 2^64, and none exactly where the fewest answer is.
-use Prim.Native.Nat.{ℕ, ◌-◌, ◌/◌, ◌%◌, ◌≤◌, ◌<◌}
+use Prim.Native.Nat.{ℕ, ◌/◌, ◌%◌, ◌≤◌, ◌<◌}
 use native.Mathlib.Omega.{arith}
 use mathlib.Core.Path.{◌≡◌, refl, sym, ◌∙◌, ap}
 use mathlib.Core.Logic.{◌↔◌}
@@ -11,7 +11,7 @@ use Rattle.model.specs.Chains.{Distance, Far, Unreachable}
 use Rattle.model.specs.Verdicts.{refusal, verdict}
 use Rattle.model.specs.Quickest.{quickest}
 use Rattle.model.specs.Answers.{Returned, given, returned, halves, of_quickest}
-use Rattle.model.specs.Questions.{answer, sum_values}
+use Rattle.model.specs.Questions.{sum_values}
 use Rattle.model.specs.Asking.{AsksFewest}
 use Rattle.model.specs.declared.Verdict.TheVariants.{Accepted}
 use Rattle.model.specs.declared.QuickestAnswer.{QuickestAnswer}
@@ -30,7 +30,6 @@ use Rattle.demands.specs.Quickest.{Lasts, IsQuickest}
 use Rattle.demands.proofs.Answers.{same-value, no_values}
 use Rattle.demands.proofs.Shortest.{is-fewest}
 use Rattle.demands.proofs.Notes.{show_labels}
-use Rattle.demands.proofs.Waits.{lawful}
 use Rattle.demands.proofs.Sums.{Agree, lasts_walk, walk_lasts}
 
 -- The answer of a sum.

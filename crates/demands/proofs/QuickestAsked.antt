@@ -1,6 +1,6 @@
 -- What is demanded of the quickest question's answer: each refusal of the wait file exactly where it is due, else the smallest sum of waits, and the work
 -- area at 0.
-use Prim.Native.Nat.{ℕ, ◌-◌, ◌≤◌, ◌<◌}
+use Prim.Native.Nat.{ℕ, ◌≤◌, ◌<◌}
 use native.Mathlib.Omega.{arith}
 use native.Mathlib.Decide.{dec_lt}
 use mathlib.Core.Path.{◌≡◌, refl, sym, ◌∙◌, ap}

@@ -12,12 +12,12 @@ use Rattle.shows.proofs.Followed.{followed-is, followed-has}
 use Rattle.distances.specs.Demand.{Chain, here, link}
 
 -- Two chains, one after the other.
-pub chain-append : {E : List Link} {s u t n m : ℕ} → Chain E u s n → Chain E t u m → Chain E t s (n + m)
+pub chain-append : {E : List Link} {u s t n m : ℕ} → Chain E u s n → Chain E t u m → Chain E t s (n + m)
 chain-append here d = rw zero-add d
 chain-append (link l i c) d = rw suc-add (link l i (chain-append c d))
 
 -- A chain is one over any links that have all of its own.
-pub chain-weaken : {E F : List Link} {s t n : ℕ} → ((l : Link) → Memᴰ l E → Memᴰ l F) → Chain E t s n → Chain F t s n
+pub chain-weaken : {E F : List Link} {t s n : ℕ} → ((l : Link) → Memᴰ l E → Memᴰ l F) → Chain E t s n → Chain F t s n
 chain-weaken f here = here
 chain-weaken f (link l i c) = link l (f l i) (chain-weaken f c)
 
@@ -43,21 +43,21 @@ chain-last {E} {s} {t} {n} c = let e : suc n ≡ n + 1 = omega arith in let (u, 
     go a (link l i c) = (l, i, a, chain-nought c refl)
 
 -- Chains of followed links are the walks over links that count 1 each.
-pub chain-walk : {E : List Link} {s t n : ℕ} → Chain (followed E) t s n → Walk (Linked each-one E) t s n
+pub chain-walk : {E : List Link} {t s n : ℕ} → Chain (followed E) t s n → Walk (Linked each-one E) t s n
 chain-walk here = stop refl refl
 chain-walk {E} (link l i c) =
     let (j, h) = followed-is E l i in
     next l.to 1 _ (l, j, refl, refl, (h, refl)) (chain-walk c) (omega arith)
 
-pub walk_chain : {E : List Link} {s t n : ℕ} → Walk (Linked each-one E) t s n → Chain (followed E) t s n
+pub walk_chain : {E : List Link} {t s n : ℕ} → Walk (Linked each-one E) t s n → Chain (followed E) t s n
 walk_chain (stop p q) = rw (p, q) here
-walk_chain {E} {s} {t} {n} (step u w m (l, i, p, q, (h, o)) c e) =
+walk_chain {E} {t} {s} {n} (step u w m (l, i, p, q, (h, o)) c e) =
     let d : Chain (followed E) t s (suc m) = rw p at (link l (followed-has E l i h) (rw (← q) at (walk_chain c))) in
     let k : suc m ≡ n = omega arith in
     rw k at d
 
 -- The weight of such a walk is the number of its links.
-pub walk_count : {E : List Link} {s t n : ℕ} (c : Walk (Linked each-one E) t s n) → n ≡ edges c
+pub walk_count : {E : List Link} {t s n : ℕ} (c : Walk (Linked each-one E) t s n) → n ≡ edges c
 unfolding edges
 walk_count (stop p q) = q
 walk_count (step u w m (l, i, p, q, o) c e) = omega (arith, walk_count c)

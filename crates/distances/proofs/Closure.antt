@@ -99,10 +99,10 @@ module _ (price : Price) {z : Copy} (g : Sound z) where
       }
 
   -- From the number of a cue on, a walk over crossings is a walk over the block's cues.
-  lower-walk : {u v n : ℕ} (a : ℕ) → Cue z.block a → number z a ≡ u → Walk (Crossing price z) v u n
+  lower-walk : {v u n : ℕ} (a : ℕ) → Cue z.block a → number z a ≡ u → Walk (Crossing price z) v u n
       → (c : ℕ) × Cue z.block c × (number z c ≡ v) × Walk (Local price (JoinWalk price z.blocks) z.blocks z.block) c a n
   lower-walk a h e (stop p q) = (a, h, e ∙ p, stop refl q)
-  lower-walk {u} {v} {n} a h e (step t w m r x q) =
+  lower-walk {v} {u} {n} a h e (step t w m r x q) =
       let y : EdgeBetween (JoinWalk price z.blocks) u t w = to-edge u t w r in
       let same : y.start ≡ a = number-apart g y.start a y.start-cue h (y.start-at ∙ sym e) in
       let (c, k, s, d) = lower-walk y.finish y.finish_cue y.finish_at x in

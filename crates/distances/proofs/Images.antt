@@ -163,10 +163,10 @@ module _ (bs : List Block) (good : Good bs) (k base : ℕ) (met : List ℕ) (fit
           (m, j, sym (ap (λ (q : Link). q.from) e) ∙ x, sym (ap (λ (q : Link). q.to) e) ∙ y, rw (ap (λ (q : Link). q.label) e) at o)
 
       -- A walk of the copy from the place of a cue is one of the block alone from that cue.
-      pub lift : {u v n : ℕ} (a : ℕ) → Alone a → image a ≡ u → Walk (Linked price (links bs k base met)) v u n
+      pub lift : {v u n : ℕ} (a : ℕ) → Alone a → image a ≡ u → Walk (Linked price (links bs k base met)) v u n
           → (c : ℕ) × Alone c × (image c ≡ v) × Walk (Linked price (block_links bs k)) c a n
       lift a h e (stop p q) = (a, h, e ∙ p, stop refl q)
-      lift {u} {v} {n} a h e (step t w m r x q) =
+      lift {v} {u} {n} a h e (step t w m r x q) =
           let (l, i, f, g, o) = lift_link u t w r in
           let (starts, ends) = block-ends bs good k l i in
           let same : a ≡ l.from = image_apart a l.from h starts (e ∙ sym f) in

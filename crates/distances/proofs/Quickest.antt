@@ -186,7 +186,7 @@ module _ (waits : List ℕ) (E : List Link) (t : ℕ) where
           (x, e, omega arith)
 
 -- A walk over links at one price is one at any other that the same links have.
-walk_reprice : (price other : Price) {E : List Link} {s t n : ℕ} → ((label w : ℕ) → price label w → (x : ℕ) × other label x)
+walk_reprice : (price other : Price) {E : List Link} {t s n : ℕ} → ((label w : ℕ) → price label w → (x : ℕ) × other label x)
     → Walk (Linked price E) t s n → (m : ℕ) × Walk (Linked other E) t s m
 walk_reprice price other f (stop p q) = (0, stop p refl)
 walk_reprice price other f (step u w m (l, i, x, y, o) c e) =

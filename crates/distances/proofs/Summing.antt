@@ -1,6 +1,6 @@
 -- The summaries by relaxation: estimates over a block's links and the summaries of the lower blocks, begun at one join, end as the block's
 -- own summaries; and estimates that tell the least lengths in a show are the fewest answers.
-use Prim.Native.Nat.{ℕ, ◌+◌, ◌-◌, ◌≤◌, ◌<◌}
+use Prim.Native.Nat.{ℕ, ◌+◌, ◌≤◌, ◌<◌}
 use native.Mathlib.Omega.{arith}
 use native.Mathlib.Decide.{dec_lt}
 use mathlib.Core.Path.{◌≡◌, refl, ◌∙◌, ap}

@@ -21,17 +21,17 @@ pub restart : {W : ℕ → ℕ → ℕ → Type 0} {t s r n : ℕ} → r ≡ s �
 restart e c = rw (← e) at c
 
 -- Two walks, one after the other.
-pub walk_append : {W : ℕ → ℕ → ℕ → Type 0} {s u t n m : ℕ} → Walk W u s n → Walk W t u m → Walk W t s (n + m)
+pub walk_append : {W : ℕ → ℕ → ℕ → Type 0} {u s t n m : ℕ} → Walk W u s n → Walk W t u m → Walk W t s (n + m)
 walk_append (stop p q) d = restart p (reweigh (omega arith) d)
 walk_append (step u w m r c q) d = next u w _ r (walk_append c d) (omega arith)
 
 -- Each edge of W is one of X.
-pub walk_map : {W X : ℕ → ℕ → ℕ → Type 0} {s t n : ℕ} → ((u v w : ℕ) → W u v w → X u v w) → Walk W t s n → Walk X t s n
+pub walk_map : {W X : ℕ → ℕ → ℕ → Type 0} {t s n : ℕ} → ((u v w : ℕ) → W u v w → X u v w) → Walk W t s n → Walk X t s n
 walk_map f (stop p q) = stop p q
 walk_map f (step u w m r c q) = step u w m (f _ u w r) (walk_map f c) q
 
 -- Each edge of W stands for a walk of its weight over X between the images of its ends.
-pub walk_carry : {W X : ℕ → ℕ → ℕ → Type 0} {s t n : ℕ} (f : ℕ → ℕ) → ((u v w : ℕ) → W u v w → Walk X (f v) (f u) w) → Walk W t s n
+pub walk_carry : {W X : ℕ → ℕ → ℕ → Type 0} {t s n : ℕ} (f : ℕ → ℕ) → ((u v w : ℕ) → W u v w → Walk X (f v) (f u) w) → Walk W t s n
     → Walk X (f t) (f s) n
 walk_carry f g (stop p q) = stop (ap f p) q
 walk_carry f g (step u w m r c q) = reweigh (omega arith) (walk_append (g _ u w r) (walk_carry f g c))
@@ -41,7 +41,7 @@ pub walk_bind : {W X : ℕ → ℕ → ℕ → Type 0} {s t n : ℕ} → ((u v w
 walk_bind g c = walk_carry (λ v. v) g c
 
 -- Where every edge of W has one of X that weighs no more, so has every walk.
-pub walk_lighter : {W X : ℕ → ℕ → ℕ → Type 0} {s t n : ℕ} → ((u v w : ℕ) → W u v w → (x : ℕ) × X u v x × (x ≤ w)) → Walk W t s n
+pub walk_lighter : {W X : ℕ → ℕ → ℕ → Type 0} {t s n : ℕ} → ((u v w : ℕ) → W u v w → (x : ℕ) × X u v x × (x ≤ w)) → Walk W t s n
     → (m : ℕ) × Walk X t s m × (m ≤ n)
 walk_lighter f (stop p q) = (0, stop p refl, omega arith)
 walk_lighter f (step u w m r c e) =

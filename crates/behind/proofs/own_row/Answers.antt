@@ -2,10 +2,10 @@
 use borrow.Author.Rules.{rules}
 use Prim.Native.Nat.{◌-◌, ◌≤◌}
 use mathlib.Core.Path.{◌≡◌}
-use mathlib.Core.Logic.{⊎_elim}
 use native.Mathlib.Omega.{arith}
 use Rattle.behind.proofs.Seeing.{row_from, row-hit, row_from_is, row-to, row-none}
 use Rattle.behind.proofs.own_row.Goals as goal
+use Rattle.behind.proofs.own_row.Goals.{then-from-x+else-to-y, else-from-x}
 
 pub returns-then-to-y : goal.returns-then-to-y
 returns-then-to-y c =
@@ -16,10 +16,11 @@ pub loop-r-preserved : goal.loop-r-preserved
 loop-r-preserved c =
     let inv = c.loop-r.invariant in (
       omega arith,
-      ⊎_elim
-          (λ p. row-to _ _ _ _ _ c.loop-r-test.true _ _ _ c.from.ensures p.0.taken p.1.ensures p.2.left inv.1)
-          (λ p. row_from_is _ _ _ _ _ c.loop-r-test.true _ _ c.from.ensures p.left inv.1)
-          c.if-from-x.branch,
+      elim c.if-from-x.branch [
+        then-from-x+else-to-y w ↦
+            row-to _ _ _ _ _ c.loop-r-test.true _ _ _ c.from.ensures w.if-from-x.true w.to.ensures w.if-to-y.false inv.1
+        | else-from-x w ↦ row_from_is _ _ _ _ _ c.loop-r-test.true _ _ c.from.ensures w.if-from-x.false inv.1
+      ],
     )
 
 pub returns : goal.returns

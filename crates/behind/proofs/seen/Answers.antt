@@ -2,9 +2,9 @@
 use borrow.Author.Rules.{rules}
 use native.Mathlib.Omega.{arith}
 use mathlib.Core.Path.{refl}
-use mathlib.Core.Logic.{⊎_elim}
 use Rattle.behind.proofs.Seeing.{seen-own, seen-join, seen_none}
 use Rattle.behind.proofs.seen.Goals as goal
+use Rattle.behind.proofs.seen.Goals.{then-base-v+else-v-base, else-base-v}
 
 pub returns-then-v-base : goal.returns-then-v-base
 returns-then-v-base c = search (seen-own, rules)
@@ -15,5 +15,6 @@ returns-then-j-joins c =
 
 pub returns : goal.returns
 returns c =
-    seen_none _ _ _ c.own-own.ensures.0 _ _ _ c.joins-joins.ensures.0 c.met_at-j.ensures _ c.if-j-joins.false
-    (λ l h. ⊎_elim (λ p. omega (arith, p.1.left)) (λ p. omega (arith, p.left)) c.if-base-v.branch) refl
+    seen_none _ c.args.z _ c.own-own.ensures.0 _ _ _ c.joins-joins.ensures.0 c.met_at-j.ensures _ c.if-j-joins.false
+    (λ l h. elim c.if-base-v.branch [ then-base-v+else-v-base w ↦ omega (arith, w.if-v-base.false) | else-base-v w ↦ omega (arith, w.if-base-v.false) ])
+    refl

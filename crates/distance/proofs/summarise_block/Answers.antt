@@ -1,0 +1,24 @@
+-- `distance::summarise_block` meets its contract. The invariant: the rows of the joins passed are
+-- their summaries.
+use Prim.Native.Nat.{◌+◌, ◌*◌, ◌-◌, ◌≤◌}
+use borrow.Author.Rules.{rules}
+use mathlib.Core.Path.{◌≡◌}
+use lib.ListN.{length}
+use Rattle.model.specs.Limits.{summary_size}
+use Rattle.model.specs.Blocks.{blocks_of}
+use Rattle.searches.specs.Starts.{estimates_size}
+use Rattle.distance.specs.Summaries.{PartFilled, Below}
+use Rattle.distance.proofs.Area.{part-begin, part-rows, filled-part_on, part-done, below-begin, below_on}
+use Rattle.distance.proofs.summarise_block.Goals as goal
+
+pub loop-i-init : goal.loop-i-init
+loop-i-init c = (search rules, search rules, search rules, search rules, search (below-begin, rules), search (part-begin, rules))
+
+pub summarise_join-requires : goal.summarise_join-requires
+summarise_join-requires c = (search rules, search rules, search rules, search rules, search rules, search rules, search (part-rows, rules))
+
+pub loop-i-preserved : goal.loop-i-preserved
+loop-i-preserved c = (search rules, search rules, search rules, search rules, search (below_on, rules), search (filled-part_on, rules))
+
+pub returns : goal.returns
+returns c = search (part-done, rules)

@@ -1,0 +1,18 @@
+-- `relax::lower_line` meets its contract. The invariant: the estimates passed are lowered.
+use Prim.Native.Nat.{◌-◌, ◌≤◌}
+use borrow.Author.Rules.{rules}
+use mathlib.Core.Path.{◌≡◌}
+use lib.ListN.{length}
+use Rattle.model.specs.Limits.{no_chain, summary_width}
+use Rattle.searches.specs.Lines.{Line}
+use Rattle.searches.proofs.Lines.{line_begin, line_on, line_done}
+use Rattle.relax.proofs.lower_line.Goals as goal
+
+pub loop-j-init : goal.loop-j-init
+loop-j-init c = (search rules, search rules, search (line_begin, rules))
+
+pub loop-j-preserved : goal.loop-j-preserved
+loop-j-preserved c = (search rules, search rules, search (line_on, rules))
+
+pub returns : goal.returns
+returns c = search (line_done, rules)

@@ -1,0 +1,20 @@
+-- `relax::relax_links` meets its contract. The invariant: a round over the link rows passed.
+use Prim.Native.Nat.{◌-◌, ◌≤◌}
+use borrow.Author.Rules.{rules}
+use mathlib.Core.Path.{◌≡◌}
+use lib.ListN.{length}
+use Rattle.distances.specs.Walks.{each-one}
+use Rattle.searches.proofs.Edges.{LinksOver, links-begin, link-ends, links-on, links-done}
+use Rattle.relax.proofs.relax_links.Goals as goal
+
+pub loop-r-init : goal.loop-r-init
+loop-r-init c = (search rules, search rules, search rules, search (links-begin, rules))
+
+pub relax_link-c-requires : goal.relax_link-c-requires
+relax_link-c-requires c = search (link-ends, rules)
+
+pub loop-r-preserved : goal.loop-r-preserved
+loop-r-preserved c = (search rules, search rules, search rules, search (links-on, rules))
+
+pub returns : goal.returns
+returns c = search (links-done, rules)

@@ -1,0 +1,20 @@
+-- `relax_sums::lower_lines` meets its contract. The invariant: the sums are lowered by the lines
+-- passed.
+use Prim.Native.Nat.{◌-◌, ◌≤◌}
+use borrow.Author.Rules.{rules}
+use mathlib.Core.Path.{◌≡◌}
+use lib.ListN.{length}
+use Rattle.model.specs.Limits.{summary_width}
+use Rattle.distances.specs.Quickest.{no_sum}
+use Rattle.searches.specs.Lines.{Lines}
+use Rattle.searches.proofs.Lines.{lines-begin, lines-on, lines-done}
+use Rattle.relax_sums.proofs.lower_lines.Goals as goal
+
+pub loop-i-init : goal.loop-i-init
+loop-i-init c = (search rules, search rules, search (lines-begin, rules))
+
+pub loop-i-preserved : goal.loop-i-preserved
+loop-i-preserved c = (search rules, search rules, search (lines-on, rules))
+
+pub returns : goal.returns
+returns c = search (lines-done, rules)

@@ -1,0 +1,15 @@
+-- `relax_sums::relax_uses_back` meets its contract. The invariant: a round over the use rows passed, which are the last.
+use Prim.Native.Nat.{◌-◌, ◌≤◌, ◌<◌}
+use borrow.Author.Rules.{rules}
+use native.Mathlib.Omega.{arith}
+use mathlib.Core.Path.{◌≡◌}
+use lib.ListN.{length}
+use Rattle.searches.proofs.Edges.{UsesOver, uses-begin, used_named, used_room, used_meets, uses-back, uses-done}
+use Rattle.relax_sums.proofs.relax_uses_back.Given as goal
+
+abbrev pub invariant-loop-r : goal.invariant-loop-r
+invariant-loop-r l =
+    (l.rows.first ≤ l.r) × (l.r ≤ l.rows.end) × (length l.d ≡ length l.initial.d) × UsesOver l.xs l.work l.r l.rows.end l.initial.d l.changed l.d
+
+abbrev pub decreases-loop-r : goal.decreases-loop-r
+decreases-loop-r l = l.r
