@@ -15,10 +15,10 @@ module _ {A B : Type 0} (f : A → List B) where
   flat_same g h (x ∷ xs) = rw (h x, flat_same g h xs)
 
   module _ {C : Type 0} where
-    pub flat_map : (g : C → A) (xs : List C) → flat_map f (map g xs) ≡ flat_map (λ (x : C). f (g x)) xs
+    pub flat-map : (g : C → A) (xs : List C) → flat_map f (map g xs) ≡ flat_map (λ (x : C). f (g x)) xs
     unfolding flat_map
-    flat_map g [] = refl
-    flat_map g (x ∷ xs) = ap (λ (w : List B). f (g x) ++ w) (flat_map g xs)
+    flat-map g [] = refl
+    flat-map g (x ∷ xs) = ap (λ (w : List B). f (g x) ++ w) (flat-map g xs)
 
     pub flat_flat : (g : C → List A) (xs : List C) → flat_map f (flat_map g xs) ≡ flat_map (λ (x : C). flat_map f (g x)) xs
     unfolding flat_map

@@ -15,7 +15,7 @@ use Rattle.basics.proofs.Choices.{lt_then, lt_else, true_else}
 use Rattle.triples.specs.Marks.{label_places, Marked}
 use Rattle.printing.specs.Stream.{link_line, cue_lines, line_of, marked, marks_from, lines_from}
 use Rattle.printing.proofs.Marks.{is-marked, not-marked}
-use Rattle.printing.proofs.Texts.{flat_same, flat_map, flat_flat, flat_keep, flat_parts, range-first}
+use Rattle.printing.proofs.Texts.{flat_same, flat-map, flat_flat, flat_keep, flat_parts, range-first}
 
 -- A byte of 0 is no mark.
 zero-mark : (m : List ℕ) (p : ℕ) → get_or m p 0 ≡ 0 → marked m p ≡ false
@@ -57,7 +57,7 @@ module _ (E : List Link) (u n : ℕ) (m : List ℕ) (w : Marked E u n m) where
     unfolding triples_of
     cue-lines =
         let s : label_places * v + 1 ≡ suc (label_places * v) = omega arith in
-        flat_map link_line _ (keep (is_triple E u v) (range 1 max_label))
+        flat-map link_line _ (keep (is_triple E u v) (range 1 max_label))
         ∙ (rw s at (labels_lines 1 max_label (omega arith) (omega arith)))
         ∙ sym (ap (λ (xs : List ℕ). flat_map (line_of u) (keep (marked m) xs)) (range-first (label_places * v) max_label)
         ∙ flat_keep (line_of u) (marked m) (label_places * v) (range (suc (label_places * v)) max_label)
