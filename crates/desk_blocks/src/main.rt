@@ -2,9 +2,11 @@
 #![tactic(auto)]
 
 use plain_runs::DESK_BYTES;
+use std::io;
+use std::io::Write;
 
-fn main() {
+fn main(rt: HostRuntime) -> io::Result<()> {
     let mut out = [0u8; DESK_BYTES];
     plain_runs::generate(&mut out);
-    io::write_all(1, &out);
+    rt.stdout().write_all(&out)
 }
