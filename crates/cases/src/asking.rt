@@ -6,7 +6,7 @@ use model::{
 };
 
 // An answer: 0 and what it gives, or a refusal with its place. What an answer lacks is 0.
-#[derive(Drop)]
+#[derive(Clone, Copy)]
 pub struct Said {
     pub number: u32,
     pub first: u32,

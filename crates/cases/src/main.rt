@@ -3,16 +3,19 @@
 #![tactic(auto)]
 
 mod asking;
+mod data_lines;
 mod judging;
-mod lines;
 mod text;
 
-fn main() {
+use std::io;
+
+fn main(rt: HostRuntime) -> io::Result<()> {
+    let mut out = rt.stdout();
     let mut text = [0u8; 524288];
-    let known = lines::take_cases(b"cases.txt", lines::begin(), &mut text);
-    let run = lines::take_cases(b"random.txt", known, &mut text);
-    io::print_decimal(1, run.right);
-    io::write_all(1, b" right, ");
-    io::print_decimal(1, run.wrong);
-    io::write_all(1, b" wrong\n");
+    let known = data_lines::take_cases(&rt, &mut out, "cases.txt", data_lines::begin(), &mut text)?;
+    let run = data_lines::take_cases(&rt, &mut out, "random.txt", known, &mut text)?;
+    let right = run.right;
+    let wrong = run.wrong;
+    println!(out; "{right} right, {wrong} wrong")?;
+    Ok(())
 }

@@ -8,10 +8,14 @@
 // A case with no name counts with the next one that has a name, and the content = is that of the case before.
 use crate::judging::least;
 use crate::{judging, text};
+use std::fs;
+use std::io;
+use std::io::{Eprint, Read, Write};
+use std::rt::Files;
 
 // How far the run is: the place in the text, the bytes and numbers of the show, the numbers of the last content, whether all cases
 // since the last name were right, and the counts.
-#[derive(Drop)]
+#[derive(Clone, Copy)]
 pub struct Run {
     at: usize,
     size: usize,
@@ -36,7 +40,7 @@ pub fn begin() -> Run {
 }
 
 // Where the fields of a case begin, and where its line ends.
-#[derive(Drop)]
+#[derive(Clone, Copy)]
 struct Fields {
     question: usize,
     given: usize,
@@ -54,33 +58,59 @@ fn more(n: u64) -> u64 {
 }
 
 // Writes a part of the text.
-fn say(text: &[u8], from: usize, to: usize) {
+fn say<W: Write>(out: &mut W, text: &[u8], from: usize, to: usize) -> io::Result<()> {
     if from <= to {
         if to <= text.len() {
-            io::write_all(1, &text[from..to]);
+            out.write_all(&text[from..to])?;
+        }
+    }
+    Ok(())
+}
+
+// Reads until the list is full or nothing is left: how many bytes.
+fn read_full<R: Read>(from: &mut R, file: &mut [u8]) -> io::Result<usize> {
+    let mut n = 0;
+    while n < file.len() {
+        let more = from.read(&mut file[n..])?;
+        if more == 0 {
+            return Ok(n);
+        }
+        n += more;
+    }
+    Ok(n)
+}
+
+// Reads the file of this name: how many bytes it has. A file that cannot be opened has none, and the reason is told.
+fn load<R: Files + Eprint>(rt: &R, name: &str, file: &mut [u8]) -> io::Result<usize> {
+    match fs::open(rt, name) {
+        Ok(mut opened) => read_full(&mut opened, file),
+        Err(error) => {
+            eprintln!(rt; "{name}: {error}")?;
+            Ok(0)
         }
     }
 }
 
-// Reads the file of this name: how many bytes it has.
-fn load(name: &[u8], file: &mut [u8]) -> usize {
-    let opened = os::open_read(name);
-    if opened < 0 {
-        os::fail(name);
-        return 0;
+fn load_bytes<R: Files + Eprint>(rt: &R, name: &[u8], file: &mut [u8]) -> io::Result<usize> {
+    match str::from_utf8(name) {
+        Ok(name) => load(rt, name, file),
+        Err(_) => Ok(0),
     }
-    let size = io::read_full(opened, file);
-    libc::close(opened);
-    size
 }
 
-fn load_named(text: &[u8], from: usize, to: usize, file: &mut [u8]) -> usize {
+fn load_named<R: Files + Eprint>(
+    rt: &R,
+    text: &[u8],
+    from: usize,
+    to: usize,
+    file: &mut [u8],
+) -> io::Result<usize> {
     if from <= to {
         if to <= text.len() {
-            return load(&text[from..to], file);
+            return load_bytes(rt, &text[from..to], file);
         }
     }
-    0
+    Ok(0)
 }
 
 fn wide(x: u32) -> usize {
@@ -119,25 +149,37 @@ fn with_show(
 }
 
 // Takes the show that a line names. Its rows are all numbers below the line of names.
-fn take_named(text: &[u8], run: Run, file: &mut [u8], rows: &mut [u32]) -> Run {
+fn take_named<R: Files + Eprint>(
+    rt: &R,
+    text: &[u8],
+    run: Run,
+    file: &mut [u8],
+    rows: &mut [u32],
+) -> io::Result<Run> {
     let end = text::seek(text, run.at, b'\n');
     let name = text::seek(text, run.at, b'|');
     let mut sizes = [0u32; 2];
     let told = text::numbers(text, name, end, &mut sizes);
-    let size = load_named(text, text::after(run.at), name, file);
-    with_show(run, text::after(end), size, &sizes, told, file, rows)
+    let size = load_named(rt, text, text::after(run.at), name, file)?;
+    Ok(with_show(run, text::after(end), size, &sizes, told, file, rows))
 }
 
 // Takes the show that stands below a line with no name. It ends where the first case begins.
-fn take_show(text: &[u8], run: Run, file: &mut [u8], rows: &mut [u32]) -> Run {
+fn take_show<R: Files + Eprint>(
+    rt: &R,
+    text: &[u8],
+    run: Run,
+    file: &mut [u8],
+    rows: &mut [u32],
+) -> io::Result<Run> {
     let first = text::after(run.at);
     if text::byte(text, first) != b'\n' {
-        return take_named(text, run, file, rows);
+        return take_named(rt, text, run, file, rows);
     }
     let begin = text::after(first);
     let size = text::copy(text, begin, b'|', file);
     let sizes = [0u32; 2];
-    with_show(run, text::sum(begin, size), size, &sizes, 0, file, rows)
+    Ok(with_show(run, text::sum(begin, size), size, &sizes, 0, file, rows))
 }
 
 // The numbers that a lent list begins with afterwards: how many.
@@ -232,19 +274,19 @@ fn judged(
 }
 
 // A case with a name says how it and the ones before it went.
-fn tell(text: &[u8], fields: Fields, run: Run, right: bool) -> Run {
+fn tell<W: Write>(out: &mut W, text: &[u8], fields: Fields, run: Run, right: bool) -> io::Result<Run> {
     let mut good = run.right;
     let mut bad = run.wrong;
     if right {
-        io::write_all(1, b"ok ");
+        out.write_all(b"ok ")?;
         good = more(good);
     } else {
-        io::write_all(1, b"WRONG ");
+        out.write_all(b"WRONG ")?;
         bad = more(bad);
     }
-    say(text, run.at, text::seek(text, run.at, b'|'));
-    io::write_all(1, b"\n");
-    Run {
+    say(out, text, run.at, text::seek(text, run.at, b'|'))?;
+    out.write_all(b"\n")?;
+    Ok(Run {
         at: text::after(fields.end),
         size: run.size,
         many: run.many,
@@ -252,7 +294,7 @@ fn tell(text: &[u8], fields: Fields, run: Run, right: bool) -> Run {
         all: true,
         right: good,
         wrong: bad,
-    }
+    })
 }
 
 // The run at another place, with another content.
@@ -269,7 +311,14 @@ fn go_on(run: Run, at: usize, content: usize, all: bool) -> Run {
 }
 
 // One case.
-fn take_case(text: &[u8], run: Run, file: &[u8], rows: &[u32], content: &mut [u32]) -> Run {
+fn take_case<W: Write>(
+    out: &mut W,
+    text: &[u8],
+    run: Run,
+    file: &[u8],
+    rows: &[u32],
+    content: &mut [u32],
+) -> io::Result<Run> {
     let fields = split(text, run.at);
     let many = take_content(text, fields.content, fields.end, run.content, content);
     let known = go_on(run, run.at, many, run.all);
@@ -278,42 +327,52 @@ fn take_case(text: &[u8], run: Run, file: &[u8], rows: &[u32], content: &mut [u3
         right = false;
     }
     if text::byte(text, run.at) == b'|' {
-        return go_on(known, text::after(fields.end), many, right);
+        return Ok(go_on(known, text::after(fields.end), many, right));
     }
-    tell(text, fields, known, right)
+    tell(out, text, fields, known, right)
 }
 
 // One line: empty, a show or a case.
-fn take_line(text: &[u8], run: Run, file: &mut [u8], rows: &mut [u32], content: &mut [u32]) -> Run {
+fn take_line<R: Files + Eprint, W: Write>(
+    rt: &R,
+    out: &mut W,
+    text: &[u8],
+    run: Run,
+    file: &mut [u8],
+    rows: &mut [u32],
+    content: &mut [u32],
+) -> io::Result<Run> {
     let first = text::byte(text, run.at);
     if first == b'\n' {
-        return go_on(run, text::after(run.at), run.content, run.all);
+        return Ok(go_on(run, text::after(run.at), run.content, run.all));
     }
     if first == b'=' {
-        return take_show(text, run, file, rows);
+        return take_show(rt, text, run, file, rows);
     }
-    take_case(text, run, file, rows, content)
+    take_case(out, text, run, file, rows, content)
 }
 
 // All lines of a text that has so many bytes. There are no more lines than bytes.
-fn take_lines(
+fn take_lines<R: Files + Eprint, W: Write>(
+    rt: &R,
+    out: &mut W,
     text: &[u8],
     size: usize,
     known: Run,
     file: &mut [u8],
     rows: &mut [u32],
     content: &mut [u32],
-) -> Run {
+) -> io::Result<Run> {
     let mut run = go_on(known, 0, 0, true);
     let mut left = size;
     while left > 0 {
         if size <= run.at {
-            return run;
+            return Ok(run);
         }
-        run = take_line(text, run, file, rows, content);
+        run = take_line(rt, out, text, run, file, rows, content)?;
         left -= 1;
     }
-    run
+    Ok(run)
 }
 
 // Wrong cases that no name follows count as one.
@@ -333,10 +392,17 @@ fn closed(run: Run) -> Run {
 }
 
 // The cases in the file of this name.
-pub fn take_cases(name: &[u8], run: Run, text: &mut [u8]) -> Run {
-    let size = load(name, text);
+pub fn take_cases<R: Files + Eprint, W: Write>(
+    rt: &R,
+    out: &mut W,
+    name: &str,
+    run: Run,
+    text: &mut [u8],
+) -> io::Result<Run> {
+    let size = load(rt, name, text)?;
     let mut file = [0u8; 65552];
     let mut rows = [0u32; 11300];
     let mut content = [0u32; 16400];
-    closed(take_lines(text, size, run, &mut file, &mut rows, &mut content))
+    let ended = take_lines(rt, out, text, size, run, &mut file, &mut rows, &mut content)?;
+    Ok(closed(ended))
 }
