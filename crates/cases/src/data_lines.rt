@@ -8,10 +8,9 @@
 // A case with no name counts with the next one that has a name, and the content = is that of the case before.
 use crate::judging::least;
 use crate::{judging, text};
-use std::fs;
-use std::io;
 use std::io::{Eprint, Read, Write};
 use std::rt::Files;
+use std::{fs, io};
 
 // How far the run is: the place in the text, the bytes and numbers of the show, the numbers of the last content, whether all cases
 // since the last name were right, and the counts.
@@ -274,7 +273,13 @@ fn judged(
 }
 
 // A case with a name says how it and the ones before it went.
-fn tell<W: Write>(out: &mut W, text: &[u8], fields: Fields, run: Run, right: bool) -> io::Result<Run> {
+fn tell<W: Write>(
+    out: &mut W,
+    text: &[u8],
+    fields: Fields,
+    run: Run,
+    right: bool,
+) -> io::Result<Run> {
     let mut good = run.right;
     let mut bad = run.wrong;
     if right {

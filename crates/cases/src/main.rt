@@ -24,7 +24,10 @@ fn take_all<R: Files + Eprint, W: Write>(rt: &R, out: &mut W, text: &mut [u8]) -
 }
 
 // The same, with room for the bytes of a file.
-fn take_within<const ROOM: usize, R: Files + Eprint, W: Write>(rt: &R, out: &mut W) -> io::Result<()>
+fn take_within<const ROOM: usize, R: Files + Eprint, W: Write>(
+    rt: &R,
+    out: &mut W,
+) -> io::Result<()>
     requires { ROOM < 2 ^ 63 }
 {
     let mut text = [0u8; ROOM];

@@ -17,7 +17,7 @@ loop-r-preserved c =
     let inv = c.loop-r.invariant in (
       omega arith,
       elim c.if-from-x.branch [
-        then-from-x+else-to-y w ↦
+        | then-from-x+else-to-y w ↦
             row-to _ _ _ _ _ c.loop-r-test.true _ _ _ c.from.ensures w.if-from-x.true w.to.ensures w.if-to-y.false inv.1
         | else-from-x w ↦ row_from_is _ _ _ _ _ c.loop-r-test.true _ _ c.from.ensures w.if-from-x.false inv.1
       ],

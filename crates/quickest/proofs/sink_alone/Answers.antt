@@ -10,12 +10,11 @@ use Rattle.searches.proofs.Ways.{Sinking, sinking_begin, sinking_uses, sinking_o
 use Rattle.quickest.proofs.sink_alone.Goals as goal
 
 pub loop-l-preserved : goal.loop-l-preserved
-loop-l-preserved c =
-    (
-      search rules,
-      sinking_on c.loop-l.invariant.1 (omega arith) c.enter.ensures c.block_on.ensures.0
-          c.settle.ensures,
-    )
+loop-l-preserved c = (
+  search rules,
+  sinking_on c.loop-l.invariant.1 (omega arith) c.enter.ensures c.block_on.ensures.0
+      c.settle.ensures,
+)
 
 pub loop-l-init : goal.loop-l-init
 loop-l-init c = (search rules, search (sinking_begin, sums-known, rules))
