@@ -1,9 +1,5 @@
 -- Numbers are copied one by one. The loop's invariant: those before place i are there.
 use borrow.Author.Rules.{rules}
-use Prim.Native.Nat.{◌-◌, ◌≤◌}
-use mathlib.Core.Path.{◌≡◌}
-use mathlib.Core.List.{◌++◌}
-use lib.ListN.{length, take, drop}
 use Rattle.rows.proofs.Copying.{copy-on, copy_done}
 use Rattle.rows.proofs.copy.Goals as goal
 
