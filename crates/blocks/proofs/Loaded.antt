@@ -1,5 +1,5 @@
 -- What the rows and the index of a loaded show say of its blocks.
-use Prim.Native.Nat.{ℕ, zero, suc, ◌+◌, ◌*◌, ◌-◌, ◌/◌, ◌%◌, ◌≤◌, ◌<◌}
+use Prim.Native.Nat.{ℕ, zero, suc, ◌+◌, ◌*◌, ◌-◌, ◌≤◌, ◌<◌}
 use native.Mathlib.Omega.{arith}
 use mathlib.Core.Path.{◌≡◌, refl, sym, ◌∙◌, ap}
 use mathlib.Core.Logic.{◌⊎◌, inl, inr}
@@ -10,12 +10,11 @@ use Rattle.model.specs.Limits.{row_size, max_rows, max_joins, max_own, max_block
 use Rattle.model.specs.Rows.{cell, row_at, row_count}
 use Rattle.model.specs.Blocks.{Link, Use, Block, block_at, joins_of, own_of, total, blocks_of, last_block, count}
 use Rattle.shows.specs.Accepted.{Show}
-use Rattle.shows.specs.WellFormed.{GoodUse, GoodLink}
 use Rattle.shows.proofs.Accepted.{accepted-show}
 use Rattle.shows.proofs.AtBlock.{joins-small, own-small}
 use Rattle.shows.proofs.BlockAt.{good-at, lower-at, joins_of-at, own_of_at}
 use Rattle.verdicts.specs.Index.{link_at, links_from, use_at, uses_from, block_from, IndexedBlock}
-use Rattle.blocks.specs.Loaded.{Loaded, IsBlock, IsRow, LinkRows, UseRows, column_at, LinkRow, UseRow}
+use Rattle.blocks.specs.Loaded.{Loaded, IsBlock, LinkRows, UseRows, column_at, LinkRow, UseRow}
 use Rattle.shows.proofs.LastRow.{last_row}
 
 -- The links of rows: how many, the one of a row, one more.

@@ -9,7 +9,6 @@ use mathlib.Core.List.{List, [], ◌∷◌, ◌++◌, map, Memᴰ}
 use lib.ListN.{length, take}
 use Rattle.model.specs.Choice.{if_eq}
 use Rattle.model.specs.Blocks.{Link, Use, Block, sum_over, total}
-use Rattle.model.specs.Unfolding.{links}
 use Rattle.model.specs.Behind.{Origin, Traced, step_into, traced_into, uses_traced, traced, origins}
 use Rattle.basics.proofs.Choices.{eq_then, eq_else}
 use Rattle.basics.proofs.Members.{map-mem}

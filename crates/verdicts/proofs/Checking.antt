@@ -1,5 +1,5 @@
 -- The verdict of the code is the model's verdict, and its table the index of accepted rows.
-use Prim.Native.Nat.{ℕ, ◌*◌, ◌-◌, ◌/◌, ◌%◌, ◌≤◌, ◌<◌}
+use Prim.Native.Nat.{ℕ, ◌*◌, ◌/◌, ◌%◌, ◌≤◌, ◌<◌}
 use native.Mathlib.Omega.{arith}
 use native.Mathlib.Decide.{ℕ_discrete, dec_lt}
 use mathlib.Core.Path.{◌≡◌, refl, sym, ◌∙◌, ap}
@@ -9,7 +9,7 @@ use Rattle.model.specs.Choice.{if_eq, if_lt}
 use Rattle.model.specs.Limits.{row_size, max_rows}
 use Rattle.model.specs.Rows.{rows_from, row_count, rows_of}
 use Rattle.model.specs.Rules.{start}
-use Rattle.model.specs.Blocks.{add_rows, blocks_of, count}
+use Rattle.model.specs.Blocks.{add_rows, blocks_of}
 use Rattle.model.specs.Verdicts.{refused, and_then, check_length, check_rows, verdict}
 use Rattle.model.specs.declared.Verdict.{Verdict}
 use Rattle.model.specs.declared.Verdict.TheVariants.{Accepted}

@@ -1,5 +1,5 @@
 -- The rows that open the blocks, in the model and in the table; the index of all rows; and checks 9 and 10 by the table.
-use Prim.Native.Nat.{ℕ, zero, suc, ◌+◌, ◌*◌, ◌-◌, ◌≤◌, ◌<◌}
+use Prim.Native.Nat.{ℕ, zero, suc, ◌+◌, ◌*◌, ◌≤◌, ◌<◌}
 use native.Mathlib.Omega.{arith}
 use native.Mathlib.Decide.{ℕ_discrete, dec_le, dec_lt}
 use mathlib.Core.Path.{◌≡◌, refl, sym, ◌∙◌, ap}
@@ -12,7 +12,7 @@ use Rattle.model.specs.Choice.{if_eq, if_lt}
 use Rattle.model.specs.Limits.{max_blocks, max_rows, max_total}
 use Rattle.model.specs.Rows.{Row, cell, row_at, rows_from, row_count, rows_of}
 use Rattle.model.specs.Rules.{fault}
-use Rattle.model.specs.Blocks.{Block, block_at, joins_of, own_of, total, add_row, add_rows, blocks_of}
+use Rattle.model.specs.Blocks.{Block, joins_of, own_of, total, add_row, add_rows, blocks_of}
 use Rattle.model.specs.Verdicts.{refused, opening_rows, check_blocks, may_stand, total_fits}
 use Rattle.model.specs.Behind.{opening_row}
 use Rattle.model.specs.declared.Verdict.TheVariants.{Accepted}

@@ -1,5 +1,4 @@
 -- `behind`: the walk begins in the copy that owns the cue of the place.
-use borrow.Author.Rules.{rules}
 use mathlib.Core.Path.{refl}
 use Rattle.behind.proofs.Starting.{not_seen, starts, may_start}
 use Rattle.behind.proofs.behind.Goals as goal

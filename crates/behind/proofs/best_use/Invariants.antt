@@ -1,10 +1,6 @@
 -- `best_use`: the loop tries one use more each turn.
-use borrow.Author.Rules.{rules}
 use Prim.Native.Nat.{◌-◌, ◌≤◌}
-use native.Mathlib.Omega.{arith}
-use mathlib.Core.Path.{refl}
 use Rattle.behind.specs.Leads.{LeadsTo}
-use Rattle.behind.proofs.Leading.{lead-begin, lead-on, lead-done}
 use Rattle.behind.proofs.best_use.Given as goal
 
 abbrev pub invariant-loop-r : goal.invariant-loop-r

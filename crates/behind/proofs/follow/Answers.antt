@@ -1,5 +1,4 @@
 -- `follow`: the cues of two joins.
-use borrow.Author.Rules.{rules}
 use native.Mathlib.Omega.{arith}
 use Rattle.behind.proofs.Seeing.{joins-fit}
 use Rattle.behind.proofs.follow.Goals as goal

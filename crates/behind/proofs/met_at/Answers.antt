@@ -1,8 +1,7 @@
 -- `met_at`: no number before j is v.
 use borrow.Author.Rules.{rules}
-use Prim.Native.Nat.{◌-◌, ◌≤◌}
 use native.Mathlib.Omega.{arith}
-use Rattle.behind.proofs.Seeing.{Sought, sought_begin, sought_on, met-stop, met-done}
+use Rattle.behind.proofs.Seeing.{sought_begin, sought_on, met-stop, met-done}
 use Rattle.behind.proofs.met_at.Goals as goal
 
 pub loop-j-init : goal.loop-j-init

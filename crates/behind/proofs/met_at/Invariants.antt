@@ -1,8 +1,6 @@
 -- `met_at`: no number before j is v.
-use borrow.Author.Rules.{rules}
 use Prim.Native.Nat.{◌-◌, ◌≤◌}
-use native.Mathlib.Omega.{arith}
-use Rattle.behind.proofs.Seeing.{Sought, sought_begin, sought_on, met-stop, met-done}
+use Rattle.behind.proofs.Seeing.{Sought}
 use Rattle.behind.proofs.met_at.Given as goal
 
 abbrev pub invariant-loop-j : goal.invariant-loop-j

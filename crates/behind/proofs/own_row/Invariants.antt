@@ -1,10 +1,7 @@
 -- `own_row`: the answer from row r on is the answer.
-use borrow.Author.Rules.{rules}
 use Prim.Native.Nat.{◌-◌, ◌≤◌}
 use mathlib.Core.Path.{◌≡◌}
-use mathlib.Core.Logic.{⊎_elim}
-use native.Mathlib.Omega.{arith}
-use Rattle.behind.proofs.Seeing.{row_from, row-hit, row_from_is, row-to, row-none}
+use Rattle.behind.proofs.Seeing.{row_from}
 use Rattle.behind.proofs.own_row.Given as goal
 
 abbrev pub invariant-loop-r : goal.invariant-loop-r

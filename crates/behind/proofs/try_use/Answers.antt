@@ -1,5 +1,4 @@
 -- `try_use`: the use meets both cues and its level is better, or the lead stays.
-use borrow.Author.Rules.{rules}
 use native.Mathlib.Omega.{arith}
 use Rattle.blocks.proofs.Loaded.{loaded-show, used_block}
 use Rattle.behind.proofs.Trying.{uses-use, unmet_from, unmet_to, tried_better, tried_worse}

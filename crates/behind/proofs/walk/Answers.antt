@@ -1,9 +1,7 @@
 -- `walk`: each turn ends in the copy or goes on into a part of it, of a lower block.
-use Prim.Native.Nat.{ℕ}
 use native.Mathlib.Omega.{arith}
-use mathlib.Core.Path.{◌≡◌, refl, ◌∙◌}
-use lib.ListN.{length, length-set}
-use Rattle.behind.specs.Ways.{MayWalk, Reaches}
+use mathlib.Core.Path.{refl, ◌∙◌}
+use lib.ListN.{length-set}
 use Rattle.behind.proofs.Walking.{lead-few, ends-here, may_follow_lem, room-left, row-few, lower, may_walk, goes_on_is}
 use Rattle.behind.proofs.walk.Goals as goal
 

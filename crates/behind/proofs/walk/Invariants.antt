@@ -1,10 +1,8 @@
 -- `walk`: each turn ends in the copy or goes on into a part of it, of a lower block.
 use Prim.Native.Nat.{ℕ}
-use native.Mathlib.Omega.{arith}
-use mathlib.Core.Path.{◌≡◌, refl, ◌∙◌}
-use lib.ListN.{length, length-set}
+use mathlib.Core.Path.{◌≡◌}
+use lib.ListN.{length}
 use Rattle.behind.specs.Ways.{MayWalk, Reaches}
-use Rattle.behind.proofs.Walking.{lead-few, ends-here, may_follow_lem, room-left, row-few, lower, may_walk, goes_on_is}
 use Rattle.behind.proofs.walk.Given as goal
 
 abbrev pub invariant-loop-lead : goal.invariant-loop-lead

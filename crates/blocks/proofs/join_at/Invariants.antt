@@ -1,7 +1,6 @@
 -- `join_at`: no join before i meets the cue.
-use borrow.Author.Rules.{rules}
 use Prim.Native.Nat.{◌-◌, ◌≤◌}
-use Rattle.blocks.proofs.Meeting.{Sought, sought_begin, sought_on, join_at_stop, join_at_done}
+use Rattle.blocks.proofs.Meeting.{Sought}
 use Rattle.blocks.proofs.join_at.Given as goal
 
 abbrev pub invariant-loop-i : goal.invariant-loop-i

@@ -1,5 +1,4 @@
 -- `last`: the last row stands eleven values before the end.
-use borrow.Author.Rules.{rules}
 use native.Mathlib.Omega.{arith}
 use mathlib.Core.Path.{refl}
 use Rattle.blocks.proofs.Loaded.{last-cell, last-read}

@@ -1,5 +1,4 @@
 -- `size_of`: the total of the block that the row names.
-use borrow.Author.Rules.{rules}
 use mathlib.Core.Path.{◌∙◌, ap}
 use Rattle.model.specs.Blocks.{total}
 use Rattle.blocks.proofs.Loaded.{used_block}

@@ -1,10 +1,6 @@
 -- `descend`: the loop goes one level down each turn.
-use borrow.Author.Rules.{rules}
 use Prim.Native.Nat.{◌-◌, ◌≤◌}
-use native.Mathlib.Omega.{arith}
-use mathlib.Core.Path.{refl}
 use Rattle.copies.specs.Copies.{CopyAt}
-use Rattle.copies.proofs.Copies.{copy_at_begin, may_step_on, copy_at_on, copy_at_done}
 use Rattle.copies.proofs.descend.Given as goal
 
 abbrev pub invariant-loop-l : goal.invariant-loop-l

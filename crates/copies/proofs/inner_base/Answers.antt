@@ -1,9 +1,5 @@
 -- `inner_base`: the loop passes one use more each turn.
-use borrow.Author.Rules.{rules}
-use Prim.Native.Nat.{◌-◌, ◌≤◌}
 use native.Mathlib.Omega.{arith}
-use mathlib.Core.Path.{◌≡◌}
-use Rattle.copies.specs.Copies.{inner_base}
 use Rattle.copies.proofs.Bases.{inner_base-begin}
 use Rattle.copies.proofs.Copies.{step_small, inner_base-row, inner_base-fits, inner_base-next, inner_base-last}
 use Rattle.copies.proofs.inner_base.Goals as goal

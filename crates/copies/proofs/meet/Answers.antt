@@ -1,7 +1,5 @@
 -- `meet`: the loop reads one column more each turn.
 use borrow.Author.Rules.{rules}
-use Prim.Native.Nat.{◌-◌, ◌≤◌}
-use Rattle.copies.specs.Copies.{MeetIs}
 use Rattle.copies.proofs.Copies.{meet_is_begin, meet_is_on, meet_is_done, columns_fit_at}
 use Rattle.copies.proofs.meet.Goals as goal
 

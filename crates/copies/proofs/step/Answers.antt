@@ -1,5 +1,4 @@
 -- `step`: the copy of the use of a row.
-use borrow.Author.Rules.{rules}
 use Rattle.blocks.proofs.Loaded.{used_block}
 use Rattle.copies.proofs.Copies.{step_row, step_small, columns_fit, stepped}
 use Rattle.copies.proofs.step.Goals as goal

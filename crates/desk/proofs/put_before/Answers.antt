@@ -1,5 +1,4 @@
 -- The built-in table goes before the numbers behind its place: the constant is the definition's table, by computation.
-use borrow.Author.Rules.{rules}
 use mathlib.Core.Path.{refl}
 use mathlib.Core.List.{flat_map}
 use Rattle.model.specs.Rows.{row_values}

@@ -1,11 +1,7 @@
 -- `estimates::clear` meets its contract. The invariant: the cues passed have no estimate.
-use Prim.Native.Nat.{◌+◌, ◌-◌, ◌≤◌}
 use native.Mathlib.Omega.{arith}
-use mathlib.Core.Path.{◌≡◌}
-use lib.ListN.{length}
 use borrow.Author.Rules.{rules}
-use Rattle.model.specs.Limits.{no_chain}
-use Rattle.searches.proofs.Starts.{FilledTo, fill_begin, fill_on, started_blank}
+use Rattle.searches.proofs.Starts.{fill_begin, fill_on, started_blank}
 use Rattle.estimates.proofs.clear.Goals as goal
 
 pub loop-c-init : goal.loop-c-init

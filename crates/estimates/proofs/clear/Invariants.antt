@@ -1,11 +1,9 @@
 -- `estimates::clear` meets its contract. The invariant: the cues passed have no estimate.
 use Prim.Native.Nat.{◌+◌, ◌-◌, ◌≤◌}
-use native.Mathlib.Omega.{arith}
 use mathlib.Core.Path.{◌≡◌}
 use lib.ListN.{length}
-use borrow.Author.Rules.{rules}
 use Rattle.model.specs.Limits.{no_chain}
-use Rattle.searches.proofs.Starts.{FilledTo, fill_begin, fill_on, started_blank}
+use Rattle.searches.proofs.Starts.{FilledTo}
 use Rattle.estimates.proofs.clear.Given as goal
 
 abbrev pub invariant-loop-c : goal.invariant-loop-c

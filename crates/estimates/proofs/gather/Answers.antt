@@ -1,10 +1,6 @@
 -- `estimates::gather` meets its contract. The invariant: the numbers passed are the estimates of
 -- their cues.
-use Prim.Native.Nat.{◌-◌, ◌≤◌}
 use borrow.Author.Rules.{rules}
-use mathlib.Core.Path.{◌≡◌}
-use lib.ListN.{length}
-use Rattle.searches.specs.Starts.{Gathered}
 use Rattle.searches.proofs.Starts.{column-few, column-within, gathered_begin, gathered_on, gathered_done}
 use Rattle.estimates.proofs.gather.Goals as goal
 

@@ -1,13 +1,10 @@
 -- `estimates::put_met` meets its contract. The invariant: the estimates of the cues passed are put
 -- in.
 use Prim.Native.Nat.{◌-◌, ◌≤◌}
-use borrow.Author.Rules.{rules}
 use mathlib.Core.Path.{◌≡◌}
 use lib.ListN.{length}
 use Rattle.searches.specs.Rounds.{Fell}
 use Rattle.searches.specs.Starts.{MetAt, Merged}
-use Rattle.searches.proofs.Starts.{column-few, column-within, met-begin, met-on, met-done}
-use Rattle.searches.proofs.Lowering.{fell_begin, fell_on}
 use Rattle.estimates.proofs.put_met.Given as goal
 
 abbrev pub invariant-loop-i : goal.invariant-loop-i

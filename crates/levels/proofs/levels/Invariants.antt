@@ -1,10 +1,6 @@
 -- `levels`: the loop makes one block more each turn.
-use borrow.Author.Rules.{rules}
 use Prim.Native.Nat.{◌-◌, ◌≤◌}
-use native.Mathlib.Omega.{arith}
-use mathlib.Core.Path.{◌≡◌, sym, ◌∙◌}
 use Rattle.levels.specs.Tables.{Levels, Fresh}
-use Rattle.levels.proofs.Making.{none-long, none_made}
 use Rattle.levels.proofs.levels.Given as goal
 
 abbrev pub invariant-loop-k : goal.invariant-loop-k

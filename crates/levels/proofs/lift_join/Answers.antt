@@ -1,9 +1,6 @@
 -- `lift_join`: the loop lifts one level more each turn, if there is any.
-use borrow.Author.Rules.{rules}
-use Prim.Native.Nat.{◌-◌, ◌≤◌}
 use native.Mathlib.Omega.{arith}
-use Rattle.levels.specs.Tables.{Going, join_lift}
-use Rattle.levels.proofs.Lifting.{join_rest, may_on, join_begin, join_on, join_done, join_unlinked, join_own}
+use Rattle.levels.proofs.Lifting.{may_on, join_begin, join_on, join_done, join_unlinked, join_own}
 use Rattle.levels.proofs.lift_join.Goals as goal
 
 pub used-requires : goal.used-requires

@@ -1,5 +1,4 @@
 -- `lift_pair`: the level is put in one higher, or there is none.
-use borrow.Author.Rules.{rules}
 use native.Mathlib.Omega.{arith}
 use mathlib.Core.Path.{refl}
 use Rattle.levels.proofs.Lifting.{level-few, pair_lifted, pair_none}

@@ -1,12 +1,9 @@
 -- `lift_use`: the loop lifts from one join more each turn.
-use borrow.Author.Rules.{rules}
-use Prim.Native.Nat.{◌-◌, ◌≤◌}
 use native.Mathlib.Omega.{arith}
-use mathlib.Core.Path.{◌≡◌, ◌∙◌, ap}
+use mathlib.Core.Path.{◌∙◌, ap}
 use Rattle.model.specs.Blocks.{joins_of, blocks_of}
 use Rattle.blocks.proofs.Loaded.{used_block}
-use Rattle.levels.specs.Tables.{Going, used_joins, use_lift}
-use Rattle.levels.proofs.Lifting.{use_rest, may_on, use_begin, use_on, use_done}
+use Rattle.levels.proofs.Lifting.{may_on, use_begin, use_on, use_done}
 use Rattle.levels.proofs.lift_use.Goals as goal
 
 pub used-requires : goal.used-requires

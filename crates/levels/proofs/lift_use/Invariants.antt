@@ -1,12 +1,8 @@
 -- `lift_use`: the loop lifts from one join more each turn.
-use borrow.Author.Rules.{rules}
 use Prim.Native.Nat.{◌-◌, ◌≤◌}
-use native.Mathlib.Omega.{arith}
-use mathlib.Core.Path.{◌≡◌, ◌∙◌, ap}
-use Rattle.model.specs.Blocks.{joins_of, blocks_of}
-use Rattle.blocks.proofs.Loaded.{used_block}
+use mathlib.Core.Path.{◌≡◌}
 use Rattle.levels.specs.Tables.{Going, used_joins, use_lift}
-use Rattle.levels.proofs.Lifting.{use_rest, may_on, use_begin, use_on, use_done}
+use Rattle.levels.proofs.Lifting.{use_rest}
 use Rattle.levels.proofs.lift_use.Given as goal
 
 abbrev pub invariant-loop-i : goal.invariant-loop-i

@@ -1,11 +1,7 @@
 -- `lift_uses`: the loop lifts through one use more each turn.
-use borrow.Author.Rules.{rules}
 use Prim.Native.Nat.{◌-◌, ◌≤◌}
-use native.Mathlib.Omega.{arith}
-use Rattle.blocks.proofs.Loaded.{use_row}
 use Rattle.levels.specs.Tables.{Going, uses_lift}
-use Rattle.levels.proofs.Lifting.{uses_left, may_on, uses-begin, uses-on, uses-done}
-use Rattle.levels.proofs.Deep.{may_lift}
+use Rattle.levels.proofs.Lifting.{uses_left}
 use Rattle.levels.proofs.lift_uses.Given as goal
 
 abbrev pub invariant-loop-r : goal.invariant-loop-r

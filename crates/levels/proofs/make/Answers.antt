@@ -1,5 +1,4 @@
 -- `make`: links, then uses.
-use borrow.Author.Rules.{rules}
 use mathlib.Core.Path.{◌∙◌}
 use Rattle.levels.proofs.Making.{has-pairs, levels-kept, made}
 use Rattle.levels.proofs.make.Goals as goal

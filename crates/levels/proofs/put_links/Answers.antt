@@ -1,9 +1,6 @@
 -- `put_links`: the loop puts in one link more each turn.
-use borrow.Author.Rules.{rules}
-use Prim.Native.Nat.{◌-◌, ◌≤◌}
 use native.Mathlib.Omega.{arith}
-use Rattle.levels.specs.Tables.{Going, links_put}
-use Rattle.levels.proofs.Lifting.{links_left, links-begin, links-on, links-done}
+use Rattle.levels.proofs.Lifting.{links-begin, links-on, links-done}
 use Rattle.levels.proofs.put_links.Goals as goal
 
 pub loop-r-init : goal.loop-r-init

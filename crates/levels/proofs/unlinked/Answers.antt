@@ -1,10 +1,7 @@
 -- `unlinked`: the loop joins one level more each turn.
 use borrow.Author.Rules.{rules}
-use Prim.Native.Nat.{◌-◌, ◌≤◌, ◌*◌, ◌+◌}
-use mathlib.Core.Path.{◌≡◌, refl}
-use Rattle.model.specs.Limits.{max_joins}
-use Rattle.levels.specs.Levels.{pairs_size}
-use Rattle.levels.proofs.Lifting.{NoneYet, none-begin, none-on, none_done}
+use mathlib.Core.Path.{refl}
+use Rattle.levels.proofs.Lifting.{none-begin, none-on, none_done}
 use Rattle.levels.proofs.unlinked.Goals as goal
 
 pub loop-j-init : goal.loop-j-init

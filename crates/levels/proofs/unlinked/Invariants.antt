@@ -1,10 +1,9 @@
 -- `unlinked`: the loop joins one level more each turn.
-use borrow.Author.Rules.{rules}
 use Prim.Native.Nat.{◌-◌, ◌≤◌, ◌*◌, ◌+◌}
-use mathlib.Core.Path.{◌≡◌, refl}
+use mathlib.Core.Path.{◌≡◌}
 use Rattle.model.specs.Limits.{max_joins}
 use Rattle.levels.specs.Levels.{pairs_size}
-use Rattle.levels.proofs.Lifting.{NoneYet, none-begin, none-on, none_done}
+use Rattle.levels.proofs.Lifting.{NoneYet}
 use Rattle.levels.proofs.unlinked.Given as goal
 
 abbrev pub invariant-loop-j : goal.invariant-loop-j

@@ -1,10 +1,5 @@
 -- A line at a place. The loop's invariant: the line is the values in the row so far, and what is read for the ends that are left.
-use Prim.Native.Nat.{◌-◌, ◌≤◌}
-use mathlib.Core.Path.{◌≡◌}
-use lib.ListN.{length, take, drop}
 use borrow.Author.Rules.{rules}
-use Rattle.shows.specs.Files.{ends_of}
-use Rattle.lines.specs.Scanning.{behind, line_at}
 use Rattle.lines.proofs.LineScan.{line_begin, line_turn, line_bad, line_end}
 use Rattle.lines.proofs.line_at.Goals as goal
 

@@ -2,10 +2,8 @@
 use Prim.Native.Nat.{◌-◌, ◌≤◌}
 use mathlib.Core.Path.{◌≡◌}
 use lib.ListN.{length, take, drop}
-use borrow.Author.Rules.{rules}
 use Rattle.shows.specs.Files.{ends_of}
 use Rattle.lines.specs.Scanning.{behind, line_at}
-use Rattle.lines.proofs.LineScan.{line_begin, line_turn, line_bad, line_end}
 use Rattle.lines.proofs.line_at.Given as goal
 
 abbrev pub invariant-loop-c : goal.invariant-loop-c

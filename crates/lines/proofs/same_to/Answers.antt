@@ -1,9 +1,5 @@
 -- Two lists agree in their first n bytes. The loop's invariant: they do where they do from place i on.
-use Prim.Native.Nat.{◌-◌, ◌≤◌}
-use mathlib.Core.Path.{◌≡◌}
-use lib.ListN.{take, drop}
 use borrow.Author.Rules.{rules}
-use Rattle.model.specs.Verdicts.{same}
 use Rattle.lines.proofs.Names.{same-begin, same_not, same-on, same-all}
 use Rattle.lines.proofs.same_to.Goals as goal
 

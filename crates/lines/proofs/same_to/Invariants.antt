@@ -2,9 +2,7 @@
 use Prim.Native.Nat.{◌-◌, ◌≤◌}
 use mathlib.Core.Path.{◌≡◌}
 use lib.ListN.{take, drop}
-use borrow.Author.Rules.{rules}
 use Rattle.model.specs.Verdicts.{same}
-use Rattle.lines.proofs.Names.{same-begin, same_not, same-on, same-all}
 use Rattle.lines.proofs.same_to.Given as goal
 
 abbrev pub invariant-loop-i : goal.invariant-loop-i

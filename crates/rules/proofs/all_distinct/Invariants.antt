@@ -1,13 +1,9 @@
 -- Each number is compared with those before it. The loop's invariant: the first i are distinct.
-use native.Mathlib.Omega.{arith}
 use Prim.Native.Nat.{◌-◌, ◌≤◌}
 use mathlib.Core.Path.{◌≡◌}
 use mathlib.Core.Bool.{true}
-use borrow.Author.Rules.{rules}
-use borrow.Author.Tests.{not-true, not-false}
 use Rattle.model.specs.Rules.{distinct}
 use Rattle.rules.specs.Cells.{cells}
-use Rattle.rules.proofs.Tests.{distinct-one, distinct-stop, distinct-on, distinct-done}
 use Rattle.rules.proofs.all_distinct.Given as goal
 
 abbrev pub invariant-loop-i : goal.invariant-loop-i

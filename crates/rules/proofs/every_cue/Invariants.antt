@@ -1,8 +1,7 @@
 -- `rules::every_cue` meets its contract.
-use borrow.Author.Rules.{rules}
 use Prim.Native.Nat.{◌-◌, ◌≤◌}
 use Rattle.model.specs.Rules.{is_cue}
-use Rattle.rules.proofs.Tests.{EveryRest, every-begin, every-stop, every-on, every-done, cue-low, cue-high, cue-yes}
+use Rattle.rules.proofs.Tests.{EveryRest}
 use Rattle.rules.proofs.every_cue.Given as goal
 
 abbrev pub invariant-loop-i : goal.invariant-loop-i

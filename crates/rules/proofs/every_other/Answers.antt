@@ -1,8 +1,6 @@
 -- `rules::every_other` meets its contract.
 use borrow.Author.Rules.{rules}
-use Prim.Native.Nat.{◌-◌, ◌≤◌}
-use Rattle.model.specs.Rules.{differs}
-use Rattle.rules.proofs.Tests.{EveryRest, every-begin, every-stop, every-on, every-done, differs-yes, differs-no}
+use Rattle.rules.proofs.Tests.{every-begin, every-stop, every-on, every-done, differs-yes, differs-no}
 use Rattle.rules.proofs.every_other.Goals as goal
 
 pub loop-i-init : goal.loop-i-init

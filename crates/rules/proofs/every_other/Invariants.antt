@@ -1,8 +1,7 @@
 -- `rules::every_other` meets its contract.
-use borrow.Author.Rules.{rules}
 use Prim.Native.Nat.{◌-◌, ◌≤◌}
 use Rattle.model.specs.Rules.{differs}
-use Rattle.rules.proofs.Tests.{EveryRest, every-begin, every-stop, every-on, every-done, differs-yes, differs-no}
+use Rattle.rules.proofs.Tests.{EveryRest}
 use Rattle.rules.proofs.every_other.Given as goal
 
 abbrev pub invariant-loop-i : goal.invariant-loop-i

@@ -1,7 +1,6 @@
 -- All eight numbers are read. The loop's invariant: what is left to test, if all so far are 0.
 use Prim.Native.Nat.{◌-◌, ◌≤◌}
-use borrow.Author.Rules.{rules}
-use Rattle.rules.proofs.Tests.{ZeroRest, zeros_begin, zeros_on, zeros_done}
+use Rattle.rules.proofs.Tests.{ZeroRest}
 use Rattle.rules.proofs.every_zero.Given as goal
 
 abbrev pub invariant-loop-i : goal.invariant-loop-i

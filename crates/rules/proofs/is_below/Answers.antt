@@ -1,7 +1,6 @@
 -- `rules::is_below` meets its contract.
 use borrow.Author.Rules.{rules}
-use Prim.Native.Nat.{◌-◌, ◌≤◌}
-use Rattle.rules.proofs.Tests.{KeyRest, key_begin, key_less, key_more, key_on, key_done}
+use Rattle.rules.proofs.Tests.{key_begin, key_less, key_more, key_on, key_done}
 use Rattle.rules.proofs.is_below.Goals as goal
 
 pub loop-i-init : goal.loop-i-init

@@ -1,11 +1,7 @@
 -- `sums::clear` meets its contract. The invariant: the cues passed have no sum.
-use Prim.Native.Nat.{◌+◌, ◌-◌, ◌≤◌}
 use native.Mathlib.Omega.{arith}
-use mathlib.Core.Path.{◌≡◌}
-use lib.ListN.{length}
 use borrow.Author.Rules.{rules}
-use Rattle.distances.specs.Quickest.{no_sum}
-use Rattle.searches.proofs.Starts.{FilledTo, fill_begin, fill_on, started_blank}
+use Rattle.searches.proofs.Starts.{fill_begin, fill_on, started_blank}
 use Rattle.sums.proofs.clear.Goals as goal
 
 pub loop-c-init : goal.loop-c-init

@@ -1,11 +1,9 @@
 -- `sums::clear` meets its contract. The invariant: the cues passed have no sum.
 use Prim.Native.Nat.{◌+◌, ◌-◌, ◌≤◌}
-use native.Mathlib.Omega.{arith}
 use mathlib.Core.Path.{◌≡◌}
 use lib.ListN.{length}
-use borrow.Author.Rules.{rules}
 use Rattle.distances.specs.Quickest.{no_sum}
-use Rattle.searches.proofs.Starts.{FilledTo, fill_begin, fill_on, started_blank}
+use Rattle.searches.proofs.Starts.{FilledTo}
 use Rattle.sums.proofs.clear.Given as goal
 
 abbrev pub invariant-loop-c : goal.invariant-loop-c

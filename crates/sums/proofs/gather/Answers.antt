@@ -1,11 +1,6 @@
 -- `sums::gather` meets its contract. The invariant: the numbers passed are the sums of their cues,
 -- and unless one was found that is not, all are x.
-use Prim.Native.Nat.{◌-◌, ◌≤◌}
 use borrow.Author.Rules.{rules}
-use mathlib.Core.Path.{◌≡◌}
-use lib.ListN.{length}
-use Rattle.searches.specs.Starts.{Gathered}
-use Rattle.searches.specs.Lines.{Even}
 use Rattle.searches.proofs.Starts.{column-few, column-within, gathered_begin, gathered_on, gathered_done}
 use Rattle.searches.proofs.Lines.{even_begin, even_on, even_done}
 use Rattle.sums.proofs.gather.Goals as goal

@@ -1,5 +1,4 @@
 -- `sums::improve` meets its contract. That a number of 64 bits is at most no_sum is what its slice says of each.
-use borrow.Author.Rules.{rules}
 use native.Mathlib.Omega.{arith}
 use mathlib.Core.Path.{refl}
 use Rattle.distances.specs.Quickest.{no_sum}

@@ -1,5 +1,4 @@
 -- `sums::put` meets its contract.
-use borrow.Author.Rules.{rules}
 use mathlib.Core.Path.{refl}
 use Rattle.searches.proofs.Starts.{merged_both}
 use Rattle.searches.proofs.Lowering.{fell_both}

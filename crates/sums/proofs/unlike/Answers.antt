@@ -1,6 +1,5 @@
 -- `sums::unlike` meets its contract.
 use mathlib.Core.Path.{refl}
-use borrow.Author.Rules.{rules}
 use Rattle.searches.proofs.Lowering.{true_not_false}
 use Rattle.sums.proofs.unlike.Goals as goal
 

@@ -1,13 +1,11 @@
 -- A value at a place. The loop's invariant: what is left of the value behind its first n digits is the value.
 use Prim.Native.Nat.{◌+◌, ◌-◌, ◌≤◌, ◌<◌}
 use mathlib.Core.Path.{◌≡◌}
-use native.Mathlib.Omega.{arith}
 use lib.ListN.{length, drop}
-use borrow.Author.Rules.{rules}
 use Rattle.model.specs.Limits.{max_digits}
 use Rattle.model.specs.Values.{run}
 use Rattle.values.specs.Fields.{figure_at, value_at}
-use Rattle.values.proofs.Fields.{value_rest, tens, tens_first, tens_more, tens_few, next-in, more-in, less-in, value_none, value-begin, value-turn, value-long, value-big, value-done}
+use Rattle.values.proofs.Fields.{value_rest, tens}
 use Rattle.values.proofs.value_at.Given as goal
 
 abbrev pub invariant-loop-d : goal.invariant-loop-d

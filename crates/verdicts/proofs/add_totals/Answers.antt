@@ -1,5 +1,4 @@
 -- `verdicts::add_totals` meets its contract.
-use borrow.Author.Rules.{rules}
 use native.Mathlib.Omega.{arith}
 use Rattle.verdicts.proofs.Steps.{capped-large, capped_small}
 use Rattle.verdicts.proofs.add_totals.Goals as goal

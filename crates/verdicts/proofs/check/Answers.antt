@@ -1,5 +1,4 @@
 -- `verdicts::check` meets its contract.
-use borrow.Author.Rules.{rules}
 use Rattle.verdicts.proofs.Checking.{pass_asks, checked_of}
 use Rattle.verdicts.proofs.check.Goals as goal
 

@@ -1,10 +1,7 @@
 -- `verdicts::check_blocks` meets its contract.
 use borrow.Author.Rules.{rules}
 use native.Mathlib.Omega.{arith}
-use Prim.Native.Nat.{◌-◌, ◌≤◌}
-use borrow.Author.Tests.{not-true, not-false}
-use Rattle.verdicts.specs.Passing.{passes_at}
-use Rattle.verdicts.proofs.Steps.{PlaceRest, place-begin, place-on, place-stop, place-done}
+use Rattle.verdicts.proofs.Steps.{place-begin, place-on, place-stop, place-done}
 use Rattle.verdicts.proofs.check_blocks.Goals as goal
 
 pub loop-k-init : goal.loop-k-init

@@ -1,5 +1,4 @@
 -- `verdicts::index_open` meets its contract.
-use borrow.Author.Rules.{rules}
 use Rattle.verdicts.specs.Passing.{open_indexed}
 use Rattle.verdicts.proofs.index_open.Goals as goal
 

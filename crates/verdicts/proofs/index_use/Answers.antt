@@ -1,5 +1,4 @@
 -- `verdicts::index_use` meets its contract.
-use borrow.Author.Rules.{rules}
 use Rattle.verdicts.specs.Passing.{use_indexed}
 use Rattle.verdicts.proofs.index_use.Goals as goal
 

@@ -1,5 +1,4 @@
 -- `verdicts::joins_at` meets its contract.
-use borrow.Author.Rules.{rules}
 use Rattle.verdicts.specs.Passing.{joins_at}
 use Rattle.verdicts.proofs.joins_at.Goals as goal
 

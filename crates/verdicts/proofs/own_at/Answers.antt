@@ -1,5 +1,4 @@
 -- `verdicts::own_at` meets its contract.
-use borrow.Author.Rules.{rules}
 use Rattle.verdicts.specs.Passing.{own_at}
 use Rattle.verdicts.proofs.own_at.Goals as goal
 

@@ -1,9 +1,7 @@
 -- `verdicts::pass` meets its contract.
-use borrow.Author.Rules.{rules}
 use native.Mathlib.Omega.{arith}
 use mathlib.Core.Path.{refl}
-use Rattle.verdicts.proofs.Going.{going_blocks, scanned_stop, scanned_done, GoingRows, going_begin, going_stop, going_on}
-use Prim.Native.Nat.{◌-◌}
+use Rattle.verdicts.proofs.Going.{going_blocks, scanned_stop, scanned_done, going_begin, going_stop, going_on}
 use Rattle.verdicts.proofs.pass.Goals as goal
 
 pub loop-r-init : goal.loop-r-init

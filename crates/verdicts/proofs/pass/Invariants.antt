@@ -1,8 +1,5 @@
 -- `verdicts::pass` meets its contract.
-use borrow.Author.Rules.{rules}
-use native.Mathlib.Omega.{arith}
-use mathlib.Core.Path.{refl}
-use Rattle.verdicts.proofs.Going.{going_blocks, scanned_stop, scanned_done, GoingRows, going_begin, going_stop, going_on}
+use Rattle.verdicts.proofs.Going.{GoingRows}
 use Prim.Native.Nat.{◌-◌}
 use Rattle.verdicts.proofs.pass.Given as goal
 

@@ -1,9 +1,6 @@
 -- The lines of a wait file. The loop's invariant: the pass at the place, and the lengths of what is lent.
-use Prim.Native.Nat.{◌-◌}
-use mathlib.Core.Path.{◌≡◌}
-use lib.ListN.{length}
 use borrow.Author.Rules.{rules}
-use Rattle.waits.proofs.Passing.{Passed, pass_begin, pass_end, pass_less, pass_broken, pass_on}
+use Rattle.waits.proofs.Passing.{pass_begin, pass_end, pass_less, pass_broken, pass_on}
 use Rattle.waits.proofs.read_lines.Goals as goal
 
 pub loop-at-init : goal.loop-at-init

@@ -2,8 +2,7 @@
 use Prim.Native.Nat.{◌-◌}
 use mathlib.Core.Path.{◌≡◌}
 use lib.ListN.{length}
-use borrow.Author.Rules.{rules}
-use Rattle.waits.proofs.Passing.{Passed, pass_begin, pass_end, pass_less, pass_broken, pass_on}
+use Rattle.waits.proofs.Passing.{Passed}
 use Rattle.waits.proofs.read_lines.Given as goal
 
 abbrev pub invariant-loop-at : goal.invariant-loop-at
