@@ -5,7 +5,6 @@ use mathlib.Core.Path.{◌≡◌, sym, ap}
 use mathlib.Core.List.{List}
 use Rattle.model.specs.Blocks.{Block, count}
 use Rattle.model.specs.Unfolding.{show_links}
-use Rattle.model.specs.Verdicts.{refusal}
 use Rattle.model.specs.Waits.{WaitFile, WaitTable, Unfit, wait_file}
 use Rattle.model.specs.Quickest.{quickest}
 use Rattle.model.specs.Answers.{of_quickest}

@@ -1,6 +1,6 @@
 -- Follow-ons are counted: each followed link weighs 1. A work area that begins with the summaries tells the least weights between joins, and what is told
 -- for the cues of two places is the fewest answer.
-use Prim.Native.Nat.{ℕ, zero, suc, ◌*◌, ◌-◌, ◌≤◌, ◌<◌}
+use Prim.Native.Nat.{ℕ, zero, suc, ◌*◌, ◌≤◌, ◌<◌}
 use native.Mathlib.Omega.{arith}
 use mathlib.Core.Path.{◌≡◌, sym, ◌∙◌, ap}
 use mathlib.Core.List.{List, [], ◌∷◌}

@@ -1,6 +1,4 @@
 -- `answers::are_cues` meets its contract: each return is a branch of the definition.
-use borrow.Author.Rules.{rules}
-use borrow.Author.Tests.{not-true, not-false}
 use mathlib.Core.Path.{refl}
 use Rattle.basics.proofs.Choices.{true_yes, true_no}
 use Rattle.answers.specs.Asked.{are_cues}

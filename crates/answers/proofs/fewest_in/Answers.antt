@@ -1,6 +1,4 @@
 -- `answers::fewest_in`: the room, then the two cues.
-use borrow.Author.Rules.{rules}
-use borrow.Author.Tests.{not-true, not-false}
 use native.Mathlib.Omega.{arith}
 use mathlib.Core.Path.{sym}
 use Rattle.model.specs.Verdicts.{refusal}

@@ -1,5 +1,4 @@
 -- `answers::least`: both places are found before the work area is written.
-use borrow.Author.Rules.{rules}
 use native.Mathlib.Omega.{arith}
 use Rattle.answers.proofs.Distances.{search_asks, steps-found, steps-none}
 use Rattle.answers.proofs.least.Goals as goal

@@ -1,6 +1,4 @@
 -- `answers::list_of`: the cue is tested, and then its place found.
-use borrow.Author.Rules.{rules}
-use borrow.Author.Tests.{not-true, not-false}
 use Rattle.answers.proofs.Linked.{list_no, find_asks, list_done}
 use Rattle.answers.proofs.list_of.Goals as goal
 

@@ -1,6 +1,5 @@
 -- `answers::locate_in`: the room, then the cue.
 use borrow.Author.Rules.{rules}
-use borrow.Author.Tests.{not-true, not-false}
 use native.Mathlib.Omega.{arith}
 use Rattle.answers.proofs.Answering.{locate-room, locate-no, locate-asks, found-few, locate-found}
 use Rattle.answers.proofs.locate_in.Goals as goal

@@ -1,5 +1,4 @@
 -- `answers::quickest_with`: both places are found before the work area is written.
-use borrow.Author.Rules.{rules}
 use native.Mathlib.Omega.{arith}
 use Rattle.answers.proofs.Sums.{sum-found, sum-none}
 use Rattle.answers.proofs.quickest_with.Goals as goal

@@ -1,5 +1,4 @@
 -- `answers::row_behind`: the rows of the uses turned into their positions, and these copied.
-use borrow.Author.Rules.{rules}
 use native.Mathlib.Omega.{arith}
 use Rattle.answers.proofs.RowsBehind.{row-none, stands-down, path-few, row-stands}
 use Rattle.answers.proofs.row_behind.Goals as goal

@@ -1,17 +1,13 @@
 -- `distance::climb` meets its contract. The invariant: the estimates tell the distances inside the
 -- copy at level l, and so does what was kept for the levels below.
-use borrow.Author.Rules.{rules}
-use native.Mathlib.Omega.{arith}
 use mathlib.Core.Path.{◌≡◌}
 use lib.ListN.{length}
 use Rattle.model.specs.Limits.{no_chain}
 use Rattle.distances.specs.Walks.{each-one}
-use Rattle.copies.proofs.ByRows.{place-block}
 use Rattle.searches.specs.Starts.{estimates_size}
 use Rattle.searches.specs.Copies.{kept_size}
 use Rattle.distance.specs.Summaries.{HasSummaries}
-use Rattle.distance.proofs.Counting.{summaries-known, may_settle}
-use Rattle.searches.proofs.Ways.{own-within, Climbing, climbing_begin, climbing_uses, climbing_on, climbing_done}
+use Rattle.searches.proofs.Ways.{Climbing}
 use Rattle.distance.proofs.climb.Given as goal
 
 abbrev pub invariant-loop-l : goal.invariant-loop-l

@@ -1,7 +1,6 @@
 -- `distance::common` meets its contract. The invariant: the rows passed are the same.
-use Prim.Native.Nat.{◌-◌, ◌≤◌}
 use borrow.Author.Rules.{rules}
-use Rattle.searches.proofs.Joins.{SameRows, same-begin, same-on, common_all, common_short, common_differ}
+use Rattle.searches.proofs.Joins.{same-begin, same-on, common_all, common_short, common_differ}
 use Rattle.distance.proofs.common.Goals as goal
 
 pub loop-i-init : goal.loop-i-init

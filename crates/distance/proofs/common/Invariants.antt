@@ -1,7 +1,6 @@
 -- `distance::common` meets its contract. The invariant: the rows passed are the same.
 use Prim.Native.Nat.{◌-◌, ◌≤◌}
-use borrow.Author.Rules.{rules}
-use Rattle.searches.proofs.Joins.{SameRows, same-begin, same-on, common_all, common_short, common_differ}
+use Rattle.searches.proofs.Joins.{SameRows}
 use Rattle.distance.proofs.common.Given as goal
 
 abbrev pub invariant-loop-i : goal.invariant-loop-i

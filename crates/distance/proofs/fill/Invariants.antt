@@ -1,10 +1,8 @@
 -- `distance::fill` meets its contract. The invariant: the numbers passed are x.
 use Prim.Native.Nat.{◌-◌, ◌≤◌}
-use borrow.Author.Rules.{rules}
-use native.Mathlib.Omega.{arith}
 use mathlib.Core.Path.{◌≡◌}
 use lib.ListN.{length}
-use Rattle.searches.proofs.Starts.{FilledTo, fill_begin, fill_on, fill_done}
+use Rattle.searches.proofs.Starts.{FilledTo}
 use Rattle.distance.proofs.fill.Given as goal
 
 abbrev pub invariant-loop-i : goal.invariant-loop-i

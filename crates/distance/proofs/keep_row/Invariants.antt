@@ -1,11 +1,9 @@
 -- `distance::keep_row` meets its contract. The invariant: the numbers of the cues passed are their
 -- estimates.
 use Prim.Native.Nat.{◌-◌, ◌≤◌}
-use borrow.Author.Rules.{rules}
 use mathlib.Core.Path.{◌≡◌}
 use lib.ListN.{length}
 use Rattle.searches.specs.Joins.{RowKept}
-use Rattle.searches.proofs.Joins.{row-begin, row_on, row_done}
 use Rattle.distance.proofs.keep_row.Given as goal
 
 abbrev pub invariant-loop-j : goal.invariant-loop-j

@@ -1,12 +1,10 @@
 -- `distance::put_joins` meets its contract. The invariant: the estimates of the joins passed are
 -- put in.
 use Prim.Native.Nat.{◌-◌, ◌≤◌}
-use borrow.Author.Rules.{rules}
 use mathlib.Core.Path.{◌≡◌}
 use lib.ListN.{length}
 use Rattle.searches.specs.Starts.{Merged}
 use Rattle.searches.specs.Joins.{JoinsAt}
-use Rattle.searches.proofs.Joins.{joins-begin, joins-on, joins-done}
 use Rattle.distance.proofs.put_joins.Given as goal
 
 abbrev pub invariant-loop-i : goal.invariant-loop-i

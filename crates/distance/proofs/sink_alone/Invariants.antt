@@ -1,13 +1,10 @@
 -- `distance::sink_alone` meets its contract. The invariant: the estimates tell the least at level l too, whatever cue they are
 -- about that no copy below the first level has.
 use Prim.Native.Nat.{◌-◌}
-use borrow.Author.Rules.{rules}
-use native.Mathlib.Omega.{arith}
 use Rattle.model.specs.Limits.{no_chain}
 use Rattle.distances.specs.Walks.{each-one}
 use Rattle.distance.specs.Summaries.{MaySearch}
-use Rattle.distance.proofs.Counting.{summaries-known}
-use Rattle.searches.proofs.Ways.{Sinking, sinking_begin, sinking_uses, sinking_on, sinking_done}
+use Rattle.searches.proofs.Ways.{Sinking}
 use Rattle.distance.proofs.sink_alone.Given as goal
 
 abbrev pub invariant-loop-l : goal.invariant-loop-l

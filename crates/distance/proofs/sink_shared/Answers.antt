@@ -1,13 +1,9 @@
 -- `distance::sink_shared` meets its contract. The invariant: the estimates tell the distances in
 -- the whole show at level l.
-use Prim.Native.Nat.{◌-◌}
 use borrow.Author.Rules.{rules}
 use native.Mathlib.Omega.{arith}
-use Rattle.model.specs.Limits.{no_chain}
-use Rattle.distances.specs.Walks.{each-one}
-use Rattle.distance.specs.Summaries.{MaySearch}
 use Rattle.distance.proofs.Counting.{summaries-known}
-use Rattle.searches.proofs.Ways.{Sharing, sharing_begin, sharing_uses, sharing_on, sharing_done}
+use Rattle.searches.proofs.Ways.{sharing_begin, sharing_uses, sharing_on, sharing_done}
 use Rattle.distance.proofs.sink_shared.Goals as goal
 
 pub loop-l-preserved : goal.loop-l-preserved

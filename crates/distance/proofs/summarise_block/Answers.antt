@@ -1,13 +1,6 @@
 -- `distance::summarise_block` meets its contract. The invariant: the rows of the joins passed are
 -- their summaries.
-use Prim.Native.Nat.{◌+◌, ◌*◌, ◌-◌, ◌≤◌}
 use borrow.Author.Rules.{rules}
-use mathlib.Core.Path.{◌≡◌}
-use lib.ListN.{length}
-use Rattle.model.specs.Limits.{summary_size}
-use Rattle.model.specs.Blocks.{blocks_of}
-use Rattle.searches.specs.Starts.{estimates_size}
-use Rattle.distance.specs.Summaries.{PartFilled, Below}
 use Rattle.distance.proofs.Area.{part-begin, part-rows, filled-part_on, part-done, below-begin, below_on}
 use Rattle.distance.proofs.summarise_block.Goals as goal
 

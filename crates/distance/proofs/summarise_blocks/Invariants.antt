@@ -1,14 +1,11 @@
 -- `distance::summarise_blocks` meets its contract. The invariant: the work area begins with the
 -- summaries of the blocks passed.
 use Prim.Native.Nat.{◌-◌, ◌≤◌}
-use borrow.Author.Rules.{rules}
-use native.Mathlib.Omega.{arith}
 use mathlib.Core.Path.{◌≡◌}
 use lib.ListN.{length}
 use Rattle.model.specs.Blocks.{blocks_of}
 use Rattle.searches.specs.Starts.{estimates_size}
-use Rattle.searches.proofs.Parts.{blocks-few}
-use Rattle.distance.proofs.Area.{area, area-begin, area_on, area-last, area-lower}
+use Rattle.distance.proofs.Area.{area}
 use Rattle.distance.proofs.summarise_blocks.Given as goal
 
 abbrev pub invariant-loop-k : goal.invariant-loop-k

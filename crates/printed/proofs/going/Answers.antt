@@ -1,5 +1,4 @@
 -- `printed::going` meets its contract.
-use borrow.Author.Rules.{rules}
 use Rattle.printed.proofs.Parts.{going_here, going_next, going_not}
 use Rattle.printed.proofs.going.Goals as goal
 

@@ -2,15 +2,9 @@
 -- at level l, and so does what was kept for the levels below.
 use borrow.Author.Rules.{rules}
 use native.Mathlib.Omega.{arith}
-use mathlib.Core.Path.{◌≡◌}
-use lib.ListN.{length}
-use Rattle.distances.specs.Quickest.{priced, no_sum}
 use Rattle.copies.proofs.ByRows.{place-block}
-use Rattle.searches.specs.Starts.{estimates_size}
-use Rattle.searches.specs.Copies.{kept_size}
-use Rattle.quickest.specs.Sums.{HasSums}
 use Rattle.quickest.proofs.Sums.{sums-known, may_settle}
-use Rattle.searches.proofs.Ways.{own-within, Climbing, climbing_begin, climbing_uses, climbing_on, climbing_done}
+use Rattle.searches.proofs.Ways.{own-within, climbing_begin, climbing_uses, climbing_on, climbing_done}
 use Rattle.quickest.proofs.climb.Goals as goal
 
 pub loop-l-preserved : goal.loop-l-preserved

@@ -1,12 +1,9 @@
 -- `quickest::sink_alone` meets its contract. The invariant: the sums tell the least at level l too, whatever cue they are
 -- about that no copy below the first level has.
 use Prim.Native.Nat.{◌-◌}
-use borrow.Author.Rules.{rules}
-use native.Mathlib.Omega.{arith}
 use Rattle.distances.specs.Quickest.{priced, no_sum}
 use Rattle.quickest.specs.Sums.{MaySearch}
-use Rattle.quickest.proofs.Sums.{sums-known}
-use Rattle.searches.proofs.Ways.{Sinking, sinking_begin, sinking_uses, sinking_on, sinking_done}
+use Rattle.searches.proofs.Ways.{Sinking}
 use Rattle.quickest.proofs.sink_alone.Given as goal
 
 abbrev pub invariant-loop-l : goal.invariant-loop-l

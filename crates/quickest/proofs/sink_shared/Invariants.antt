@@ -1,12 +1,9 @@
 -- `quickest::sink_shared` meets its contract. The invariant: the sums tell the least in the whole show
 -- at level l.
 use Prim.Native.Nat.{◌-◌}
-use borrow.Author.Rules.{rules}
-use native.Mathlib.Omega.{arith}
 use Rattle.distances.specs.Quickest.{priced, no_sum}
 use Rattle.quickest.specs.Sums.{MaySearch}
-use Rattle.quickest.proofs.Sums.{sums-known}
-use Rattle.searches.proofs.Ways.{Sharing, sharing_begin, sharing_uses, sharing_on, sharing_done}
+use Rattle.searches.proofs.Ways.{Sharing}
 use Rattle.quickest.proofs.sink_shared.Given as goal
 
 abbrev pub invariant-loop-l : goal.invariant-loop-l

@@ -1,15 +1,11 @@
 -- `quickest::sum_blocks` meets its contract. The invariant: the sums between the joins of the blocks
 -- passed are known.
 use Prim.Native.Nat.{◌-◌, ◌≤◌}
-use borrow.Author.Rules.{rules}
-use native.Mathlib.Omega.{arith}
 use mathlib.Core.Path.{◌≡◌}
 use lib.ListN.{length}
 use Rattle.model.specs.Limits.{work_size}
 use Rattle.searches.specs.Starts.{estimates_size}
-use Rattle.searches.proofs.Parts.{blocks-few}
 use Rattle.quickest.specs.Sums.{SumsTo}
-use Rattle.quickest.proofs.Sums.{sums-begin, sums-all}
 use Rattle.quickest.proofs.sum_blocks.Given as goal
 
 abbrev pub invariant-loop-k : goal.invariant-loop-k

@@ -1,11 +1,8 @@
 -- `relax::differ` meets its contract. The invariant: unless a difference was found, the estimates
 -- passed are the same.
 use Prim.Native.Nat.{◌-◌, ◌≤◌}
-use borrow.Author.Rules.{rules}
-use mathlib.Core.Path.{refl}
 use Rattle.model.specs.Limits.{summary_width}
 use Rattle.searches.specs.Lines.{Alike}
-use Rattle.searches.proofs.Lines.{alike_begin, alike_on, alike_done}
 use Rattle.relax.proofs.differ.Given as goal
 
 abbrev pub invariant-loop-i : goal.invariant-loop-i

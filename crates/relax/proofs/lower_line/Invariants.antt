@@ -1,11 +1,9 @@
 -- `relax::lower_line` meets its contract. The invariant: the estimates passed are lowered.
 use Prim.Native.Nat.{◌-◌, ◌≤◌}
-use borrow.Author.Rules.{rules}
 use mathlib.Core.Path.{◌≡◌}
 use lib.ListN.{length}
 use Rattle.model.specs.Limits.{no_chain, summary_width}
 use Rattle.searches.specs.Lines.{Line}
-use Rattle.searches.proofs.Lines.{line_begin, line_on, line_done}
 use Rattle.relax.proofs.lower_line.Given as goal
 
 abbrev pub invariant-loop-j : goal.invariant-loop-j

@@ -1,11 +1,6 @@
 -- `relax::lower_lines` meets its contract. The invariant: the estimates are lowered by the lines
 -- passed.
-use Prim.Native.Nat.{◌-◌, ◌≤◌}
 use borrow.Author.Rules.{rules}
-use mathlib.Core.Path.{◌≡◌}
-use lib.ListN.{length}
-use Rattle.model.specs.Limits.{no_chain, summary_width}
-use Rattle.searches.specs.Lines.{Lines}
 use Rattle.searches.proofs.Lines.{lines-begin, lines-on, lines-done}
 use Rattle.relax.proofs.lower_lines.Goals as goal
 

@@ -1,6 +1,5 @@
 -- `relax::lowered` meets its contract.
 use native.Mathlib.Omega.{arith}
-use borrow.Author.Rules.{rules}
 use Rattle.searches.proofs.Lines.{least-sum}
 use Rattle.relax.proofs.lowered.Goals as goal
 

@@ -1,6 +1,5 @@
 -- `relax::relax_pair` meets its contract.
 use borrow.Author.Rules.{rules}
-use native.Mathlib.Omega.{arith}
 use Rattle.searches.proofs.Starts.{column-within}
 use Rattle.searches.proofs.Edges.{mesh_pair}
 use Rattle.relax.proofs.relax_pair.Goals as goal

@@ -1,9 +1,8 @@
 -- `relax::relax_uses` meets its contract. The invariant: a round over the use rows passed.
 use Prim.Native.Nat.{◌-◌, ◌≤◌}
-use borrow.Author.Rules.{rules}
 use mathlib.Core.Path.{◌≡◌}
 use lib.ListN.{length}
-use Rattle.searches.proofs.Edges.{UsesOver, uses-begin, used_named, used_room, used_meets, uses-on, uses-done}
+use Rattle.searches.proofs.Edges.{UsesOver}
 use Rattle.relax.proofs.relax_uses.Given as goal
 
 abbrev pub invariant-loop-r : goal.invariant-loop-r

@@ -1,12 +1,6 @@
 -- `relax::settle` meets its contract. The invariant: every change so far was by an edge that
 -- improved an estimate. The measure: the sum of the estimates.
 use borrow.Author.Rules.{rules}
-use mathlib.Core.Path.{◌≡◌}
-use lib.ListN.{length}
-use Rattle.model.specs.Blocks.{blocks_of}
-use Rattle.distances.specs.Walks.{each-one}
-use Rattle.searches.specs.Rounds.{sum, Runs}
-use Rattle.searches.specs.Edges.{BlockEdge}
 use Rattle.searches.proofs.Rounds.{runs-begin, round_again, round_falls, round_last}
 use Rattle.relax.proofs.settle.Goals as goal
 

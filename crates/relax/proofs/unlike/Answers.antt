@@ -1,6 +1,5 @@
 -- `relax::unlike` meets its contract.
 use mathlib.Core.Path.{refl}
-use borrow.Author.Rules.{rules}
 use Rattle.searches.proofs.Lowering.{true_not_false}
 use Rattle.relax.proofs.unlike.Goals as goal
 

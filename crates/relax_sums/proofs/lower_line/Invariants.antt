@@ -1,12 +1,10 @@
 -- `relax_sums::lower_line` meets its contract. The invariant: the sums passed are lowered.
 use Prim.Native.Nat.{◌-◌, ◌≤◌}
-use borrow.Author.Rules.{rules}
 use mathlib.Core.Path.{◌≡◌}
 use lib.ListN.{length}
 use Rattle.model.specs.Limits.{summary_width}
 use Rattle.distances.specs.Quickest.{no_sum}
 use Rattle.searches.specs.Lines.{Line}
-use Rattle.searches.proofs.Lines.{line_begin, line_on, line_done}
 use Rattle.relax_sums.proofs.lower_line.Given as goal
 
 abbrev pub invariant-loop-j : goal.invariant-loop-j

@@ -1,13 +1,11 @@
 -- `relax_sums::lower_lines` meets its contract. The invariant: the sums are lowered by the lines
 -- passed.
 use Prim.Native.Nat.{◌-◌, ◌≤◌}
-use borrow.Author.Rules.{rules}
 use mathlib.Core.Path.{◌≡◌}
 use lib.ListN.{length}
 use Rattle.model.specs.Limits.{summary_width}
 use Rattle.distances.specs.Quickest.{no_sum}
 use Rattle.searches.specs.Lines.{Lines}
-use Rattle.searches.proofs.Lines.{lines-begin, lines-on, lines-done}
 use Rattle.relax_sums.proofs.lower_lines.Given as goal
 
 abbrev pub invariant-loop-i : goal.invariant-loop-i

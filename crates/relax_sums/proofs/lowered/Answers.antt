@@ -1,6 +1,5 @@
 -- `relax_sums::lowered` meets its contract.
 use native.Mathlib.Omega.{arith}
-use borrow.Author.Rules.{rules}
 use Rattle.distances.specs.Quickest.{no_sum}
 use Rattle.searches.proofs.Lines.{least-capped}
 use Rattle.relax_sums.proofs.lowered.Goals as goal

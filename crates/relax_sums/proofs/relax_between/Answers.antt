@@ -1,6 +1,5 @@
 -- `relax_sums::relax_between` meets its contract.
 use borrow.Author.Rules.{rules}
-use native.Mathlib.Omega.{arith}
 use Rattle.searches.proofs.Starts.{column-few, column-within}
 use Rattle.searches.proofs.Edges.{between-both}
 use Rattle.relax_sums.proofs.relax_between.Goals as goal

@@ -1,10 +1,6 @@
 -- `relax_sums::relax_links` meets its contract. The invariant: a round over the link rows passed.
-use Prim.Native.Nat.{◌-◌, ◌≤◌}
 use borrow.Author.Rules.{rules}
-use mathlib.Core.Path.{◌≡◌}
-use lib.ListN.{length}
-use Rattle.distances.specs.Quickest.{priced}
-use Rattle.searches.proofs.Edges.{LinksOver, links-begin, link-ends, links-on, links-done}
+use Rattle.searches.proofs.Edges.{links-begin, link-ends, links-on, links-done}
 use Rattle.relax_sums.proofs.relax_links.Goals as goal
 
 pub loop-r-init : goal.loop-r-init

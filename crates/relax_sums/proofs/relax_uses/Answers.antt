@@ -1,9 +1,6 @@
 -- `relax_sums::relax_uses` meets its contract. The invariant: a round over the use rows passed.
-use Prim.Native.Nat.{◌-◌, ◌≤◌}
 use borrow.Author.Rules.{rules}
-use mathlib.Core.Path.{◌≡◌}
-use lib.ListN.{length}
-use Rattle.searches.proofs.Edges.{UsesOver, uses-begin, used_named, used_room, used_meets, uses-on, uses-done}
+use Rattle.searches.proofs.Edges.{uses-begin, used_named, used_room, used_meets, uses-on, uses-done}
 use Rattle.relax_sums.proofs.relax_uses.Goals as goal
 
 pub loop-r-init : goal.loop-r-init

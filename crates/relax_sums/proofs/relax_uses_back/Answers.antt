@@ -2,9 +2,7 @@
 use Prim.Native.Nat.{◌-◌, ◌≤◌, ◌<◌}
 use borrow.Author.Rules.{rules}
 use native.Mathlib.Omega.{arith}
-use mathlib.Core.Path.{◌≡◌}
-use lib.ListN.{length}
-use Rattle.searches.proofs.Edges.{UsesOver, uses-begin, used_named, used_room, used_meets, uses-back, uses-done}
+use Rattle.searches.proofs.Edges.{uses-begin, used_named, used_room, used_meets, uses-back, uses-done}
 use Rattle.relax_sums.proofs.relax_uses_back.Goals as goal
 
 pub joins-m-requires : goal.joins-m-requires

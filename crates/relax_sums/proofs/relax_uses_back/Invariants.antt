@@ -1,10 +1,8 @@
 -- `relax_sums::relax_uses_back` meets its contract. The invariant: a round over the use rows passed, which are the last.
-use Prim.Native.Nat.{◌-◌, ◌≤◌, ◌<◌}
-use borrow.Author.Rules.{rules}
-use native.Mathlib.Omega.{arith}
+use Prim.Native.Nat.{◌≤◌}
 use mathlib.Core.Path.{◌≡◌}
 use lib.ListN.{length}
-use Rattle.searches.proofs.Edges.{UsesOver, uses-begin, used_named, used_room, used_meets, uses-back, uses-done}
+use Rattle.searches.proofs.Edges.{UsesOver}
 use Rattle.relax_sums.proofs.relax_uses_back.Given as goal
 
 abbrev pub invariant-loop-r : goal.invariant-loop-r

@@ -1,13 +1,11 @@
 -- `relax_sums::settle` meets its contract. The invariant: every change so far was by an edge that
 -- improved a sum. The measure: all sums added up, which falls with each change, whatever links wait.
-use borrow.Author.Rules.{rules}
 use mathlib.Core.Path.{◌≡◌}
 use lib.ListN.{length}
 use Rattle.model.specs.Blocks.{blocks_of}
 use Rattle.distances.specs.Quickest.{priced}
 use Rattle.searches.specs.Rounds.{sum, Runs}
 use Rattle.searches.specs.Edges.{BlockEdge}
-use Rattle.searches.proofs.Rounds.{runs-begin, round_again, round_falls, round_last}
 use Rattle.relax_sums.proofs.settle.Given as goal
 
 abbrev pub invariant-loop-k : goal.invariant-loop-k

@@ -1,5 +1,4 @@
 -- `show::list_in` meets its contract.
-use borrow.Author.Rules.{rules}
 use mathlib.Core.Path.{refl}
 use Rattle.answers.proofs.Linked.{list_in_lem}
 use Rattle.show.proofs.list_in.Goals as goal

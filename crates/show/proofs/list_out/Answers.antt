@@ -1,5 +1,4 @@
 -- `show::list_out` meets its contract.
-use borrow.Author.Rules.{rules}
 use mathlib.Core.Path.{refl}
 use Rattle.answers.proofs.Linked.{list_out}
 use Rattle.show.proofs.list_out.Goals as goal

@@ -1,5 +1,4 @@
 -- The loop passes each place of the list once.
-use borrow.Author.Rules.{rules}
 use Prim.Native.Nat.{◌-◌}
 use lib.ListN.{length}
 use Rattle.cases.proofs.judging.holds.Given as goal

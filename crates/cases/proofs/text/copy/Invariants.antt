@@ -1,5 +1,4 @@
 -- The file keeps its length; the loop passes each byte of the text once.
-use borrow.Author.Rules.{rules}
 use Prim.Native.Nat.{◌-◌}
 use mathlib.Core.Path.{◌≡◌}
 use lib.ListN.{length}

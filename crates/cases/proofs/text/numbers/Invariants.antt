@@ -1,5 +1,4 @@
 -- The list keeps its length; the loop passes each byte once.
-use borrow.Author.Rules.{rules}
 use Prim.Native.Nat.{◌-◌}
 use mathlib.Core.Path.{◌≡◌}
 use lib.ListN.{length}

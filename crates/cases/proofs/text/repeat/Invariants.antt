@@ -1,5 +1,4 @@
 -- The list keeps its length; what is left falls.
-use borrow.Author.Rules.{rules}
 use mathlib.Core.Path.{◌≡◌}
 use lib.ListN.{length}
 use Rattle.cases.proofs.text.repeat.Given as goal
