@@ -1,5 +1,5 @@
 -- Lists told apart by computing: what is no member of a list, and what is no rearrangement of another. The refutations of wrong models rest on these
--- (must-fail/model); no law does.
+-- (wrong_models); no law does.
 use Prim.Native.Nat.{ℕ, ◌+◌}
 use native.Mathlib.Omega.{arith}
 use mathlib.Core.Path.{◌≡◌, refl, ap, ap₂}

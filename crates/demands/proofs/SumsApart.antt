@@ -1,4 +1,4 @@
--- Sums of waits bounded from below by computing, under a wait file of one line. The refutations of wrong models rest on this (must-fail/model); no law does.
+-- Sums of waits bounded from below by computing, under a wait file of one line. The refutations of wrong models rest on this (wrong_models); no law does.
 use Prim.Native.Nat.{ℕ, ◌+◌, ◌≤◌, ◌<◌}
 use native.Mathlib.Omega.{arith}
 use native.Mathlib.Decide.{dec_lt, ℕ_discrete}
