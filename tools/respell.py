@@ -14,7 +14,7 @@ import subprocess
 import sys
 import tempfile
 
-KIT = os.environ.get("PORT", "/opt/rattle/port/port.py")
+KIT = os.path.join(os.path.dirname(subprocess.run(["rt", "doc"], capture_output=True, text=True).stdout.strip()), "port", "port.py")
 HERE = os.path.dirname(os.path.abspath(__file__))
 TOKEN = re.compile(r"[^\s(){}\[\].;,@\"|`«»]+")
 
