@@ -27,8 +27,31 @@ def files(*patterns):
     return sorted(f for p in patterns for f in glob.glob(p, recursive=True))
 
 
+# Names that are English too: in a comment they are that.
+ENGLISH = {"follow-ons"}
+COMMENT = re.compile(r"(?:^|(?<=\s))(?:--|//|#).*", re.M)
+
+
 def turn(text, names):
-    return TOKEN.sub(lambda m: names.get(m.group(0), m.group(0)), text)
+    """Comments have names too, but for those that are English."""
+    outside = TOKEN.sub(lambda m: m.group(0) if m.group(0) in ENGLISH else names.get(m.group(0), m.group(0)), text)
+    if not any(word in outside for word in ENGLISH):
+        return outside
+    parts, end = [], 0
+    for m in COMMENT.finditer(outside):
+        parts += [outside[end:m.start()], None, m.group(0)]
+        end = m.end()
+    parts.append(outside[end:])
+    named = lambda p: TOKEN.sub(lambda m: names.get(m.group(0), m.group(0)) if m.group(0) in ENGLISH else m.group(0), p)
+    out, i = [], 0
+    while i < len(parts):
+        if parts[i] is None:
+            out.append(parts[i + 1])
+            i += 2
+        else:
+            out.append(named(parts[i]))
+            i += 1
+    return "".join(out)
 
 
 def turn_source(text, names):

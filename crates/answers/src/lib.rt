@@ -219,7 +219,7 @@ pub fn row_in(rows: &[u32], table: &[u32; INDEX], s: u32, t: u32, path: &mut [u3
     row_behind(rows, table, s, t, path)
 }
 
-// The fewest follow_ons between two cues of a loaded show. The work area is large enough.
+// The fewest follow-ons between two cues of a loaded show. The work area is large enough.
 fn least(rows: &[u32], table: &[u32; INDEX], s: u32, t: u32, work: &mut [u32]) -> FewestAnswer
     requires { Loaded rows.now table.now × ShowCue rows.now s × ShowCue rows.now t × (work_size ≤ length work.old) }
     ensures { outcome (of_fewest result) work.new ≡ between (blocks_of rows.now) s t work.old }
@@ -236,7 +236,7 @@ fn least(rows: &[u32], table: &[u32; INDEX], s: u32, t: u32, work: &mut [u32]) -
     FewestAnswer::None
 }
 
-// The fewest follow_ons from cue s to cue t of a loaded show.
+// The fewest follow-ons from cue s to cue t of a loaded show.
 pub fn fewest_in(
     rows: &[u32],
     table: &[u32; INDEX],

@@ -65,7 +65,7 @@ fn paged(answer: ListAnswer) -> Said {
     }
 }
 
-// No chain is 0; a number of follow_ons is 1 and the number.
+// No chain is 0; a number of follow-ons is 1 and the number.
 fn fewest(rows: &[u32], s: u32, t: u32, work: &mut [u32]) -> Said {
     match show::fewest(rows, s, t, work) {
         FewestAnswer::Steps(n) => given(1, n, 0),

@@ -90,10 +90,14 @@ fn load<R: Files + Eprint>(rt: &R, name: &str, file: &mut [u8]) -> io::Result<us
     }
 }
 
+// The same of a name that stands in the text.
 fn load_bytes<R: Files + Eprint>(rt: &R, name: &[u8], file: &mut [u8]) -> io::Result<usize> {
     match str::from_utf8(name) {
         Ok(name) => load(rt, name, file),
-        Err(_) => Ok(0),
+        Err(_) => {
+            eprintln!(rt; "the name of a file is not text")?;
+            Ok(0)
+        }
     }
 }
 

@@ -53,7 +53,7 @@ pub mod LinkRows
 pub mod LinksOfRows
 pub mod Winning
 pub mod RowBehind
--- the fewest follow_ons, the work area, notes
+-- the fewest follow-ons, the work area, notes
 pub mod WorkArea
 pub mod Shortest
 pub mod Notes

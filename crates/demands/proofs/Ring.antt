@@ -1,4 +1,4 @@
--- The ring show by computation: its rows are accepted and stand for its blocks; and what the demands on unfolding, numbers, the rows behind follow_ons and
+-- The ring show by computation: its rows are accepted and stand for its blocks; and what the demands on unfolding, numbers, the rows behind follow-ons and
 -- notes say of it, after its single steps (RingSteps) and those of its block 1 alone, of a show with several links between two cues, and of a block with a
 -- note. Nothing here rests on a law, so a definition that does not meet these demands is refused here by itself.
 use Prim.Native.Nat.{ℕ, suc, ◌≤◌, ◌<◌}

@@ -10,7 +10,7 @@ use Rattle.model.specs.declared.ListAnswer.TheVariants.{Page}
 use Rattle.shows.specs.Lists.{Rising}
 use Rattle.demands.specs.Buffers.{Leaves}
 
--- A link of the unfolded show leads from cue u to cue v. "All labels count as follow_ons." "Lists and the unfolding program still show notes" (02, Paper 3).
+-- A link of the unfolded show leads from cue u to cue v. "All labels count as follow-ons." "Lists and the unfolding program still show notes" (02, Paper 3).
 -- "List out, or in, of cue v": cue u is linked to v, by one that leads from v to u, or from u to v.
 abbrev pub LinkLeads : List ℕ → ℕ → ℕ → Type 0
 LinkLeads xs u v = (l : Link) × Memᴰ l (show_links (blocks_of xs)) × (l.from ≡ u) × (l.to ≡ v)

@@ -35,9 +35,9 @@ pub record ChainLinks (xs : List ℕ) : Type 0 where
   pub of-show : ChainsHave (show_links (blocks_of xs)) (followed_links xs)
   pub of-block : (k : ℕ) → k < length (blocks_of xs) → ChainsHave (block_links (blocks_of xs) k) (followed_inside xs k)
 
--- The old figure, of rows xs: what was answered while "All labels count as follow_ons." (01), in the fewest answer and the summaries too. So a chain may have
+-- The old figure, of rows xs: what was answered while "All labels count as follow-ons." (01), in the fewest answer and the summaries too. So a chain may have
 -- every link of the unfolded show, and of a block's own unfolding. (Refusals know nothing of notes: Refusals.)
--- "A user who asks for the fewest follow_ons over a show without notes must see the old figure": the answer, and the work area afterwards.
+-- "A user who asks for the fewest follow-ons over a show without notes must see the old figure": the answer, and the work area afterwards.
 pub record OldFigure (xs : List ℕ) (s t : ℕ) (work : List ℕ) (r : FewestAnswer) (after : List ℕ) : Type 0 where
   pub fewest : IsFewest (show_links (blocks_of xs)) s t r
   pub work-area : IsWorkArea xs (block_links (blocks_of xs)) work after

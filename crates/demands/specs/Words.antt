@@ -119,7 +119,7 @@ FileWords =
     SpellsFile counted_file
     (0 ∷ 1 ∷ 2 ∷ 3 ∷ 4 ∷ 5 ∷ 6 ∷ 7 ∷ 8 ∷ 9 ∷ 10 ∷ 11 ∷ 12 ∷ 13 ∷ 14 ∷ 15 ∷ 16 ∷ 17 ∷ 18 ∷ 19 ∷ 20 ∷ 21 ∷ [])
 
--- "returned (number, place)", and the values of an answer in order: 1 for "more", and 1 before the fewest follow_ons, 0 and 0 for none; 1 before the two
+-- "returned (number, place)", and the values of an answer in order: 1 for "more", and 1 before the fewest follow-ons, 0 and 0 for none; 1 before the two
 -- halves of the quickest sum, the lower 32 bits first, and three times 0 for none (02, Paper 5).
 abbrev pub IsReturned : Returned → ℕ → ℕ → List ℕ → Type 0
 IsReturned a number place values = (a.number ≡ number) × (a.place ≡ place) × (a.values ≡ values)

@@ -16,7 +16,7 @@ place k i j = block_numbers * k + 8 * (i - 1) + (j - 1)
 
 -- Inside gives, for each block, the links of its own unfolding that a chain may have.
 pub record IsWorkArea (xs : List ℕ) (Inside : ℕ → List Link) (work after : List ℕ) : Type 0 where
-  -- At its place, "the fewest follow_ons inside that block's own unfolding."
+  -- At its place, "the fewest follow-ons inside that block's own unfolding."
   pub summaries : (k i j : ℕ) → k < length (blocks_of xs) → 1 ≤ i → i ≤ 8 → 1 ≤ j → j ≤ 8
       → Summarised (Inside k) (total (blocks_of xs) k) (joins_in xs k) i j (get_or after (place k i j) 0)
   -- "The others up to 16,384 are 0; beyond that nothing changes."

@@ -1,4 +1,4 @@
-// The fewest follow_ons between two cues, without unfolding the show. Estimates are relaxed over
+// The fewest follow-ons between two cues, without unfolding the show. Estimates are relaxed over
 // one block at a time, as Bellman and Ford do it. A block's summary has the distances between its
 // joins, which are a rule's external nodes; with it a use counts as edges between the cues that it
 // names. From s the way goes up the derivation tree, copy by copy to the show, and from there down
@@ -321,7 +321,7 @@ pub fn common(a: &[u32], n: usize, b: &[u32], m: usize) -> usize
     i
 }
 
-// The fewest follow_ons from the cue of one place to the cue of another, each with the rows that
+// The fewest follow-ons from the cue of one place to the cue of another, each with the rows that
 // lead there, or 4,294,967,295 for none. The work area has the summaries.
 pub fn fewest(
     xs: &[u32],

@@ -29,7 +29,7 @@ pub record Shortest (E : List Link) (s t : ℕ) (d : Distance) : Type 0 where
   pub still : d ≡ Far 0 → s ≡ t
   pub stays : s ≡ t → d ≡ Far 0
 
--- "for block k, join i to join j .. the fewest follow_ons inside that block's own unfolding": n is this number, for a block that has so many joins, and cues
+-- "for block k, join i to join j .. the fewest follow-ons inside that block's own unfolding": n is this number, for a block that has so many joins, and cues
 -- in its own unfolding; E are the links there that a chain may have. The joins have the numbers behind those of the cues.
 pub record Summarised (E : List Link) (cues joins i j n : ℕ) : Type 0 where
   -- "It is 4,294,967,295 where the block lacks either join or has no chain", and only there.

@@ -45,7 +45,7 @@ Knows price inf bs tab limit =
 unfoldable pub told : ℕ → ℕ → Distance
 told inf x = if_lt x inf (Far x) Unreachable
 
--- What an estimate of follow_ons says.
+-- What an estimate of follow-ons says.
 abbrev pub distance : ℕ → Distance
 distance x = told no_chain x
 

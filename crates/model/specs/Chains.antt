@@ -1,4 +1,4 @@
--- The fewest follow_ons. Document 01, "Unfolding", and 02, Paper 3. In the field's terms: the distance from s to t. What a chain is, of which nothing is
+-- The fewest follow-ons. Document 01, "Unfolding", and 02, Paper 3. In the field's terms: the distance from s to t. What a chain is, of which nothing is
 -- computed, stands in crates/distances/specs/Demand, with what the fewest is proved to be.
 use Rattle.std.specs.Prelude.{ℕ, zero, suc, Bool, true, false, List, [], ◌∷◌, eqb}
 use Rattle.model.specs.Choice.{if_lt}
@@ -6,7 +6,7 @@ use Rattle.model.specs.Limits.{max_followed}
 use Rattle.model.specs.Blocks.{Link}
 
 -- The links that a chain may have. 02, Paper 3: "From now on a chain has only links with labels 1 to 254". Those of label 255 are notes, which
--- lists and the unfolding program show (01: "All labels count as follow_ons").
+-- lists and the unfolding program show (01: "All labels count as follow-ons").
 unfoldable pub followed : List Link → List Link
 followed [] = []
 followed (l ∷ E) = if_lt max_followed l.label (followed E) (l ∷ followed E)

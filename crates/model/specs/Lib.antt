@@ -1,5 +1,5 @@
 -- What a reader must believe, in the order in which document 01 is best followed: values, the file, the rows and their checks, blocks, the
--- unfolding, numbers, lists, rows behind follow_ons, the fewest follow_ons, the blocks of the desk, waits and the quickest way, the questions, and what is
+-- unfolding, numbers, lists, rows behind follow-ons, the fewest follow-ons, the blocks of the desk, waits and the quickest way, the questions, and what is
 -- promised of them.
 -- Quotations in comments are from document 01, unless 02 is named.
 pub mod Choice

@@ -3,7 +3,7 @@ use Rattle.std.specs.Prelude.{ℕ, zero, suc, ◌-◌, Bool, true, false, List, 
 use Rattle.model.specs.Choice.{if_eq, if_true}
 use Rattle.model.specs.Blocks.{Link}
 
--- Some link leads from u to v. "All labels count as follow_ons."
+-- Some link leads from u to v. "All labels count as follow-ons."
 unfoldable pub is_linked : List Link → ℕ → ℕ → Bool
 is_linked [] u v = false
 is_linked (l ∷ E) u v = if_eq l.from u (if_eq l.to v true (is_linked E u v)) (is_linked E u v)

@@ -22,7 +22,7 @@ or_none Unreachable = no_chain
 abbrev pub Search : Type 0
 Search = List Link → ℕ → ℕ → ℕ → Distance
 
--- "for block k, join i to join j (both from 1) .. the fewest follow_ons inside that block's own unfolding. It is 4,294,967,295 where
+-- "for block k, join i to join j (both from 1) .. the fewest follow-ons inside that block's own unfolding. It is 4,294,967,295 where
 -- the block lacks either join or has no chain, and 0 from a join it has to itself."
 unfoldable pub summary_by : Search → List Block → ℕ → ℕ → ℕ → ℕ
 summary_by find bs k i j =

@@ -1,4 +1,4 @@
--- The wait file: how long the follow_ons of each label wait, in tenths of a second. Document 02, Paper 5, which all quotations are from.
+-- The wait file: how long the follow-ons of each label wait, in tenths of a second. Document 02, Paper 5, which all quotations are from.
 use Rattle.std.specs.Prelude.{ℕ, suc, Bool, true, false, List, [], ◌∷◌, get_or, set, replicate}
 use Rattle.model.specs.Choice.{if_lt, if_eq, if_true}
 use Rattle.model.specs.Limits.{max_followed, max_wait}

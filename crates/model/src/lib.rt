@@ -66,7 +66,7 @@ pub enum RowAnswer {
     Refused(Refusal),
 }
 
-// The fewest follow_ons from one cue to another, or none.
+// The fewest follow-ons from one cue to another, or none.
 #[derive(Drop)]
 pub enum FewestAnswer {
     Steps(u32),

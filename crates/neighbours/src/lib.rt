@@ -255,6 +255,7 @@ pub fn marks_of(
 
 // Makes the record of join i of block k, if it is not there yet.
 #[cycle(mark_use_mark_uses_marks_of_ready)]
+#[tactic(auto, using(crate::proofs::Tables::record_made_before))]
 fn ready(xs: &[u32], t: &[u32; INDEX], q: Ask, m: &mut [u8], k: usize, i: usize)
     requires { Loaded xs.now t.now × IsBlock xs.now k × HasBlock m.old k × (i < joins_of (blocks_of xs.now) k) × (i < max_joins) × Table q (blocks_of xs.now) m.old }
     ensures { RecordMade q (blocks_of xs.now) k i m.old m.new }

@@ -1,5 +1,5 @@
 // The quickest way between two cues, without unfolding the show: the smallest sum of waits over all
-// chains, in tenths of a second. It goes as the fewest follow_ons do in crate distance, with links
+// chains, in tenths of a second. It goes as the fewest follow-ons do in crate distance, with links
 // that weigh their labels' waits, 0 too, and sums of 64 bits. What stands between the joins of a
 // block is kept in the work area only while the question is answered.
 //

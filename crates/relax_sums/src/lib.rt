@@ -137,7 +137,7 @@ fn long(x: u32) -> u64
     x as u64
 }
 
-// How long the follow_ons of a label wait.
+// How long the follow-ons of a label wait.
 fn wait(waits: &[u32], label: usize) -> u64
     requires { label < length waits.now }
     ensures { result ≡ get_or waits.now label 0 }

@@ -98,7 +98,7 @@ pub record RoundTripsExact : Type 0 where
       → (r : ReadAnswer) (out'' after'' : List ℕ) → AsksRead (take bytes after') out'' r after'' → rows * row_size ≤ length out''
       → ReadsAgain (Read rows blocks cues) (take (rows * row_size) after) r out'' after''
 
--- Of rows that keep the rules: the blocks are those of the rows; numbers, paths and lists, and the rows behind follow_ons, are right against the unfolding of
+-- Of rows that keep the rules: the blocks are those of the rows; numbers, paths and lists, and the rows behind follow-ons, are right against the unfolding of
 -- the blocks, which single steps in any order lead to.
 pub record RightAgainstUnfolding (xs : List ℕ) : Type 0 where
   pub blocks : AreBlocks xs (blocks_of xs)

@@ -122,7 +122,7 @@ pub fn row(rows: &[u32], s: u32, t: u32, path: &mut [u32]) -> RowAnswer
     }
 }
 
-// The fewest follow_ons from cue s to cue t, or none; notes are not followed. The work area holds the summaries of all blocks afterwards.
+// The fewest follow-ons from cue s to cue t, or none; notes are not followed. The work area holds the summaries of all blocks afterwards.
 pub fn fewest(rows: &[u32], s: u32, t: u32, work: &mut [u32]) -> FewestAnswer
     ensures { AsksFewest rows.now s t work.old result work.new }
 {

@@ -281,7 +281,7 @@ pub extern "C" fn show_row(rows: &[u32], s: u32, t: u32, path: &mut [u32], given
     }
 }
 
-// given: whether there is a chain (0 or 1), which has no note, and its follow_ons (0 where there is none)
+// given: whether there is a chain (0 or 1), which has no note, and its follow-ons (0 where there is none)
 #[unsafe(no_mangle)]
 pub extern "C" fn show_fewest(
     rows: &[u32],

@@ -33,8 +33,8 @@ fn read_full<R: Read>(from: &mut R, file: &mut [u8]) -> io::Result<usize>
     Ok(n)
 }
 
-// Prints the lines of all links of a loaded show, part by part.
-fn print_links<W: Write>(to: &mut W, xs: &[u32], t: &[u32; INDEX], cues: u32) -> io::Result<()>
+// Prints the lines of all links of a loaded show, part by part, as far as they can be written.
+fn print_links<W: Write>(to: &mut W, xs: &[u32], t: &[u32; INDEX], cues: u32)
     requires { Prints xs.now t.now cues }
 {
     let mut marks = [0u8; MARKS];
@@ -43,11 +43,12 @@ fn print_links<W: Write>(to: &mut W, xs: &[u32], t: &[u32; INDEX], cues: u32) ->
     let mut place = LABEL_PLACES * (cues as usize) + LABEL_PLACES;
     while printed::going(cues, from, place) {
         let at = printed::part(xs, t, cues, from, place, &mut marks, &mut out);
-        to.write_all(&out[..at.used])?;
+        if to.write_all(&out[..at.used]).is_err() {
+            return;
+        }
         from = at.from;
         place = at.place;
     }
-    Ok(())
 }
 
 // A file of more than 65,536 bytes is refused, so one byte more than that is all that is read.
@@ -60,10 +61,12 @@ fn main(rt: HostRuntime) -> io::Result<()> {
     let begun = printed::begin(&file[..length], &mut rows, &mut t, &mut out);
     let used = begun.used;
     let mut to = rt.stdout();
-    to.write_all(&out[..used])?;
+    if to.write_all(&out[..used]).is_err() {
+        return Ok(());
+    }
     if begun.more {
         let size = begun.size;
-        print_links(&mut to, &rows[..size], &t, begun.cues)?;
+        print_links(&mut to, &rows[..size], &t, begun.cues);
     }
     Ok(())
 }

@@ -4,19 +4,7 @@ use mathlib.Core.List.{[]}
 use mathlib.Core.Path.{refl, ◌∙◌}
 use Rattle.blocks.proofs.Loaded.{use_row, used_block}
 use Rattle.neighbours.proofs.Marks.{use_inside, use_quiet}
-use Rattle.neighbours.proofs.Tables.{
-  use_step_made,
-  use_step_none,
-  uses_step_begin,
-  uses_step_on,
-  uses_step_done,
-  use_step_long,
-  marks_step_done,
-  zero-long,
-  record_made_before,
-  record_made_now,
-  written-long,
-}
+use Rattle.neighbours.proofs.Tables.{use_step_made, use_step_none, uses_step_begin, uses_step_on, uses_step_done, use_step_long, marks_step_done, zero-long, record_made_now, written-long}
 use native.Mathlib.Omega.{arith}
 use Rattle.neighbours.proofs.+mark_use_mark_uses_marks_of_ready.Goals as goal
 
@@ -141,10 +129,6 @@ marks_of-returns t c =
     let own = c.own-own.ensures in
     marks_step_done _ _ _ _ _ _ _ _ _ _ _ _ c.requires.4 c.link_rows.ensures own.0 own.1 c.mark_links.ensures c.mark_uses.ensures
 
-pub ready-returns-then-known-gt0 : goal.ready-returns-then-known-gt0
-ready-returns-then-known-gt0 t c =
-    record_made_before _ _ _ _ _ _ c.requires.5 refl c.if-known-gt0.true
-
 pub ready-marks_of-requires : goal.ready-marks_of-requires
 ready-marks_of-requires t c =
     let pre = c.requires in
@@ -170,5 +154,5 @@ ready-returns t c =
     let pre = c.requires in
     let own = c.own-own in
     let marks = c.marks_of in
-    record_made_now _ _ pre.0 _ _ _ _ own.result _ _ _ _ _ _ pre.3 refl c.if-known-gt0.false own.ensures.0 own.ensures.1 (omega arith)
+    record_made_now _ _ pre.0 _ _ _ _ own.result _ _ _ _ _ _ pre.3 refl (omega arith) own.ensures.0 own.ensures.1 (omega arith)
     marks.ensures c.copy_record.ensures c.settled.ensures (omega (arith, pre.2, marks.auto))
