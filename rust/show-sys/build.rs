@@ -31,7 +31,7 @@ fn link(dir: &Path) {
 fn missing(dir: &Path, root: &Path, named: bool) -> String {
     let said = if named { ", which SHOW_C_DIR names" } else { "" };
     format!(
-        "show-sys: there is no libshow_c.a in {}{said}. Run `rt staticlib show_c` in {}, which proves and builds it, \
+        "show-sys: there is no libshow_c.a in {}{said}. Run `.ci/library` in {}, which proves and builds it, \
          or set SHOW_C_DIR to the folder that has it, by its whole path.",
         dir.display(),
         root.display()

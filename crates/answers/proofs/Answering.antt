@@ -1,115 +1,115 @@
 -- The answers of locating, numbering, writing and reading.
-use Prim.Native.Nat.{ℕ, _+_, _*_, _/_, _≤_, _<_}
+use Prim.Native.Nat.{ℕ, ◌+◌, ◌*◌, ◌/◌, ◌≤◌, ◌<◌}
 use native.Mathlib.Omega.{arith}
-use mathlib.Core.Path.{_≡_, refl, sym, _∙_, ap}
+use mathlib.Core.Path.{◌≡◌, refl, sym, ◌∙◌, ap}
 use mathlib.Core.Bool.{Bool, true, false}
 use mathlib.Core.List.{List}
 use lib.ListN.{length}
-use Rattle·model.specs.Limits.{rowSize, maxRows, maxBytes, maxDepth, maxBlocks}
-use Rattle·model.specs.Rows.{rowsFrom, rowCount, rowsOf, fileText}
-use Rattle·model.specs.Rules.{isCue}
-use Rattle·model.specs.Blocks.{Block, blocksOf, lastBlock, count}
-use Rattle·model.specs.Verdicts.{refusal, verdict}
-use Rattle·model.specs.Paths.{placeIn}
-use Rattle·model.specs.Lists.{overwrite}
-use Rattle·model.specs.Answers.{ofRead, ofWrite, ofLocate, ofNumber}
-use Rattle·model.specs.Questions.{outcome, refuse, answer, readInto, writeInto, located, locateIn, numbered}
-use Rattle·model.specs.declared.Verdict.the-variants.{Accepted}
-use Rattle·model.specs.declared.ReadAnswer.the-variants.{Read, Refused as ReadRefused}
-use Rattle·model.specs.declared.WriteAnswer.the-variants.{Written, Refused as WriteRefused}
-use Rattle·model.specs.declared.LocateAnswer.the-variants.{Found, Refused as LocateRefused}
-use Rattle·model.specs.declared.NumberAnswer.the-variants.{Number, Refused as NumberRefused}
-use Rattle·shows.specs.Numbering.{IsPlace}
-use Rattle·basics.proofs.Choices.{eq-then, eq-else}
-use Rattle·shows.proofs.Accepted.{accepted-show}
-use Rattle·shows.proofs.Numbering.{numbering}
-use Rattle·shows.proofs.RoundTrips.{rows-fit}
-use Rattle·shows.proofs.Outcomes.{has-room, no-room, has-cue, no-cue}
-use Rattle·blocks.specs.Loaded.{Loaded}
-use Rattle·blocks.specs.declared.Place.{Place}
-use Rattle·blocks.proofs.Loaded.{loaded-show}
-use Rattle·paths.specs.Locating.{placeOf}
-use Rattle·answers·proofs.proofs.Outcomes.{cue-no, cue-yes}
+use Rattle.model.specs.Limits.{row_size, max_rows, max_bytes, max_depth, max_blocks}
+use Rattle.model.specs.Rows.{rows_from, row_count, rows_of, file_text}
+use Rattle.model.specs.Rules.{is_cue}
+use Rattle.model.specs.Blocks.{Block, blocks_of, last_block, count}
+use Rattle.model.specs.Verdicts.{refusal, verdict}
+use Rattle.model.specs.Paths.{place_in}
+use Rattle.model.specs.Lists.{overwrite}
+use Rattle.model.specs.Answers.{of_read, of_write, of_locate, of_number}
+use Rattle.model.specs.Questions.{outcome, refuse, answer, read_into, write_into, located, locate_in, numbered}
+use Rattle.model.specs.declared.Verdict.TheVariants.{Accepted}
+use Rattle.model.specs.declared.ReadAnswer.TheVariants.{Read, Refused as ReadRefused}
+use Rattle.model.specs.declared.WriteAnswer.TheVariants.{Written, Refused as WriteRefused}
+use Rattle.model.specs.declared.LocateAnswer.TheVariants.{Found, Refused as LocateRefused}
+use Rattle.model.specs.declared.NumberAnswer.TheVariants.{Number, Refused as NumberRefused}
+use Rattle.shows.specs.Numbering.{IsPlace}
+use Rattle.basics.proofs.Choices.{eq_then, eq_else}
+use Rattle.shows.proofs.Accepted.{accepted-show}
+use Rattle.shows.proofs.Numbering.{numbering}
+use Rattle.shows.proofs.RoundTrips.{rows_fit}
+use Rattle.shows.proofs.Outcomes.{has_room, no_room, has-cue, no_cue}
+use Rattle.blocks.specs.Loaded.{Loaded}
+use Rattle.blocks.specs.declared.Place.{Place}
+use Rattle.blocks.proofs.Loaded.{loaded-show}
+use Rattle.paths.specs.Locating.{place_of}
+use Rattle.answers.proofs.Outcomes.{cue-no, cue-yes}
 
 -- Locating.
-pub locate-room : (bs : List Block) (n : ℕ) (path : List ℕ) → length path < maxDepth
-    → outcome (ofLocate (LocateRefused (record { number = 11; place = 0 }))) path ≡ locateIn bs n path
-unfolding ofLocate locateIn refuse refusal
-locate-room bs n path h = sym (no-room maxDepth path _ h)
+pub locate-room : (bs : List Block) (n : ℕ) (path : List ℕ) → length path < max_depth
+    → outcome (of_locate (LocateRefused (record { number = 11; place = 0 }))) path ≡ locate_in bs n path
+unfolding of_locate locate_in refuse refusal
+locate-room bs n path h = sym (no_room max_depth path _ h)
 
 -- b is the test of cue n.
-module _ (xs t : List ℕ) (g : Loaded xs t) (n cues : ℕ) (b : Bool) (q : b ≡ isCue cues n) (e : cues ≡ count (blocksOf xs)) (path : List ℕ)
-    (room : maxDepth ≤ length path) where
-  pub locate-no : b ≡ false → outcome (ofLocate (LocateRefused (record { number = 12; place = 0 }))) path ≡ locateIn (blocksOf xs) n path
-  unfolding ofLocate locateIn refuse refusal
-  locate-no k = sym (has-room maxDepth path _ room ∙ no-cue (blocksOf xs) n path _ (cue-no (blocksOf xs) n cues b q e k))
+module _ (xs t : List ℕ) (g : Loaded xs t) (n cues : ℕ) (b : Bool) (q : b ≡ is_cue cues n) (e : cues ≡ count (blocks_of xs)) (path : List ℕ)
+    (room : max_depth ≤ length path) where
+  pub locate-no : b ≡ false → outcome (of_locate (LocateRefused (record { number = 12; place = 0 }))) path ≡ locate_in (blocks_of xs) n path
+  unfolding of_locate locate_in refuse refusal
+  locate-no k = sym (has_room max_depth path _ room ∙ no_cue (blocks_of xs) n path _ (cue-no (blocks_of xs) n cues b q e k))
 
-  pub locate-asks : b ≡ true → Loaded xs t × (1 ≤ n) × (n ≤ count (blocksOf xs)) × (maxDepth ≤ length path)
-  locate-asks k = let c = cue-yes (blocksOf xs) n cues b q e k in (g, c .0, c .1, room)
+  pub locate-asks : b ≡ true → Loaded xs t × (1 ≤ n) × (n ≤ count (blocks_of xs)) × (max_depth ≤ length path)
+  locate-asks k = let c = cue-yes (blocks_of xs) n cues b q e k in (g, c.0, c.1, room)
 
   -- What was found is small.
-  pub found-few : (r : Place) → b ≡ true → r ≡ placeOf n (placeIn (blocksOf xs) (lastBlock (blocksOf xs)) n)
-      → (r .depth ≤ maxDepth) × (r .block < maxBlocks)
-  unfolding lastBlock
+  pub found-few : (r : Place) → b ≡ true → r ≡ place_of n (place_in (blocks_of xs) (last_block (blocks_of xs)) n)
+      → (r.depth ≤ max_depth) × (r.block < max_blocks)
+  unfolding last_block
   found-few r k f =
-      let c = cue-yes (blocksOf xs) n cues b q e k in
-      let p : IsPlace (blocksOf xs) n (placeIn (blocksOf xs) (lastBlock (blocksOf xs)) n) = numbering (blocksOf xs) (loaded-show g .good) .each n (c .0) (c .1) in
-      rw f (omega (arith, p .located .depth, loaded-show g .blocks), omega (arith, p .located .known, loaded-show g .blocks))
+      let c = cue-yes (blocks_of xs) n cues b q e k in
+      let p : IsPlace (blocks_of xs) n (place_in (blocks_of xs) (last_block (blocks_of xs)) n) = (numbering (blocks_of xs) (loaded-show g).good).each n c.0 c.1 in
+      rw f (omega (arith, p.located.depth, (loaded-show g).blocks), omega (arith, p.located.known, (loaded-show g).blocks))
 
-  pub locate-found : (r : Place) (d m : ℕ) (after : List ℕ) → b ≡ true → r ≡ placeOf n (placeIn (blocksOf xs) (lastBlock (blocksOf xs)) n)
-      → d ≡ r .depth → m ≡ r .block → after ≡ overwrite (placeIn (blocksOf xs) (lastBlock (blocksOf xs)) n .path) path
-      → outcome (ofLocate (Found d m (r .own))) after ≡ locateIn (blocksOf xs) n path
-  unfolding ofLocate locateIn located answer
+  pub locate-found : (r : Place) (d m : ℕ) (after : List ℕ) → b ≡ true → r ≡ place_of n (place_in (blocks_of xs) (last_block (blocks_of xs)) n)
+      → d ≡ r.depth → m ≡ r.block → after ≡ overwrite (place_in (blocks_of xs) (last_block (blocks_of xs)) n).path path
+      → outcome (of_locate (Found d m r.own)) after ≡ locate_in (blocks_of xs) n path
+  unfolding of_locate locate_in located answer
   locate-found r d m after k f ed em a =
-      let c = cue-yes (blocksOf xs) n cues b q e k in
-      rw (ed, em, f, a) (sym (has-room maxDepth path _ room ∙ has-cue (blocksOf xs) n path _ (c .0) (c .1)))
+      let c = cue-yes (blocks_of xs) n cues b q e k in
+      rw (ed, em, f, a) (sym (has_room max_depth path _ room ∙ has-cue (blocks_of xs) n path _ c.0 c.1))
 
 -- Numbering: n is what was found.
-pub number-none : (n m : ℕ) → n ≡ m → n ≡ 0 → ofNumber (NumberRefused (record { number = 13; place = 0 })) ≡ numbered m
-unfolding ofNumber numbered refusal
-number-none n m q e = sym (eq-then _ _ _ _ (sym q ∙ e))
+pub number-none : (n m : ℕ) → n ≡ m → n ≡ 0 → of_number (NumberRefused (record { number = 13; place = 0 })) ≡ numbered m
+unfolding of_number numbered refusal
+number-none n m q e = sym (eq_then _ _ _ _ (sym q ∙ e))
 
-pub number-some : (n m : ℕ) → n ≡ m → (n ≡ 0 → ⊥) → ofNumber (Number n) ≡ numbered m
-unfolding ofNumber numbered
-number-some n m q e = rw (← q) (sym (eq-else _ _ _ _ e))
+pub number-some : (n m : ℕ) → n ≡ m → (n ≡ 0 → ⊥) → of_number (Number n) ≡ numbered m
+unfolding of_number numbered
+number-some n m q e = rw (← q) (sym (eq_else _ _ _ _ e))
 
 -- Writing.
 abbrev text : List ℕ → List ℕ
-text xs = fileText (rowsFrom xs 0 (length xs / rowSize))
+text xs = file_text (rows_from xs 0 (length xs / row_size))
 
-same-text : (xs : List ℕ) → text xs ≡ fileText (rowsOf xs)
-unfolding rowsOf rowCount
-same-text xs = refl
+same_text : (xs : List ℕ) → text xs ≡ file_text (rows_of xs)
+unfolding rows_of row_count
+same_text xs = refl
 
-pub rows-few : (xs : List ℕ) → verdict xs ≡ Accepted → (length xs / rowSize * rowSize ≤ length xs) × (length xs / rowSize ≤ maxRows)
-unfolding rowCount
-rows-few xs v = let s = accepted-show xs v in (omega arith, s .rows .1)
+pub rows_few : (xs : List ℕ) → verdict xs ≡ Accepted → (length xs / row_size * row_size ≤ length xs) × (length xs / row_size ≤ max_rows)
+unfolding row_count
+rows_few xs v = let s = accepted-show xs v in (omega arith, s.rows.1)
 
-pub text-few : (xs : List ℕ) (n : ℕ) → verdict xs ≡ Accepted → n ≡ length (text xs) → n ≤ maxBytes
-text-few xs n v e = rw (e, same-text xs) (rows-fit xs v)
+pub text-few : (xs : List ℕ) (n : ℕ) → verdict xs ≡ Accepted → n ≡ length (text xs) → n ≤ max_bytes
+text-few xs n v e = rw (e, same_text xs) (rows_fit xs v)
 
 module _ (xs out : List ℕ) (n : ℕ) (e : n ≡ length (text xs)) where
-  pub write-room : length out < n → outcome (ofWrite (WriteRefused (record { number = 11; place = 0 }))) out ≡ writeInto (fileText (rowsOf xs)) out
-  unfolding ofWrite writeInto refuse refusal
-  write-room h = sym (no-room (length (fileText (rowsOf xs))) out _ (rw (e, same-text xs) at h))
+  pub write-room : length out < n → outcome (of_write (WriteRefused (record { number = 11; place = 0 }))) out ≡ write_into (file_text (rows_of xs)) out
+  unfolding of_write write_into refuse refusal
+  write-room h = sym (no_room (length (file_text (rows_of xs))) out _ (rw (e, same_text xs) at h))
 
-  pub write-done : (m : ℕ) (after : List ℕ) → m ≡ n → n ≤ length out → after ≡ overwrite (text xs) out
-      → outcome (ofWrite (Written m)) after ≡ writeInto (fileText (rowsOf xs)) out
-  unfolding ofWrite writeInto answer
-  write-done m after em h a =
-      let q : n ≡ length (fileText (rowsOf xs)) = e ∙ ap length (same-text xs) in
-      rw (em, a, same-text xs, q) (sym (has-room (length (fileText (rowsOf xs))) out _ (rw q at h)))
+  pub write_done : (m : ℕ) (after : List ℕ) → m ≡ n → n ≤ length out → after ≡ overwrite (text xs) out
+      → outcome (of_write (Written m)) after ≡ write_into (file_text (rows_of xs)) out
+  unfolding of_write write_into answer
+  write_done m after em h a =
+      let q : n ≡ length (file_text (rows_of xs)) = e ∙ ap length (same_text xs) in
+      rw (em, a, same_text xs, q) (sym (has_room (length (file_text (rows_of xs))) out _ (rw q at h)))
 
 -- Reading.
 module _ (xs t : List ℕ) (g : Loaded xs t) (out : List ℕ) where
-  pub read-room : length out < length xs → outcome (ofRead (ReadRefused (record { number = 11; place = 0 }))) out ≡ readInto xs out
-  unfolding ofRead readInto refuse refusal
-  read-room h = sym (no-room (length xs) out _ h)
+  pub read-room : length out < length xs → outcome (of_read (ReadRefused (record { number = 11; place = 0 }))) out ≡ read_into xs out
+  unfolding of_read read_into refuse refusal
+  read-room h = sym (no_room (length xs) out _ h)
 
-  pub read-done : (many last blocks cues : ℕ) (after : List ℕ) → length xs ≤ length out → after ≡ overwrite xs out → many ≡ length xs / rowSize
-      → last ≡ lastBlock (blocksOf xs) → blocks ≡ last + 1 → cues ≡ count (blocksOf xs)
-      → outcome (ofRead (Read many blocks cues)) after ≡ readInto xs out
-  unfolding ofRead readInto answer rowCount lastBlock
-  read-done many last blocks cues after h a em el eb ec =
-      let n : blocks ≡ length (blocksOf xs) = omega (arith, el, eb, loaded-show g .blocks) in
-      rw (em, n, ec, a) (sym (has-room (length xs) out _ h))
+  pub read_done : (many last blocks cues : ℕ) (after : List ℕ) → length xs ≤ length out → after ≡ overwrite xs out → many ≡ length xs / row_size
+      → last ≡ last_block (blocks_of xs) → blocks ≡ last + 1 → cues ≡ count (blocks_of xs)
+      → outcome (of_read (Read many blocks cues)) after ≡ read_into xs out
+  unfolding of_read read_into answer row_count last_block
+  read_done many last blocks cues after h a em el eb ec =
+      let n : blocks ≡ length (blocks_of xs) = omega (arith, el, eb, (loaded-show g).blocks) in
+      rw (em, n, ec, a) (sym (has_room (length xs) out _ h))

@@ -2,53 +2,45 @@
 // a loaded show.
 //
 // `read_in`, `write_rows`, `locate_in`, `number_in`, `list_of`, `row_in`, `fewest_in`, `quickest_in`.
+#![tactic(auto)]
+
+ghost use Rattle.std.specs.Prelude.{◌≡◌, ◌≤◌, ◌<◌, length};
+ghost use Rattle.model.specs.Limits.{max_depth, work_size};
+ghost use Rattle.model.specs.Answers.{of_read, of_write, of_locate, of_number, of_list, of_row, of_fewest, of_quickest};
+ghost use Rattle.model.specs.Rows.{rows_of, file_text};
+ghost use Rattle.model.specs.Verdicts.{verdict};
+ghost use Rattle.model.specs.declared.Verdict.TheVariants.{Accepted};
+ghost use Rattle.model.specs.Blocks.{blocks_of};
+ghost use Rattle.model.specs.Rules.{is_cue};
+ghost use Rattle.model.specs.Behind.{behind};
+ghost use Rattle.model.specs.Questions.{outcome, read_into, write_into, locate_in, numbered, show_number, row_found, row_in, fewest_in, quickest_under, quickest_in};
+ghost use Rattle.model.specs.Waits.{WaitTable, wait_file};
+ghost use Rattle.shows.specs.Waits.{AreWaits};
+ghost use Rattle.blocks.specs.Loaded.{Loaded};
+ghost use Rattle.behind.specs.Ways.{RowBehind};
+ghost use Rattle.answers.specs.Asked.{list_of, are_cues, ShowCue, between};
+
 use behind::RowAt;
 use blocks::INDEX;
-use model::FewestAnswer;
-use model::ListAnswer;
-use model::LocateAnswer;
-use model::NumberAnswer;
-use model::QuickestAnswer;
-use model::ReadAnswer;
-use model::Refusal;
-use model::RowAnswer;
-use model::WriteAnswer;
-use model::limits::MAX_DEPTH;
-use model::limits::NO_CHAIN;
-use model::limits::ROW_SIZE;
-use model::limits::WORK_SIZE;
+use model::limits::{MAX_DEPTH, NO_CHAIN, ROW_SIZE, WORK_SIZE};
+use model::{
+    FewestAnswer, ListAnswer, LocateAnswer, NumberAnswer, QuickestAnswer, ReadAnswer, Refusal,
+    RowAnswer, WriteAnswer,
+};
 use quickest::NO_SUM;
-use waits::WAITS;
-use waits::WaitsRead;
-ghost use mathlib.Core.Path.{_≡_};
-ghost use Prim.Native.Nat.{_≤_, _<_};
-ghost use lib.ListN.{length};
-ghost use Rattle·model.specs.Limits.{maxDepth, workSize};
-ghost use Rattle·model.specs.Answers.{ofRead, ofWrite, ofLocate, ofNumber, ofList, ofRow, ofFewest, ofQuickest};
-ghost use Rattle·model.specs.Rows.{rowsOf, fileText};
-ghost use Rattle·model.specs.Verdicts.{verdict};
-ghost use Rattle·model.specs.declared.Verdict.the-variants.{Accepted};
-ghost use Rattle·model.specs.Blocks.{blocksOf};
-ghost use Rattle·model.specs.Rules.{isCue};
-ghost use Rattle·model.specs.Behind.{behind};
-ghost use Rattle·model.specs.Questions.{outcome, readInto, writeInto, locateIn, numbered, showNumber, rowFound, rowIn, fewestIn, quickestUnder, quickestIn};
-ghost use Rattle·model.specs.Waits.{WaitTable, waitFile};
-ghost use Rattle·shows.specs.Waits.{AreWaits};
-ghost use Rattle·blocks.specs.Loaded.{Loaded};
-ghost use Rattle·behind.specs.Ways.{RowBehind};
-ghost use Rattle·answers·specs.specs.Asked.{listOf, areCues, ShowCue, between};
+use waits::{WAITS, WaitsRead};
 
 // A place of the show in 32 bits.
 fn narrow(x: usize) -> u32
-    requires { ⌜ x < 4294967296 ⌝ }
-    ensures { λ r. ⌜ r ≡ x ⌝ }
+    requires { x < 4294967296 }
+    ensures { result ≡ x }
 {
     x as u32
 }
 
 // v is a cue of a show that has so many.
 fn is_cue(cues: u32, v: u32) -> bool
-    ensures { λ r. ⌜ r ≡ isCue cues v ⌝ }
+    ensures { result ≡ is_cue cues v }
 {
     if v < 1 {
         return false;
@@ -61,7 +53,7 @@ fn is_cue(cues: u32, v: u32) -> bool
 
 // s and t are cues of a show that has so many.
 fn are_cues(cues: u32, s: u32, t: u32) -> bool
-    ensures { λ r. ⌜ r ≡ areCues cues s t ⌝ }
+    ensures { result ≡ are_cues cues s t }
 {
     let starts = is_cue(cues, s);
     if !starts {
@@ -72,8 +64,8 @@ fn are_cues(cues: u32, s: u32, t: u32) -> bool
 
 // Cue n of a loaded show.
 pub fn locate_in(rows: &[u32], table: &[u32; INDEX], n: u32, path: &mut [u32]) -> LocateAnswer
-    requires { ⌜ Loaded (now rows) (now table) ⌝ }
-    ensures { λ r. ⌜ outcome (ofLocate r) (now (path .exit)) ≡ locateIn (blocksOf (now (rows .entry))) n (now (path .entry)) ⌝ }
+    requires { Loaded rows.now table.now }
+    ensures { outcome (of_locate result) path.new ≡ locate_in (blocks_of rows.now) n path.old }
 {
     if path.len() < MAX_DEPTH {
         return LocateAnswer::Refused(Refusal {
@@ -94,8 +86,8 @@ pub fn locate_in(rows: &[u32], table: &[u32; INDEX], n: u32, path: &mut [u32]) -
 
 // The number of a path and an own cue of a loaded show.
 pub fn number_in(rows: &[u32], table: &[u32; INDEX], path: &[u32], own: u32) -> NumberAnswer
-    requires { ⌜ Loaded (now rows) (now table) ⌝ }
-    ensures { λ r. ⌜ ofNumber r ≡ numbered (showNumber (blocksOf (now (rows .entry))) (now (path .entry)) own) ⌝ }
+    requires { Loaded rows.now table.now }
+    ensures { of_number result ≡ numbered (show_number (blocks_of rows.now) path.now own) }
 {
     let n = paths::number(rows, table, path, own);
     if n == 0 {
@@ -109,8 +101,8 @@ pub fn number_in(rows: &[u32], table: &[u32; INDEX], path: &[u32], own: u32) -> 
 
 // The rows of a loaded show, handed out.
 pub fn read_in(numbers: &[u32], table: &[u32; INDEX], rows: &mut [u32]) -> ReadAnswer
-    requires { ⌜ Loaded (now numbers) (now table) ⌝ }
-    ensures { λ r. ⌜ outcome (ofRead r) (now (rows .exit)) ≡ readInto (now (numbers .entry)) (now (rows .entry)) ⌝ }
+    requires { Loaded numbers.now table.now }
+    ensures { outcome (of_read result) rows.new ≡ read_into numbers.now rows.old }
 {
     if rows.len() < numbers.len() {
         return ReadAnswer::Refused(Refusal {
@@ -126,8 +118,8 @@ pub fn read_in(numbers: &[u32], table: &[u32; INDEX], rows: &mut [u32]) -> ReadA
 
 // Accepted rows written as a file.
 pub fn write_rows(rows: &[u32], out: &mut [u8]) -> WriteAnswer
-    requires { ⌜ verdict (now rows) ≡ Accepted ⌝ }
-    ensures { λ r. ⌜ outcome (ofWrite r) (now (out .exit)) ≡ writeInto (fileText (rowsOf (now (rows .entry)))) (now (out .entry)) ⌝ }
+    requires { verdict rows.now ≡ Accepted }
+    ensures { outcome (of_write result) out.new ≡ write_into (file_text (rows_of rows.now)) out.old }
 {
     let many = rows.len() / ROW_SIZE;
     let size = codec::measure(rows, many);
@@ -150,8 +142,8 @@ pub fn list_of(
     n: u32,
     page: &mut [u32],
 ) -> ListAnswer
-    requires { ⌜ Loaded (now rows) (now table) ⌝ }
-    ensures { λ r. ⌜ outcome (ofList r) (now (page .exit)) ≡ listOf inward (blocksOf (now (rows .entry))) v n (now (page .entry)) ⌝ }
+    requires { Loaded rows.now table.now }
+    ensures { outcome (of_list result) page.new ≡ list_of inward (blocks_of rows.now) v n page.old }
 {
     let known = is_cue(blocks::count(rows, table), v);
     if !known {
@@ -175,8 +167,8 @@ fn behind_of(
     t: u32,
     way: &mut [u32; MAX_DEPTH],
 ) -> RowAt
-    requires { ⌜ Loaded (now rows) (now table) × ShowCue (now rows) s × ShowCue (now rows) t ⌝ }
-    ensures { λ r. ⌜ RowBehind (now (rows .entry)) (now (table .entry)) (now (way .exit)) s t r × (length (now (way .exit)) ≡ maxDepth) ⌝ }
+    requires { Loaded rows.now table.now × ShowCue rows.now s × ShowCue rows.now t }
+    ensures { RowBehind rows.now table.now way.new s t result × (length way.new ≡ max_depth) }
 {
     if s < t {
         let place = paths::find(rows, table, t, way);
@@ -188,8 +180,8 @@ fn behind_of(
 
 // The answer about that row. The path of its copy goes to the beginning of the lent list, which is long enough.
 fn row_behind(rows: &[u32], table: &[u32; INDEX], s: u32, t: u32, path: &mut [u32]) -> RowAnswer
-    requires { ⌜ Loaded (now rows) (now table) × ShowCue (now rows) s × ShowCue (now rows) t × (maxDepth ≤ length (now path)) ⌝ }
-    ensures { λ r. ⌜ outcome (ofRow r) (now (path .exit)) ≡ rowFound (behind (now (rows .entry)) s t) (now (path .entry)) ⌝ }
+    requires { Loaded rows.now table.now × ShowCue rows.now s × ShowCue rows.now t × (max_depth ≤ length path.old) }
+    ensures { outcome (of_row result) path.new ≡ row_found (behind rows.now s t) path.old }
 {
     let mut way = [0u32; MAX_DEPTH];
     let at = behind_of(rows, table, s, t, &mut way);
@@ -207,8 +199,8 @@ fn row_behind(rows: &[u32], table: &[u32; INDEX], s: u32, t: u32, path: &mut [u3
 
 // The row behind the follow-on from cue s to cue t of a loaded show.
 pub fn row_in(rows: &[u32], table: &[u32; INDEX], s: u32, t: u32, path: &mut [u32]) -> RowAnswer
-    requires { ⌜ Loaded (now rows) (now table) ⌝ }
-    ensures { λ r. ⌜ outcome (ofRow r) (now (path .exit)) ≡ rowIn (now (rows .entry)) s t (now (path .entry)) ⌝ }
+    requires { Loaded rows.now table.now }
+    ensures { outcome (of_row result) path.new ≡ row_in rows.now s t path.old }
 {
     let room = path.len();
     if room < MAX_DEPTH {
@@ -229,8 +221,8 @@ pub fn row_in(rows: &[u32], table: &[u32; INDEX], s: u32, t: u32, path: &mut [u3
 
 // The fewest follow-ons between two cues of a loaded show. The work area is large enough.
 fn least(rows: &[u32], table: &[u32; INDEX], s: u32, t: u32, work: &mut [u32]) -> FewestAnswer
-    requires { ⌜ Loaded (now rows) (now table) × ShowCue (now rows) s × ShowCue (now rows) t × (workSize ≤ length (now work)) ⌝ }
-    ensures { λ r. ⌜ outcome (ofFewest r) (now (work .exit)) ≡ between (blocksOf (now (rows .entry))) s t (now (work .entry)) ⌝ }
+    requires { Loaded rows.now table.now × ShowCue rows.now s × ShowCue rows.now t × (work_size ≤ length work.old) }
+    ensures { outcome (of_fewest result) work.new ≡ between (blocks_of rows.now) s t work.old }
 {
     let mut up = [0u32; MAX_DEPTH];
     let from = paths::find(rows, table, s, &mut up);
@@ -252,8 +244,8 @@ pub fn fewest_in(
     t: u32,
     work: &mut [u32],
 ) -> FewestAnswer
-    requires { ⌜ Loaded (now rows) (now table) ⌝ }
-    ensures { λ r. ⌜ outcome (ofFewest r) (now (work .exit)) ≡ fewestIn (blocksOf (now (rows .entry))) s t (now (work .entry)) ⌝ }
+    requires { Loaded rows.now table.now }
+    ensures { outcome (of_fewest result) work.new ≡ fewest_in (blocks_of rows.now) s t work.old }
 {
     if work.len() < WORK_SIZE {
         return FewestAnswer::Refused(Refusal {
@@ -280,10 +272,10 @@ fn quickest_with(
     waits: &[u32],
     work: &mut [u64],
 ) -> QuickestAnswer
-    requires { ⌜ Loaded (now rows) (now table) × ShowCue (now rows) s × ShowCue (now rows) t × AreWaits (now waits)
-        × (workSize ≤ length (now work)) ⌝ }
-    ensures { λ r. ⌜ outcome (ofQuickest r) (now (work .exit))
-        ≡ quickestUnder (WaitTable (now (waits .entry))) (blocksOf (now (rows .entry))) s t (now (work .entry)) ⌝ }
+    requires { Loaded rows.now table.now × ShowCue rows.now s × ShowCue rows.now t × AreWaits waits.now
+        × (work_size ≤ length work.old) }
+    ensures { outcome (of_quickest result) work.new
+        ≡ quickest_under (WaitTable waits.now) (blocks_of rows.now) s t work.old }
 {
     let mut way_up = [0u32; MAX_DEPTH];
     let from = paths::find(rows, table, s, &mut way_up);
@@ -305,9 +297,9 @@ fn quickest_under(
     file: &[u8],
     work: &mut [u64],
 ) -> QuickestAnswer
-    requires { ⌜ Loaded (now rows) (now table) × ShowCue (now rows) s × ShowCue (now rows) t × (workSize ≤ length (now work)) ⌝ }
-    ensures { λ r. ⌜ outcome (ofQuickest r) (now (work .exit))
-        ≡ quickestUnder (waitFile (now (file .entry))) (blocksOf (now (rows .entry))) s t (now (work .entry)) ⌝ }
+    requires { Loaded rows.now table.now × ShowCue rows.now s × ShowCue rows.now t × (work_size ≤ length work.old) }
+    ensures { outcome (of_quickest result) work.new
+        ≡ quickest_under (wait_file file.now) (blocks_of rows.now) s t work.old }
 {
     let mut waits = [0u32; WAITS];
     match waits::read(file, &mut waits) {
@@ -325,9 +317,9 @@ pub fn quickest_in(
     file: &[u8],
     work: &mut [u64],
 ) -> QuickestAnswer
-    requires { ⌜ Loaded (now rows) (now table) ⌝ }
-    ensures { λ r. ⌜ outcome (ofQuickest r) (now (work .exit))
-        ≡ quickestIn (blocksOf (now (rows .entry))) s t (now (file .entry)) (now (work .entry)) ⌝ }
+    requires { Loaded rows.now table.now }
+    ensures { outcome (of_quickest result) work.new
+        ≡ quickest_in (blocks_of rows.now) s t file.now work.old }
 {
     let room = work.len();
     if room < WORK_SIZE {

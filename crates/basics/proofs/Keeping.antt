@@ -1,54 +1,55 @@
 -- What a test keeps of some numbers, and of those of a range.
-use Prim.Native.Nat.{ℕ, zero, suc, _+_, _≤_, _<_}
+use Prim.Native.Nat.{ℕ, zero, suc, ◌+◌, ◌≤◌, ◌<◌}
 use native.Mathlib.Omega.{arith}
-use mathlib.Core.Path.{_≡_, refl, sym, _∙_, ap, ap₂}
-use mathlib.Core.Logic.{_↔_, _⊎_, inl, inr}
+use mathlib.Core.Path.{◌≡◌, refl, sym, ◌∙◌, ap, ap₂}
+use mathlib.Core.Logic.{◌↔◌, ◌⊎◌, inl, inr}
 use mathlib.Core.Bool.{Bool, true, false}
-use mathlib.Core.List.{List, [], _∷_, _++_, List·Memᴰ, List·Memᴰ·head, List·Memᴰ·tail, List·Memᴰ·cases-cons, List·Memᴰ·not-nil}
+use mathlib.Core.List.Memᴰ
+use mathlib.Core.List.{List, [], ◌∷◌, ◌++◌, Memᴰ}
 use lib.ListN.{length}
-use Rattle·model.specs.Choice.{ifTrue}
-use Rattle·model.specs.Lists.{range, keep}
+use Rattle.model.specs.Choice.{if_true}
+use Rattle.model.specs.Lists.{range, keep}
 
 module _ (test : ℕ → Bool) where
   -- A number that passes, and one that does not.
   pub keep-yes : (x : ℕ) (xs : List ℕ) → test x ≡ true → keep test (x ∷ xs) ≡ x ∷ keep test xs
-  unfolding keep ifTrue
+  unfolding keep if_true
   keep-yes x xs e = rw e
 
   pub keep-no : (x : ℕ) (xs : List ℕ) → test x ≡ false → keep test (x ∷ xs) ≡ keep test xs
-  unfolding keep ifTrue
+  unfolding keep if_true
   keep-no x xs e = rw e
 
   -- What passes is kept, and what is kept was there and passes.
-  pub kept : (xs : List ℕ) (t : ℕ) → List·Memᴰ t (keep test xs) ↔ (List·Memᴰ t xs × (test t ≡ true))
+  pub kept : (xs : List ℕ) (t : ℕ) → Memᴰ t (keep test xs) ↔ (Memᴰ t xs × (test t ≡ true))
   unfolding keep
-  kept [] t = (λ i. absurd (List·Memᴰ·not-nil i), λ p. p .0)
+  kept [] t = (λ i. absurd (Memᴰ.not-nil i), λ p. p.0)
   kept (x ∷ xs) t = go (kept xs t) (test x) refl
     where
-      tail : List·Memᴰ t xs × (test t ≡ true) → List·Memᴰ t (x ∷ xs) × (test t ≡ true)
-      tail (i, h) = (List·Memᴰ·tail i, h)
+      tail : Memᴰ t xs × (test t ≡ true) → Memᴰ t (x ∷ xs) × (test t ≡ true)
+      tail (i, h) = (Memᴰ.tail i, h)
 
-      go : List·Memᴰ t (keep test xs) ↔ (List·Memᴰ t xs × (test t ≡ true)) → (b : Bool) → test x ≡ b
-          → List·Memᴰ t (keep test (x ∷ xs)) ↔ (List·Memᴰ t (x ∷ xs) × (test t ≡ true))
-      go below true e = rw (keep-yes x xs e) (λ i. to (List·Memᴰ·cases-cons i), λ p. from (p .1) (List·Memᴰ·cases-cons (p .0)))
+      go : Memᴰ t (keep test xs) ↔ (Memᴰ t xs × (test t ≡ true)) → (b : Bool) → test x ≡ b
+          → Memᴰ t (keep test (x ∷ xs)) ↔ (Memᴰ t (x ∷ xs) × (test t ≡ true))
+      go below true e = rw (keep-yes x xs e) (λ i. to (Memᴰ.cases_cons i), λ p. from p.1 (Memᴰ.cases_cons p.0))
         where
-          to : (t ≡ x) ⊎ List·Memᴰ t (keep test xs) → List·Memᴰ t (x ∷ xs) × (test t ≡ true)
-          to (inl p) = (List·Memᴰ·head p, ap test p ∙ e)
-          to (inr j) = tail (below .0 j)
+          to : (t ≡ x) ⊎ Memᴰ t (keep test xs) → Memᴰ t (x ∷ xs) × (test t ≡ true)
+          to (inl p) = (Memᴰ.head p, ap test p ∙ e)
+          to (inr j) = tail (below.0 j)
 
-          from : test t ≡ true → (t ≡ x) ⊎ List·Memᴰ t xs → List·Memᴰ t (x ∷ keep test xs)
-          from h (inl p) = List·Memᴰ·head p
-          from h (inr j) = List·Memᴰ·tail (below .1 (j, h))
-      go below false e = rw (keep-no x xs e) (λ i. tail (below .0 i), λ p. from (p .1) (List·Memᴰ·cases-cons (p .0)))
+          from : test t ≡ true → (t ≡ x) ⊎ Memᴰ t xs → Memᴰ t (x ∷ keep test xs)
+          from h (inl p) = Memᴰ.head p
+          from h (inr j) = Memᴰ.tail (below.1 (j, h))
+      go below false e = rw (keep-no x xs e) (λ i. tail (below.0 i), λ p. from p.1 (Memᴰ.cases_cons p.0))
         where
-          from : test t ≡ true → (t ≡ x) ⊎ List·Memᴰ t xs → List·Memᴰ t (keep test xs)
-          from h (inl p) = absurd (let z : _≡_ {A = ℕ} 0 1 = cc (sym h ∙ ap test p ∙ e) in omega arith)
-          from h (inr j) = below .1 (j, h)
+          from : test t ≡ true → (t ≡ x) ⊎ Memᴰ t xs → Memᴰ t (keep test xs)
+          from h (inl p) = absurd (let z : ◌≡◌ {A = ℕ} 0 1 = cc (sym h ∙ ap test p ∙ e) in omega arith)
+          from h (inr j) = below.1 (j, h)
 
-  pub keep-append : (xs ys : List ℕ) → keep test (xs ++ ys) ≡ keep test xs ++ keep test ys
+  pub keep_append : (xs ys : List ℕ) → keep test (xs ++ ys) ≡ keep test xs ++ keep test ys
   unfolding keep
-  keep-append [] ys = refl
-  keep-append (x ∷ xs) ys = go (keep-append xs ys) (test x) refl
+  keep_append [] ys = refl
+  keep_append (x ∷ xs) ys = go (keep_append xs ys) (test x) refl
     where
       go : keep test (xs ++ ys) ≡ keep test xs ++ keep test ys → (b : Bool) → test x ≡ b → keep test ((x ∷ xs) ++ ys) ≡ keep test (x ∷ xs) ++ keep test ys
       go below true e = keep-yes x (xs ++ ys) e ∙ ap (λ zs. x ∷ zs) below ∙ sym (ap (λ zs. zs ++ keep test ys) (keep-yes x xs e))
@@ -61,7 +62,7 @@ module _ (test : ℕ → Bool) where
 
   -- How long it is at most.
   pub keep-short : (xs : List ℕ) → length (keep test xs) ≤ length xs
-  unfolding keep ifTrue
+  unfolding keep if_true
   keep-short [] = omega arith
   keep-short (x ∷ xs) = go (keep-short xs) (test x) refl
     where
@@ -69,10 +70,10 @@ module _ (test : ℕ → Bool) where
       go h true e = rw (e, keep) (omega arith)
       go h false e = rw (e, keep) (omega arith)
 
-pub keep-same : (f g : ℕ → Bool) (a many : ℕ) → ((u : ℕ) → a ≤ u → u < a + many → f u ≡ g u) → keep f (range a many) ≡ keep g (range a many)
+pub keep_same : (f g : ℕ → Bool) (a many : ℕ) → ((u : ℕ) → a ≤ u → u < a + many → f u ≡ g u) → keep f (range a many) ≡ keep g (range a many)
 unfolding keep range
-keep-same f g a zero h = refl
-keep-same f g a (suc many) h = ap₂ (λ t zs. ifTrue t (a ∷ zs) zs) (h a (omega arith) (omega arith)) (keep-same f g (suc a) many (λ u x y. h u (omega arith) (omega arith)))
+keep_same f g a zero h = refl
+keep_same f g a (suc many) h = ap₂ (λ t zs. if_true t (a ∷ zs) zs) (h a (omega arith) (omega arith)) (keep_same f g (suc a) many (λ u x y. h u (omega arith) (omega arith)))
 
 pub range-append : (a m n : ℕ) → range a (m + n) ≡ range a m ++ range (a + m) n
 unfolding range

@@ -1,1 +1,2 @@
 // Laws of lists, choices and values in a text; no code.
+#![tactic(auto)]

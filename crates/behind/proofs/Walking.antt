@@ -1,79 +1,79 @@
 -- The walk from copy to copy: where it ends, the copy's own row is the best one; else it goes on into the part that the lead leads to.
-use Prim.Native.Nat.{ℕ, zero, suc, _+_, _-_, _≤_, _<_}
+use Prim.Native.Nat.{ℕ, zero, suc, ◌+◌, ◌-◌, ◌≤◌, ◌<◌}
 use native.Mathlib.Omega.{arith}
-use native.Mathlib.Decide.{ℕ-discrete}
+use native.Mathlib.Decide.{ℕ_discrete}
 use native.Mathlib.Numerals.{add-one}
-use mathlib.Core.Path.{_≡_, refl, sym, _∙_, ap, ap₂}
-use mathlib.Core.Logic.{_≢_, _⊎_, inl, inr}
+use mathlib.Core.Path.{◌≡◌, refl, sym, ◌∙◌, ap, ap₂}
+use mathlib.Core.Logic.{◌≢◌, ◌⊎◌, inl, inr}
 use mathlib.Core.Bool.{Bool, true, false, false≢true}
-use mathlib.Core.List.{List, [], _∷_, _++_, List·Memᴰ, List·Memᴰ·head, List·Memᴰ·tail}
-use lib.ListN.{length, getD, set, length-set, length-append, List·getD-append}
-use lib.Seq.{getD-append-seam, getD-set-same, getD-set-other}
-use Rattle·model.specs.Choice.{ifEq}
-use Rattle·model.specs.Limits.{maxBlocks, maxRows, maxDepth}
-use Rattle·model.specs.Blocks.{Link, Block, blockAt, ownOf, blocksOf}
-use Rattle·model.specs.Behind.{Origin, stepInto, rowsTraced, traced, openingRow, origins, depthWins, Behind, Stands, Missing, winner, best, behind}
-use Rattle·basics.proofs.Choices.{eq-then, eq-else, true-then, true-else}
-use Rattle·shows.specs.WellFormed.{Cue, GoodLink}
-use Rattle·shows.specs.Copies.{Part, Copy, number, meets, copyOf, Sound}
-use Rattle·shows.specs.Origins.{into, intoAll, own-row}
-use Rattle·shows.proofs.BlockAt.{ownOf-at, joinsOf-at}
-use Rattle·shows.proofs.Locality.{part-sound}
-use Rattle·shows.proofs.Choosing.{winner-none, best-append, depth-step, own-first, own-second, own-rows}
-use Rattle·shows.proofs.Origins.{copy-origins, own-origins, parts-origins}
-use Rattle·verdicts.specs.Index.{useAt, linksFrom}
-use Rattle·blocks.specs.Loaded.{Loaded, IsBlock, LinkRows, usesBegin, UseRow}
-use Rattle·blocks.proofs.Loaded.{loaded-show}
-use Rattle·blocks.specs.Places.{blockOn, Takes}
-use Rattle·copies.specs.Copies.{innerBase}
-use Rattle·levels.specs.Tables.{joinCue, usedJoins}
-use Rattle·levels.proofs.Best.{here, own-next, join-meets}
-use Rattle·levels.proofs.Deep.{level-small}
-use Rattle·behind·specs.specs.declared.Pair.{Pair}
-use Rattle·behind·specs.specs.declared.Lead.{Lead}
-use Rattle·behind·specs.specs.declared.RowAt.{RowAt}
-use Rattle·behind·specs.specs.Leads.{rowBetween, staysHere, stepOf, MayLead, Led, partBest, ledTo, BestLead, MayFollow, Followed}
-use Rattle·behind·specs.specs.Ways.{Leading, Reaches, RowBehind, MayWalk}
-use Rattle·behind·proofs.proofs.Trying.{level-some, row-part, uses-use, led-level, led-none, led-some}
+use mathlib.Core.List.{List, [], ◌∷◌, ◌++◌, Memᴰ}
+use lib.ListN.{length, get_or, set, length-set, length-append, get_or-append}
+use lib.Seq.{get_or-append_seam, get_or-set_same, get_or-set_other}
+use Rattle.model.specs.Choice.{if_eq}
+use Rattle.model.specs.Limits.{max_blocks, max_rows, max_depth}
+use Rattle.model.specs.Blocks.{Link, Block, block_at, own_of, blocks_of}
+use Rattle.model.specs.Behind.{Origin, step_into, rows_traced, traced, opening_row, origins, depth_wins, Behind, Stands, Missing, winner, best, behind}
+use Rattle.basics.proofs.Choices.{eq_then, eq_else, true_then, true_else}
+use Rattle.shows.specs.WellFormed.{Cue, GoodLink}
+use Rattle.shows.specs.Copies.{Part, Copy, number, meets, copy_of, Sound}
+use Rattle.shows.specs.Origins.{into, into_all, own_row}
+use Rattle.shows.proofs.BlockAt.{own_of_at, joins_of-at}
+use Rattle.shows.proofs.Locality.{part_sound}
+use Rattle.shows.proofs.Choosing.{winner-none, best-append, depth-step, own_first, own-second, own-rows}
+use Rattle.shows.proofs.Origins.{copy-origins, own-origins, parts-origins}
+use Rattle.verdicts.specs.Index.{use_at, links_from}
+use Rattle.blocks.specs.Loaded.{Loaded, IsBlock, LinkRows, uses_begin, UseRow}
+use Rattle.blocks.proofs.Loaded.{loaded-show}
+use Rattle.blocks.specs.Places.{block_on, Takes}
+use Rattle.copies.specs.Copies.{inner_base}
+use Rattle.levels.specs.Tables.{join_cue, used_joins}
+use Rattle.levels.proofs.Best.{here, own-next, join_meets}
+use Rattle.levels.proofs.Deep.{level-small}
+use Rattle.behind.specs.declared.Pair.{Pair}
+use Rattle.behind.specs.declared.Lead.{Lead}
+use Rattle.behind.specs.declared.RowAt.{RowAt}
+use Rattle.behind.specs.Leads.{row_between, stays_here, step_of, MayLead, Led, part_best, led_to, BestLead, MayFollow, Followed}
+use Rattle.behind.specs.Ways.{Leading, Reaches, RowBehind, MayWalk}
+use Rattle.behind.proofs.Trying.{level-some, row-part, uses-use, led-level, led-none, led-some}
 
 -- A path in front of what a copy has.
-pub intoAll-none : (path : List ℕ) → intoAll path Missing ≡ Missing
-unfolding intoAll into
-intoAll-none [] = refl
-intoAll-none (p ∷ path) = ap (into p) (intoAll-none path)
+pub into_all-none : (path : List ℕ) → into_all path Missing ≡ Missing
+unfolding into_all into
+into_all-none [] = refl
+into_all-none (p ∷ path) = ap (into p) (into_all-none path)
 
-intoAll-row : (path : List ℕ) (r : ℕ) → intoAll path (own-row r) ≡ Stands (record { path = path; row = r })
-unfolding intoAll into stepInto
-intoAll-row [] r = refl
-intoAll-row (p ∷ path) r = ap (into p) (intoAll-row path r)
+into_all-row : (path : List ℕ) (r : ℕ) → into_all path (own_row r) ≡ Stands (record { path = path; row = r })
+unfolding into_all into step_into
+into_all-row [] r = refl
+into_all-row (p ∷ path) r = ap (into p) (into_all-row path r)
 
-pub intoAll-snoc : (path : List ℕ) (p : ℕ) (b : Behind) → intoAll (path ++ p ∷ []) b ≡ intoAll path (into p b)
-unfolding intoAll
-intoAll-snoc [] p b = refl
-intoAll-snoc (q ∷ path) p b = ap (into q) (intoAll-snoc path p b)
+pub into_all-snoc : (path : List ℕ) (p : ℕ) (b : Behind) → into_all (path ++ p ∷ []) b ≡ into_all path (into p b)
+unfolding into_all
+into_all-snoc [] p b = refl
+into_all-snoc (q ∷ path) p b = ap (into q) (into_all-snoc path p b)
 
 -- One row more that leads along one step more.
 module _ (xs : List ℕ) (rows : List ℕ) (d r : ℕ) where
-  block-kept : (l : ℕ) → l ≤ d → blockOn xs (set rows d r) l ≡ blockOn xs rows l
-  unfolding blockOn
+  block-kept : (l : ℕ) → l ≤ d → block_on xs (set rows d r) l ≡ block_on xs rows l
+  unfolding block_on
   block-kept zero h = refl
-  block-kept (suc l) h = ap (λ (i : ℕ). useAt xs (blocksOf xs) i .block) (getD-set-other rows d l r 0 (λ e. omega arith))
+  block-kept (suc l) h = ap (λ (i : ℕ). (use_at xs (blocks_of xs) i).block) (get_or-set_other rows d l r 0 (λ e. omega arith))
 
-  block-next : d < length rows → blockOn xs (set rows d r) (suc d) ≡ useAt xs (blocksOf xs) r .block
-  unfolding blockOn
-  block-next h = ap (λ (i : ℕ). useAt xs (blocksOf xs) i .block) (getD-set-same rows d r 0 h)
+  block-next : d < length rows → block_on xs (set rows d r) (suc d) ≡ (use_at xs (blocks_of xs) r).block
+  unfolding block_on
+  block-next h = ap (λ (i : ℕ). (use_at xs (blocks_of xs) i).block) (get_or-set_same rows d r 0 h)
 
 -- What holds at each of the first rows, and at the next, holds at each of one more.
-each-more : (P : ℕ → Type 0) (n : ℕ) → ((l : ℕ) → l < n → P l) → P n → (l : ℕ) → l < suc n → P l
-each-more P n before last l h = go (ℕ-discrete l n)
+each_more : (P : ℕ → Type 0) (n : ℕ) → ((l : ℕ) → l < n → P l) → P n → (l : ℕ) → l < suc n → P l
+each_more P n before last l h = go (ℕ_discrete l n)
   where
     go : Dec (l ≡ n) → P l
     go (yes e) = rw e last
     go (no m) = before l (omega arith)
 
 module _ {xs t rows path : List ℕ} (a : Leading xs t rows path) (p r : ℕ) (room : length path < length rows)
-    (u : UseRow xs (blockOn xs rows (length path)) r) (takes : Takes t (blockOn xs rows (length path)) p r)
-    (begin : usesBegin t (blockOn xs rows (length path)) ≤ r) where
+    (u : UseRow xs (block_on xs rows (length path)) r) (takes : Takes t (block_on xs rows (length path)) p r)
+    (begin : uses_begin t (block_on xs rows (length path)) ≤ r) where
   abbrev after : List ℕ
   after = set rows (length path) r
 
@@ -83,29 +83,29 @@ module _ {xs t rows path : List ℕ} (a : Leading xs t rows path) (p r : ℕ) (r
   long : length longer ≡ suc (length path)
   long = length-append path (p ∷ []) ∙ add-one (length path)
 
-  row-before : (l : ℕ) → l < length path → getD after l 0 ≡ getD rows l 0
-  row-before l h = getD-set-other rows (length path) l r 0 (λ e. omega arith)
+  row_before : (l : ℕ) → l < length path → get_or after l 0 ≡ get_or rows l 0
+  row_before l h = get_or-set_other rows (length path) l r 0 (λ e. omega arith)
 
-  row-last : getD after (length path) 0 ≡ r
-  row-last = getD-set-same rows (length path) r 0 room
+  row_last : get_or after (length path) 0 ≡ r
+  row_last = get_or-set_same rows (length path) r 0 room
 
-  uses-more : (l : ℕ) → l < suc (length path) → UseRow xs (blockOn xs after l) (getD after l 0)
+  uses-more : (l : ℕ) → l < suc (length path) → UseRow xs (block_on xs after l) (get_or after l 0)
   uses-more =
-      each-more (λ l. UseRow xs (blockOn xs after l) (getD after l 0)) (length path)
-      (λ l h. rw (block-kept xs rows (length path) r l (omega arith), row-before l h) (a .along .uses .at l h))
-      (rw (block-kept xs rows (length path) r (length path) (omega arith), row-last) u)
+      each_more (λ l. UseRow xs (block_on xs after l) (get_or after l 0)) (length path)
+      (λ l h. rw (block-kept xs rows (length path) r l (omega arith), row_before l h) (a.along.uses.at l h))
+      (rw (block-kept xs rows (length path) r (length path) (omega arith), row_last) u)
 
-  steps-more : (l : ℕ) → l < suc (length path) → Takes t (blockOn xs after l) (getD longer l 0) (getD after l 0)
+  steps-more : (l : ℕ) → l < suc (length path) → Takes t (block_on xs after l) (get_or longer l 0) (get_or after l 0)
   steps-more =
-      each-more (λ l. Takes t (blockOn xs after l) (getD longer l 0) (getD after l 0)) (length path)
-      (λ l h. rw (block-kept xs rows (length path) r l (omega arith), row-before l h, List·getD-append path (p ∷ []) 0 l h) (a .along .steps l h))
-      (rw (block-kept xs rows (length path) r (length path) (omega arith), row-last, getD-append-seam path p [] 0) takes)
+      each_more (λ l. Takes t (block_on xs after l) (get_or longer l 0) (get_or after l 0)) (length path)
+      (λ l h. rw (block-kept xs rows (length path) r l (omega arith), row_before l h, get_or-append path (p ∷ []) 0 l h) (a.along.steps l h))
+      (rw (block-kept xs rows (length path) r (length path) (omega arith), row_last, get_or-append_seam path p [] 0) takes)
 
-  begins-more : (l : ℕ) → l < suc (length path) → usesBegin t (blockOn xs after l) ≤ getD after l 0
+  begins-more : (l : ℕ) → l < suc (length path) → uses_begin t (block_on xs after l) ≤ get_or after l 0
   begins-more =
-      each-more (λ l. usesBegin t (blockOn xs after l) ≤ getD after l 0) (length path)
-      (λ l h. rw (block-kept xs rows (length path) r l (omega arith), row-before l h) (a .begin l h))
-      (rw (block-kept xs rows (length path) r (length path) (omega arith), row-last) begin)
+      each_more (λ l. uses_begin t (block_on xs after l) ≤ get_or after l 0) (length path)
+      (λ l h. rw (block-kept xs rows (length path) r l (omega arith), row_before l h) (a.begin l h))
+      (rw (block-kept xs rows (length path) r (length path) (omega arith), row_last) begin)
 
   leading-more : Leading xs t after longer
   leading-more =
@@ -119,277 +119,277 @@ module _ {xs t rows path : List ℕ} (a : Leading xs t rows path) (p r : ℕ) (r
       }
 
 -- The best of a copy's own rows is the first that leads from x to y.
-unfoldable ownBest : ℕ → Behind
-ownBest row = ifEq row 0 Missing (own-row row)
+unfoldable own_best : ℕ → Behind
+own_best row = if_eq row 0 Missing (own_row row)
 
-row-from : (x y r : ℕ) (ls : List Link) → (rowBetween x y r ls ≡ 0) ⊎ (r ≤ rowBetween x y r ls)
-unfolding rowBetween
-row-from x y r [] = inl refl
-row-from x y r (l ∷ ls) = go (row-from x y (suc r) ls) (ℕ-discrete (l .from) x) (ℕ-discrete (l .to) y)
+row_from_is : (x y r : ℕ) (ls : List Link) → (row_between x y r ls ≡ 0) ⊎ (r ≤ row_between x y r ls)
+unfolding row_between
+row_from_is x y r [] = inl refl
+row_from_is x y r (l ∷ ls) = go (row_from_is x y (suc r) ls) (ℕ_discrete l.from x) (ℕ_discrete l.to y)
   where
     rest : ℕ
-    rest = rowBetween x y (suc r) ls
+    rest = row_between x y (suc r) ls
 
     below : (rest ≡ 0) ⊎ (suc r ≤ rest) → (rest ≡ 0) ⊎ (r ≤ rest)
     below (inl e) = inl e
     below (inr h) = inr (omega arith)
 
-    go : (rest ≡ 0) ⊎ (suc r ≤ rest) → Dec (l .from ≡ x) → Dec (l .to ≡ y)
-        → (ifEq (l .from) x (ifEq (l .to) y r rest) rest ≡ 0) ⊎ (r ≤ ifEq (l .from) x (ifEq (l .to) y r rest) rest)
-    go h (yes a) (yes b) = rw (eq-then (l .from) x (ifEq (l .to) y r rest) rest a, eq-then (l .to) y r rest b) (inr (omega arith))
-    go h (yes a) (no b) = rw (eq-then (l .from) x (ifEq (l .to) y r rest) rest a, eq-else (l .to) y r rest b) (below h)
-    go h (no a) d = rw (eq-else (l .from) x (ifEq (l .to) y r rest) rest a) (below h)
+    go : (rest ≡ 0) ⊎ (suc r ≤ rest) → Dec (l.from ≡ x) → Dec (l.to ≡ y)
+        → (if_eq l.from x (if_eq l.to y r rest) rest ≡ 0) ⊎ (r ≤ if_eq l.from x (if_eq l.to y r rest) rest)
+    go h (yes a) (yes b) = rw (eq_then l.from x (if_eq l.to y r rest) rest a, eq_then l.to y r rest b) (inr (omega arith))
+    go h (yes a) (no b) = rw (eq_then l.from x (if_eq l.to y r rest) rest a, eq_else l.to y r rest b) (below h)
+    go h (no a) d = rw (eq_else l.from x (if_eq l.to y r rest) rest a) (below h)
 
-own-winner : (r q : ℕ) → (q ≡ 0) ⊎ (suc r ≤ q) → winner (own-row r) (ownBest q) ≡ own-row r
-unfolding ownBest
-own-winner r q (inl e) = ap (winner (own-row r)) (eq-then q 0 _ _ e) ∙ winner-none (own-row r)
-own-winner r q (inr h) = ap (winner (own-row r)) (eq-else q 0 _ _ (λ e. omega arith)) ∙ own-rows r q (omega arith)
+own-winner : (r q : ℕ) → (q ≡ 0) ⊎ (suc r ≤ q) → winner (own_row r) (own_best q) ≡ own_row r
+unfolding own_best
+own-winner r q (inl e) = ap (winner (own_row r)) (eq_then q 0 _ _ e) ∙ winner-none (own_row r)
+own-winner r q (inr h) = ap (winner (own_row r)) (eq_else q 0 _ _ (λ e. omega arith)) ∙ own-rows r q (omega arith)
 
-module _ (xs : List ℕ) (k base : ℕ) (met : List ℕ) (g : Sound (copyOf (blocksOf xs) k base met)) (x y : ℕ)
-    (cx : Cue (blockAt (blocksOf xs) k) x) (cy : Cue (blockAt (blocksOf xs) k) y) where
+module _ (xs : List ℕ) (k base : ℕ) (met : List ℕ) (g : Sound (copy_of (blocks_of xs) k base met)) (x y : ℕ)
+    (cx : Cue (block_at (blocks_of xs) k) x) (cy : Cue (block_at (blocks_of xs) k) y) where
   abbrev bs : List Block
-  bs = blocksOf xs
+  bs = blocks_of xs
 
   abbrev z : Copy
-  z = copyOf bs k base met
+  z = copy_of bs k base met
 
-  own-best : (r : ℕ) (ls : List Link) → 1 ≤ r → ((l : Link) → List·Memᴰ l ls → GoodLink (z .block) l)
-      → best (origins (number z x) (number z y) (rowsTraced (number z) r ls)) ≡ ownBest (rowBetween x y r ls)
-  unfolding rowsTraced origins best rowBetween ownBest here winner
-  own-best r [] h ok = sym (eq-then 0 0 _ _ refl)
+  own-best : (r : ℕ) (ls : List Link) → 1 ≤ r → ((l : Link) → Memᴰ l ls → GoodLink z.block l)
+      → best (origins (number z x) (number z y) (rows_traced (number z) r ls)) ≡ own_best (row_between x y r ls)
+  unfolding rows_traced origins best row_between own_best here winner
+  own-best r [] h ok = sym (eq_then 0 0 _ _ refl)
   own-best r (l ∷ ls) h ok =
-      own-next xs k base met g x y cx cy r l ls (ok l (List·Memᴰ·head refl))
-      ∙ ap (winner (here xs k base met g x y cx cy r l)) (own-best (suc r) ls (omega arith) (λ w i. ok w (List·Memᴰ·tail i)))
-      ∙ first r l ls h (row-from x y (suc r) ls) (ℕ-discrete (l .from) x) (ℕ-discrete (l .to) y)
+      own-next xs k base met g x y cx cy r l ls (ok l (Memᴰ.head refl))
+      ∙ ap (winner (here xs k base met g x y cx cy r l)) (own-best (suc r) ls (omega arith) (λ w i. ok w (Memᴰ.tail i)))
+      ∙ first r l ls h (row_from_is x y (suc r) ls) (ℕ_discrete l.from x) (ℕ_discrete l.to y)
     where
-      first : (r : ℕ) (l : Link) (ls : List Link) → 1 ≤ r → (rowBetween x y (suc r) ls ≡ 0) ⊎ (suc r ≤ rowBetween x y (suc r) ls) → Dec (l .from ≡ x) → Dec (l .to ≡ y)
-          → winner (here xs k base met g x y cx cy r l) (ownBest (rowBetween x y (suc r) ls)) ≡ ownBest (rowBetween x y r (l ∷ ls))
+      first : (r : ℕ) (l : Link) (ls : List Link) → 1 ≤ r → (row_between x y (suc r) ls ≡ 0) ⊎ (suc r ≤ row_between x y (suc r) ls) → Dec (l.from ≡ x) → Dec (l.to ≡ y)
+          → winner (here xs k base met g x y cx cy r l) (own_best (row_between x y (suc r) ls)) ≡ own_best (row_between x y r (l ∷ ls))
       first r l ls h b (yes e) (yes f) =
-          let rest : ℕ = rowBetween x y (suc r) ls in
-          ap (λ (a : Behind). winner a (ownBest rest)) (eq-then (l .from) x _ _ e ∙ eq-then (l .to) y _ _ f)
+          let rest : ℕ = row_between x y (suc r) ls in
+          ap (λ (a : Behind). winner a (own_best rest)) (eq_then l.from x _ _ e ∙ eq_then l.to y _ _ f)
           ∙ own-winner r rest b
-          ∙ sym (ap ownBest (eq-then (l .from) x (ifEq (l .to) y r rest) rest e ∙ eq-then (l .to) y r rest f) ∙ eq-else r 0 _ _ (λ z. omega arith))
+          ∙ sym (ap own_best (eq_then l.from x (if_eq l.to y r rest) rest e ∙ eq_then l.to y r rest f) ∙ eq_else r 0 _ _ (λ z. omega arith))
       first r l ls h b (yes e) (no f) =
-          let rest : ℕ = rowBetween x y (suc r) ls in
-          ap (λ (a : Behind). winner a (ownBest rest)) (eq-then (l .from) x _ _ e ∙ eq-else (l .to) y _ _ f)
-          ∙ sym (ap ownBest (eq-then (l .from) x (ifEq (l .to) y r rest) rest e ∙ eq-else (l .to) y r rest f))
+          let rest : ℕ = row_between x y (suc r) ls in
+          ap (λ (a : Behind). winner a (own_best rest)) (eq_then l.from x _ _ e ∙ eq_else l.to y _ _ f)
+          ∙ sym (ap own_best (eq_then l.from x (if_eq l.to y r rest) rest e ∙ eq_else l.to y r rest f))
       first r l ls h b (no e) d =
-          let rest : ℕ = rowBetween x y (suc r) ls in
-          ap (λ (a : Behind). winner a (ownBest rest)) (eq-else (l .from) x _ _ e)
-          ∙ sym (ap ownBest (eq-else (l .from) x (ifEq (l .to) y r rest) rest e))
+          let rest : ℕ = row_between x y (suc r) ls in
+          ap (λ (a : Behind). winner a (own_best rest)) (eq_else l.from x _ _ e)
+          ∙ sym (ap own_best (eq_else l.from x (if_eq l.to y r rest) rest e))
 
 -- A copy of a block that is given by another name.
-pub sound-as : {bs : List Block} {j k base : ℕ} {met : List ℕ} → j ≡ k → Sound (copyOf bs k base met) → Sound (copyOf bs j base met)
+pub sound-as : {bs : List Block} {j k base : ℕ} {met : List ℕ} → j ≡ k → Sound (copy_of bs k base met) → Sound (copy_of bs j base met)
 sound-as e s = rw e s
 
 -- The best link between two cues of a copy: that of its own row, or the one that the lead leads to.
-module _ {xs t m : List ℕ} (g : Loaded xs t) (c : Pair) (may : MayLead xs m c) {first end : ℕ} (links : LinkRows xs (c .block) first end) (b : Lead) (lead : BestLead xs t c b)
-    (row : ℕ) (is : row ≡ rowBetween (c .from) (c .to) (first + 1) (linksFrom xs first (end - first))) where
+module _ {xs t m : List ℕ} (g : Loaded xs t) (c : Pair) (may : MayLead xs m c) {first end : ℕ} (links : LinkRows xs c.block first end) (b : Lead) (lead : BestLead xs t c b)
+    (row : ℕ) (is : row ≡ row_between c.from c.to (first + 1) (links_from xs first (end - first))) where
   abbrev all : List Block
-  all = blocksOf xs
+  all = blocks_of xs
 
   abbrev copy : ℕ → List ℕ → Copy
-  copy base met = copyOf all (c .block) base met
+  copy base met = copy_of all c.block base met
 
   abbrev whole : ℕ → List ℕ → Behind
   whole base met =
-      best (origins (number (copy base met) (c .from)) (number (copy base met) (c .to)) (traced (openingRow xs) all (c .block) base met))
+      best (origins (number (copy base met) c.from) (number (copy base met) c.to) (traced (opening_row xs) all c.block base met))
 
-  copy-best : (base : ℕ) (met : List ℕ) → Sound (copy base met) → whole base met ≡ winner (ownBest row) (ledTo xs t c base met b)
-  unfolding ownOf
+  copy-best : (base : ℕ) (met : List ℕ) → Sound (copy base met) → whole base met ≡ winner (own_best row) (led_to xs t c base met b)
+  unfolding own_of
   copy-best base met s =
-      ap best (copy-origins (openingRow xs) all (c .block) base met s _ _)
-      ∙ best-append (own-origins (openingRow xs) all (c .block) base met s _ _) (parts-origins (openingRow xs) all (c .block) base met s _ _)
+      ap best (copy-origins (opening_row xs) all c.block base met s _ _)
+      ∙ best-append (own-origins (opening_row xs) all c.block base met s _ _) (parts-origins (opening_row xs) all c.block base met s _ _)
       ∙ ap₂ winner
-      (own-best xs (c .block) base met s (c .from) (c .to) (may .from) (may .to) (suc (openingRow xs (c .block))) (blockAt all (c .block) .links) (omega arith)
-      (λ l i. s .fit .good .links l i)
-      ∙ ap ownBest (sym (is ∙ same)))
-      (lead .best base met s)
+      (own-best xs c.block base met s c.from c.to may.from may.to (suc (opening_row xs c.block)) (block_at all c.block).links (omega arith)
+      (λ l i. s.fit.good.links l i)
+      ∙ ap own_best (sym (is ∙ same)))
+      (lead.best base met s)
     where
-      same : rowBetween (c .from) (c .to) (first + 1) (linksFrom xs first (end - first))
-          ≡ rowBetween (c .from) (c .to) (suc (openingRow xs (c .block))) (blockAt all (c .block) .links)
+      same : row_between c.from c.to (first + 1) (links_from xs first (end - first))
+          ≡ row_between c.from c.to (suc (opening_row xs c.block)) (block_at all c.block).links
       same =
-          let e : first + 1 ≡ suc (openingRow xs (c .block)) = omega (arith, links .opened) in
-          ap₂ (rowBetween (c .from) (c .to)) e (sym (links .links))
+          let e : first + 1 ≡ suc (opening_row xs c.block) = omega (arith, links.opened) in
+          ap₂ (row_between c.from c.to) e (sym links.links)
 
   -- It ends here.
-  lead-small : b .level ≢ 0 → (o : Led xs t c (lead .end) b) → (base : ℕ) (met : List ℕ) → Sound (copy base met)
-      → (y : Origin) × (ledTo xs t c base met b ≡ into (stepOf t (c .block) (b .row)) (Stands y)) × (b .level ≡ suc (length (y .path)))
+  lead-small : b.level ≢ 0 → (o : Led xs t c lead.end b) → (base : ℕ) (met : List ℕ) → Sound (copy base met)
+      → (y : Origin) × (led_to xs t c base met b ≡ into (step_of t c.block b.row) (Stands y)) × (b.level ≡ suc (length y.path))
   lead-small h o base met s =
-      let (y, e, l) = level-some (partBest xs t c base met (b .row)) (b .level) (led-level g c may (lead .end) b o base met s) h in
-      (y, led-some g c may b base met h ∙ ap (into (stepOf t (c .block) (b .row))) e, l)
+      let (y, e, l) = level-some (part_best xs t c base met b.row) b.level (led-level g c may lead.end b o base met s) h in
+      (y, led-some g c may b base met h ∙ ap (into (step_of t c.block b.row)) e, l)
 
   module _ (base : ℕ) (met : List ℕ) (s : Sound (copy base met)) where
-    stays-best : staysHere row (b .level) ≡ true → whole base met ≡ ownBest row
-    unfolding staysHere ownBest
-    stays-best e = copy-best base met s ∙ go (ℕ-discrete (b .level) 0) (ℕ-discrete row 0) (depthWins (b .level + 1) 1) refl
+    stays-best : stays_here row b.level ≡ true → whole base met ≡ own_best row
+    unfolding stays_here own_best
+    stays-best e = copy-best base met s ∙ go (ℕ_discrete b.level 0) (ℕ_discrete row 0) (depth_wins (b.level + 1) 1) refl
       where
-        go : Dec (b .level ≡ 0) → Dec (row ≡ 0) → (w : Bool) → depthWins (b .level + 1) 1 ≡ w
-            → winner (ownBest row) (ledTo xs t c base met b) ≡ ownBest row
-        go (yes n) d w f = ap (winner (ownBest row)) (led-none g c may b base met n) ∙ winner-none (ownBest row)
-        go (no n) (yes r) w f = absurd (false≢true (sym (eq-else (b .level) 0 _ _ n ∙ eq-then row 0 _ _ r) ∙ e))
-        go (no n) (no r) true f = absurd (false≢true (sym (eq-else (b .level) 0 _ _ n ∙ eq-else row 0 _ _ r ∙ true-then _ _ _ f) ∙ e))
+        go : Dec (b.level ≡ 0) → Dec (row ≡ 0) → (w : Bool) → depth_wins (b.level + 1) 1 ≡ w
+            → winner (own_best row) (led_to xs t c base met b) ≡ own_best row
+        go (yes n) d w f = ap (winner (own_best row)) (led-none g c may b base met n) ∙ winner-none (own_best row)
+        go (no n) (yes r) w f = absurd (false≢true (sym (eq_else b.level 0 _ _ n ∙ eq_then row 0 _ _ r) ∙ e))
+        go (no n) (no r) true f = absurd (false≢true (sym (eq_else b.level 0 _ _ n ∙ eq_else row 0 _ _ r ∙ true_then _ _ _ f) ∙ e))
         go (no n) (no r) false f =
-            let (y, q, l) = lead-small n (lead .lead .led n) base met s in
-            let v : depthWins (suc (length (y .path))) 0 ≡ false =
-            sym (depth-step (suc (length (y .path))) 0) ∙ ap (λ (i : ℕ). depthWins i 1) (sym (add-one (b .level) ∙ ap suc l)) ∙ f in
-            ap₂ winner (eq-else row 0 _ _ r) q ∙ own-first (stepOf t (c .block) (b .row)) row y v ∙ sym (eq-else row 0 _ _ r)
+            let (y, q, l) = lead-small n (lead.lead.led n) base met s in
+            let v : depth_wins (suc (length y.path)) 0 ≡ false =
+            sym (depth-step (suc (length y.path)) 0) ∙ ap (λ (i : ℕ). depth_wins i 1) (sym (add-one b.level ∙ ap suc l)) ∙ f in
+            ap₂ winner (eq_else row 0 _ _ r) q ∙ own_first (step_of t c.block b.row) row y v ∙ sym (eq_else row 0 _ _ r)
 
-    goes-best : staysHere row (b .level) ≡ false → (b .level ≢ 0) × (whole base met ≡ into (stepOf t (c .block) (b .row)) (partBest xs t c base met (b .row)))
-    unfolding staysHere ownBest winner
-    goes-best e = go (ℕ-discrete (b .level) 0) (ℕ-discrete row 0) (depthWins (b .level + 1) 1) refl
+    goes-best : stays_here row b.level ≡ false → (b.level ≢ 0) × (whole base met ≡ into (step_of t c.block b.row) (part_best xs t c base met b.row))
+    unfolding stays_here own_best winner
+    goes-best e = go (ℕ_discrete b.level 0) (ℕ_discrete row 0) (depth_wins (b.level + 1) 1) refl
       where
-        go : Dec (b .level ≡ 0) → Dec (row ≡ 0) → (w : Bool) → depthWins (b .level + 1) 1 ≡ w
-            → (b .level ≢ 0) × (whole base met ≡ into (stepOf t (c .block) (b .row)) (partBest xs t c base met (b .row)))
-        go (yes n) d w f = absurd (false≢true (sym e ∙ eq-then (b .level) 0 _ _ n))
+        go : Dec (b.level ≡ 0) → Dec (row ≡ 0) → (w : Bool) → depth_wins (b.level + 1) 1 ≡ w
+            → (b.level ≢ 0) × (whole base met ≡ into (step_of t c.block b.row) (part_best xs t c base met b.row))
+        go (yes n) d w f = absurd (false≢true (sym e ∙ eq_then b.level 0 _ _ n))
         go (no n) (yes r) w f = (
           n,
-          copy-best base met s ∙ ap₂ winner (eq-then row 0 _ _ r) (led-some g c may b base met n),
+          copy-best base met s ∙ ap₂ winner (eq_then row 0 _ _ r) (led-some g c may b base met n),
         )
-        go (no n) (no r) false f = absurd (false≢true (sym e ∙ eq-else (b .level) 0 _ _ n ∙ eq-else row 0 _ _ r ∙ true-else _ _ _ f))
+        go (no n) (no r) false f = absurd (false≢true (sym e ∙ eq_else b.level 0 _ _ n ∙ eq_else row 0 _ _ r ∙ true_else _ _ _ f))
         go (no n) (no r) true f =
-            let (y, q, l) = lead-small n (lead .lead .led n) base met s in
-            let v : depthWins (suc (length (y .path))) 0 ≡ true =
-            sym (depth-step (suc (length (y .path))) 0) ∙ ap (λ (i : ℕ). depthWins i 1) (sym (add-one (b .level) ∙ ap suc l)) ∙ f in
-            (n, copy-best base met s ∙ ap₂ winner (eq-else row 0 _ _ r) q ∙ own-second (stepOf t (c .block) (b .row)) row y v ∙ sym q ∙ led-some g c may b base met n)
+            let (y, q, l) = lead-small n (lead.lead.led n) base met s in
+            let v : depth_wins (suc (length y.path)) 0 ≡ true =
+            sym (depth-step (suc (length y.path)) 0) ∙ ap (λ (i : ℕ). depth_wins i 1) (sym (add-one b.level ∙ ap suc l)) ∙ f in
+            (n, copy-best base met s ∙ ap₂ winner (eq_else row 0 _ _ r) q ∙ own-second (step_of t c.block b.row) row y v ∙ sym q ∙ led-some g c may b base met n)
 
-  pub ends-here : {rows : List ℕ} {s v d : ℕ} (r : RowAt) → d + c .block ≤ maxDepth → r .row ≡ row → r .depth ≡ d → (stay : Bool) → stay ≡ staysHere row (b .level)
+  pub ends-here : {rows : List ℕ} {s v d : ℕ} (r : RowAt) → d + c.block ≤ max_depth → r.row ≡ row → r.depth ≡ d → (stay : Bool) → stay ≡ stays_here row b.level
       → stay ≡ true → Reaches xs t rows s v d c → RowBehind xs t rows s v r
-  unfolding ownBest
+  unfolding own_best
   ends-here {rows} {s} {v} {d} r short er ed stay e f o =
       record {
-        none = λ n. said ∙ ap (intoAll (o .path)) (eq-then row 0 _ _ (sym er ∙ n)) ∙ intoAll-none (o .path);
+        none = λ n. said ∙ ap (into_all o.path) (eq_then row 0 _ _ (sym er ∙ n)) ∙ into_all-none o.path;
         some = λ n.
             record {
-              path = o .path;
-              is = said ∙ ap (intoAll (o .path)) (eq-else row 0 _ _ (λ z. n (er ∙ z))) ∙ intoAll-row (o .path) row ∙ ap (λ (i : ℕ). Stands (record { path = o .path; row = i })) (sym er);
-              deep = ed ∙ sym (o .depth);
+              path = o.path;
+              is = said ∙ ap (into_all o.path) (eq_else row 0 _ _ (λ z. n (er ∙ z))) ∙ into_all-row o.path row ∙ ap (λ (i : ℕ). Stands (record { path = o.path; row = i })) (sym er);
+              deep = ed ∙ sym o.depth;
               few = omega arith;
-              leading = o .leading;
+              leading = o.leading;
             };
       }
     where
-      said : behind xs s v ≡ intoAll (o .path) (ownBest row)
+      said : behind xs s v ≡ into_all o.path (own_best row)
       said =
-          o .rest
-          ∙ ap (intoAll (o .path))
-          (ap₂ (λ (a w : ℕ). best (origins a w (traced (openingRow xs) all (c .block) (o .base) (o .met)))) (sym (o .from)) (sym (o .to))
-          ∙ stays-best (o .base) (o .met) (o .sound) (sym e ∙ f))
+          o.rest
+          ∙ ap (into_all o.path)
+          (ap₂ (λ (a w : ℕ). best (origins a w (traced (opening_row xs) all c.block o.base o.met))) (sym o.from) (sym o.to)
+          ∙ stays-best o.base o.met o.sound (sym e ∙ f))
 
   -- It goes on: in the copy that the lead leads to, with the cues that its joins meet.
-  goes-level : (stay : Bool) → stay ≡ staysHere row (b .level) → stay ≡ false → b .level ≢ 0
-  unfolding staysHere
-  goes-level stay e f n = false≢true (sym f ∙ e ∙ eq-then (b .level) 0 _ _ n)
+  goes-level : (stay : Bool) → stay ≡ stays_here row b.level → stay ≡ false → b.level ≢ 0
+  unfolding stays_here
+  goes-level stay e f n = false≢true (sym f ∙ e ∙ eq_then b.level 0 _ _ n)
 
-  module _ (stay : Bool) (e : stay ≡ staysHere row (b .level)) (f : stay ≡ false) where
-    led : Led xs t c (lead .end) b
-    led = lead .lead .led (goes-level stay e f)
+  module _ (stay : Bool) (e : stay ≡ stays_here row b.level) (f : stay ≡ false) where
+    led : Led xs t c lead.end b
+    led = lead.lead.led (goes-level stay e f)
 
-    lead-use : UseRow xs (c .block) (b .row)
-    lead-use = uses-use g (may .block) (led .row)
+    lead-use : UseRow xs c.block b.row
+    lead-use = uses-use g may.block led.row
 
-    pub may-follow : MayFollow xs b
-    may-follow = record { k = c .block; row = lead-use; from = led .from-join; to = led .to-join }
+    pub may_follow_lem : MayFollow xs b
+    may_follow_lem = record { k = c.block; row = lead-use; from = led.from-join; to = led.to-join }
 
     pub room-left : {rows : List ℕ} {d : ℕ} → MayWalk xs m rows d c → d < length rows
-    room-left may = omega (arith, may .room, may .short, lead-use .lower)
+    room-left may = omega (arith, may.room, may.short, lead-use.lower)
 
-    pub row-few : b .row < maxRows
-    row-few = lead-use .few
+    pub row-few : b.row < max_rows
+    row-few = lead-use.few
 
     module _ (next : Pair) (o : Followed xs b next) where
-      pub lower : next .block < c .block
-      lower = omega (arith, lead-use .lower, o .block)
+      pub lower : next.block < c.block
+      lower = omega (arith, lead-use.lower, o.block)
 
-      known : IsBlock xs (next .block)
-      known = omega (arith, lower, may .block)
+      known : IsBlock xs next.block
+      known = omega (arith, lower, may.block)
 
-      joins-are : usedJoins xs (b .row) ≡ blockAt all (next .block) .joins
-      joins-are = rw (o .block) (joinsOf-at all (useAt xs all (b .row) .block))
+      joins-are : used_joins xs b.row ≡ (block_at all next.block).joins
+      joins-are = rw o.block (joins_of-at all (use_at xs all b.row).block)
 
-      next-from : Cue (blockAt all (next .block)) (next .from)
-      next-from = omega (arith, o .from, led .from-join, joins-are, ownOf-at all (next .block))
+      next-from : Cue (block_at all next.block) next.from
+      next-from = omega (arith, o.from, led.from-join, joins-are, own_of_at all next.block)
 
-      next-to : Cue (blockAt all (next .block)) (next .to)
-      next-to = omega (arith, o .to, led .to-join, joins-are, ownOf-at all (next .block))
+      next-to : Cue (block_at all next.block) next.to
+      next-to = omega (arith, o.to, led.to-join, joins-are, own_of_at all next.block)
 
-      pub may-walk : {rows : List ℕ} {d : ℕ} (w : ℕ) → MayWalk xs m rows d c → MayWalk xs m (set rows d w) (d + 1) next
-      may-walk {rows} {d} w may =
+      pub may_walk : {rows : List ℕ} {d : ℕ} (w : ℕ) → MayWalk xs m rows d c → MayWalk xs m (set rows d w) (d + 1) next
+      may_walk {rows} {d} w may =
           record {
             lead =
                 record {
                   block = known;
-                  levels = record { long = may .lead .levels .long; at = λ k i j h. may .lead .levels .at k i j (omega (arith, lower)) };
+                  levels = record { long = may.lead.levels.long; at = λ k i j h. may.lead.levels.at k i j (omega (arith, lower)) };
                   from = next-from;
                   to = next-to;
                 };
-            room = rw (length-set rows d w) (may .room);
-            short = omega (arith, may .short, lower);
+            room = rw (length-set rows d w) may.room;
+            short = omega (arith, may.short, lower);
           }
 
       -- The copy's number of a cue is that of the join which meets it in the part.
       abbrev part : ℕ → Part
-      part base = record { of = useAt xs all (b .row); base = innerBase xs t (c .block) base (b .row) }
+      part base = record { of = use_at xs all b.row; base = inner_base xs t c.block base b.row }
 
-      join-is : (base : ℕ) (met : List ℕ) (i x n : ℕ) → i < usedJoins xs (b .row) → getD (useAt xs all (b .row) .at) i 0 ≡ x → n ≡ joinCue (ownOf all (next .block)) i
-          → number (copyOf all (next .block) (part base .base) (meets (copy base met) (part base))) n ≡ number (copy base met) x
-      join-is base met i x n h ex en =
-          let a : length (useAt xs all (b .row) .at) ≡ usedJoins xs (b .row) = lead-use .good .arity in
-          ap₂ (λ (k j : ℕ). number (copyOf all k (part base .base) (meets (copy base met) (part base))) j) (o .block)
-          (en ∙ ap (λ (k : ℕ). joinCue (ownOf all k) i) (o .block))
-          ∙ join-meets (copy base met) (part base) i (omega arith)
+      join_is : (base : ℕ) (met : List ℕ) (i x n : ℕ) → i < used_joins xs b.row → get_or (use_at xs all b.row).at i 0 ≡ x → n ≡ join_cue (own_of all next.block) i
+          → number (copy_of all next.block (part base).base (meets (copy base met) (part base))) n ≡ number (copy base met) x
+      join_is base met i x n h ex en =
+          let a : length (use_at xs all b.row).at ≡ used_joins xs b.row = lead-use.good.arity in
+          ap₂ (λ (k j : ℕ). number (copy_of all k (part base).base (meets (copy base met) (part base))) j) o.block
+          (en ∙ ap (λ (k : ℕ). join_cue (own_of all k) i) o.block)
+          ∙ join_meets (copy base met) (part base) i (omega arith)
           ∙ ap (number (copy base met)) ex
 
       -- The rows that lead there, and what is left of the question.
       next-leading : {rows : List ℕ} {s v d : ℕ} (r : Reaches xs t rows s v d c) → d < length rows
-          → Leading xs t (set rows d (b .row)) (r .path ++ stepOf t (c .block) (b .row) ∷ [])
+          → Leading xs t (set rows d b.row) (r.path ++ step_of t c.block b.row ∷ [])
       next-leading {rows} {s} {v} {d} r room =
-          let k : blockOn xs rows (length (r .path)) ≡ c .block = ap (blockOn xs rows) (r .depth) ∙ sym (r .block) in
-          let begin : usesBegin t (c .block) ≤ b .row = omega (arith, led .row .low, led .row .rows .begin) in
-          let takes : Takes t (c .block) (stepOf t (c .block) (b .row)) (b .row) = omega arith in
-          rw (r .depth) at
-          (leading-more (r .leading) (stepOf t (c .block) (b .row)) (b .row) (omega (arith, r .depth)) (rw k lead-use) (rw k takes) (rw k begin))
+          let k : block_on xs rows (length r.path) ≡ c.block = ap (block_on xs rows) r.depth ∙ sym r.block in
+          let begin : uses_begin t c.block ≤ b.row = omega (arith, led.row.low, led.row.rows.begin) in
+          let takes : Takes t c.block (step_of t c.block b.row) b.row = omega arith in
+          rw r.depth at
+          (leading-more r.leading (step_of t c.block b.row) b.row (omega (arith, r.depth)) (rw k lead-use) (rw k takes) (rw k begin))
 
       next-rest : {rows : List ℕ} {s v d : ℕ} (r : Reaches xs t rows s v d c)
           → behind xs s v
-          ≡ intoAll (r .path ++ stepOf t (c .block) (b .row) ∷ [])
-          (best (origins s v (traced (openingRow xs) all (next .block) (part (r .base) .base) (meets (copy (r .base) (r .met)) (part (r .base))))))
+          ≡ into_all (r.path ++ step_of t c.block b.row ∷ [])
+          (best (origins s v (traced (opening_row xs) all next.block (part r.base).base (meets (copy r.base r.met) (part r.base)))))
       next-rest {rows} {s} {v} {d} r =
-          let p : ℕ = stepOf t (c .block) (b .row) in
-          let found : List Origin = origins s v (traced (openingRow xs) all (next .block) (part (r .base) .base) (meets (copy (r .base) (r .met)) (part (r .base)))) in
-          r .rest
-          ∙ ap (intoAll (r .path))
-          (ap₂ (λ (a w : ℕ). best (origins a w (traced (openingRow xs) all (c .block) (r .base) (r .met)))) (sym (r .from)) (sym (r .to))
-          ∙ goes-best (r .base) (r .met) (r .sound) (sym e ∙ f) .1
-          ∙ ap₂ (λ (a w : ℕ). into p (best (origins a w (traced (openingRow xs) all (useAt xs all (b .row) .block) (part (r .base) .base) (meets (copy (r .base) (r .met)) (part (r .base))))))) (r .from) (r .to)
-          ∙ ap (λ (k : ℕ). into p (best (origins s v (traced (openingRow xs) all k (part (r .base) .base) (meets (copy (r .base) (r .met)) (part (r .base))))))) (sym (o .block)))
-          ∙ sym (intoAll-snoc (r .path) p (best found))
+          let p : ℕ = step_of t c.block b.row in
+          let found : List Origin = origins s v (traced (opening_row xs) all next.block (part r.base).base (meets (copy r.base r.met) (part r.base))) in
+          r.rest
+          ∙ ap (into_all r.path)
+          (ap₂ (λ (a w : ℕ). best (origins a w (traced (opening_row xs) all c.block r.base r.met))) (sym r.from) (sym r.to)
+          ∙ (goes-best r.base r.met r.sound (sym e ∙ f)).1
+          ∙ ap₂ (λ (a w : ℕ). into p (best (origins a w (traced (opening_row xs) all (use_at xs all b.row).block (part r.base).base (meets (copy r.base r.met) (part r.base)))))) r.from r.to
+          ∙ ap (λ (k : ℕ). into p (best (origins s v (traced (opening_row xs) all k (part r.base).base (meets (copy r.base r.met) (part r.base)))))) (sym o.block))
+          ∙ sym (into_all-snoc r.path p (best found))
 
-      pub goes-on : {rows : List ℕ} {s v d : ℕ} (w : ℕ) → d < length rows → w ≡ b .row → Reaches xs t rows s v d c → Reaches xs t (set rows d w) s v (d + 1) next
-      goes-on {rows} {s} {v} {d} w room ew r =
-          let q : Part = part (r .base) in
-          let at : blockOn xs (set rows d (b .row)) (d + 1) ≡ useAt xs all (b .row) .block = rw (add-one d) (block-next xs rows d (b .row) room) in
+      pub goes_on_is : {rows : List ℕ} {s v d : ℕ} (w : ℕ) → d < length rows → w ≡ b.row → Reaches xs t rows s v d c → Reaches xs t (set rows d w) s v (d + 1) next
+      goes_on_is {rows} {s} {v} {d} w room ew r =
+          let q : Part = part r.base in
+          let at : block_on xs (set rows d b.row) (d + 1) ≡ (use_at xs all b.row).block = rw (add-one d) (block-next xs rows d b.row room) in
           rw ew
           (record {
-            path = r .path ++ stepOf t (c .block) (b .row) ∷ [];
-            depth = length-append (r .path) (stepOf t (c .block) (b .row) ∷ []) ∙ ap (λ (n : ℕ). n + 1) (r .depth);
+            path = r.path ++ step_of t c.block b.row ∷ [];
+            depth = length-append r.path (step_of t c.block b.row ∷ []) ∙ ap (λ (n : ℕ). n + 1) r.depth;
             leading = next-leading r room;
-            block = o .block ∙ sym at;
-            base = q .base;
-            met = meets (copy (r .base) (r .met)) q;
-            sound = sound-as (o .block) (part-sound (r .sound) q (row-part g (led .row) (r .base) (r .met)));
-            from = join-is (r .base) (r .met) (b .from) (c .from) (next .from) (led .from-join) (led .from-cue) (o .from) ∙ r .from;
-            to = join-is (r .base) (r .met) (b .to) (c .to) (next .to) (led .to-join) (led .to-cue) (o .to) ∙ r .to;
+            block = o.block ∙ sym at;
+            base = q.base;
+            met = meets (copy r.base r.met) q;
+            sound = sound-as o.block (part_sound r.sound q (row-part g led.row r.base r.met));
+            from = join_is r.base r.met b.from c.from next.from led.from-join led.from-cue o.from ∙ r.from;
+            to = join_is r.base r.met b.to c.to next.to led.to-join led.to-cue o.to ∙ r.to;
             rest = next-rest r;
           })
 
 -- The level of a lead is small.
-pub lead-few : {xs t : List ℕ} (c : Pair) (b : Lead) → Loaded xs t → IsBlock xs (c .block) → BestLead xs t c b → b .level ≤ maxBlocks
-lead-few {xs} c b g h lead = go (ℕ-discrete (b .level) 0)
+pub lead-few : {xs t : List ℕ} (c : Pair) (b : Lead) → Loaded xs t → IsBlock xs c.block → BestLead xs t c b → b.level ≤ max_blocks
+lead-few {xs} c b g h lead = go (ℕ_discrete b.level 0)
   where
-    go : Dec (b .level ≡ 0) → b .level ≤ maxBlocks
+    go : Dec (b.level ≡ 0) → b.level ≤ max_blocks
     go (yes e) = omega arith
     go (no n) =
-        let o = lead .lead .led n in
-        let u = uses-use g h (o .row) in
-        omega (arith, level-small xs (loaded-show g .good) _ _ _ _ (o .level), u .lower, u .block, loaded-show g .blocks)
+        let o = lead.lead.led n in
+        let u = uses-use g h o.row in
+        omega (arith, level-small xs (loaded-show g).good _ _ _ _ o.level, u.lower, u.block, (loaded-show g).blocks)

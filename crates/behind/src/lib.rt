@@ -3,37 +3,24 @@
 //
 // A link joins two cues only in a copy where both are to be seen, as own cue or join: in the deeper of the two copies that own them, or in one below
 // it. `behind` begins there, with the two as cues of its block, and goes on from copy to copy, by the levels of `levels`, to the best row.
-use blocks::INDEX;
-use blocks::JOINS;
-use blocks::Place;
-use blocks::Rows;
-use blocks::from;
-use blocks::join_at;
-use blocks::joins;
-use blocks::link_rows;
-use blocks::own;
-use blocks::to;
-use blocks::use_rows;
-use blocks::used;
-use copies::Frame;
-use copies::descend;
-use levels::TABLE;
-use levels::level_at;
-use levels::levels;
-use levels::wins;
-ghost use mathlib.Core.Path.{_≡_};
-ghost use Prim.Native.Nat.{_+_, _-_, _≤_, _<_};
-ghost use lib.ListN.{length};
-ghost use Rattle·model.specs.Limits.{maxJoins, maxBlocks, maxRows, maxDepth};
-ghost use Rattle·model.specs.Rows.{rowCount};
-ghost use Rattle·verdicts.specs.Index.{linksFrom};
-ghost use Rattle·blocks.specs.Loaded.{Loaded};
-ghost use Rattle·blocks.specs.Places.{Found};
-ghost use Rattle·copies.specs.Copies.{IsCopy};
-ghost use Rattle·behind·specs.specs.Leads.{rowBetween, beatsLevel, staysHere, MayLead, UsesRow, IsLead, Tried, BestLead, MayFollow, Followed};
-ghost use Rattle·behind·specs.specs.Ways.{SeenAs, IsMet, MayWalk, Walked, RowBehind, sourceOf, targetOf};
+#![tactic(auto)]
+
+ghost use Rattle.std.specs.Prelude.{◌≡◌, ◌+◌, ◌-◌, ◌≤◌, ◌<◌, length};
+ghost use Rattle.model.specs.Limits.{max_joins, max_blocks, max_rows, max_depth};
+ghost use Rattle.model.specs.Rows.{row_count};
+ghost use Rattle.verdicts.specs.Index.{links_from};
+ghost use Rattle.blocks.specs.Loaded.{Loaded};
+ghost use Rattle.blocks.specs.Places.{Found};
+ghost use Rattle.copies.specs.Copies.{IsCopy};
+ghost use Rattle.behind.specs.Leads.{row_between, beats_level, stays_here, MayLead, UsesRow, IsLead, Tried, BestLead, MayFollow, Followed};
+ghost use Rattle.behind.specs.Ways.{SeenAs, IsMet, MayWalk, Walked, RowBehind, source_of, target_of};
+
+use blocks::{INDEX, JOINS, Place, Rows, from, join_at, joins, link_rows, own, to, use_rows, used};
+use copies::{Frame, descend};
+use levels::{TABLE, level_at, levels, wins};
 
 // Two cues of a block.
+#[derive(Clone, Copy)]
 pub struct Pair {
     pub block: usize,
     pub from: u32,
@@ -42,6 +29,7 @@ pub struct Pair {
 
 // The use that leads on from a copy to the best link: the level of that link below it, the row of the use, from 0,
 // and the joins of the used block that meet the two cues, from 0. Level 0 is none.
+#[derive(Clone, Copy)]
 pub struct Lead {
     pub level: u8,
     pub row: usize,
@@ -50,6 +38,7 @@ pub struct Lead {
 }
 
 // The number of a link's row, from 1, and how many uses lead to the copy in which it stands. Row 0 is none.
+#[derive(Clone, Copy)]
 pub struct RowAt {
     pub row: u32,
     pub depth: usize,
@@ -57,7 +46,7 @@ pub struct RowAt {
 
 // The cues w and v of a block, leading inward to w or out from it.
 fn pair_of(k: usize, w: u32, v: u32, inward: bool) -> Pair
-    ensures { λ c. ⌜ (c .block ≡ k) × (c .from ≡ sourceOf inward w v) × (c .to ≡ targetOf inward w v) ⌝ }
+    ensures { (result.block ≡ k) × (result.from ≡ source_of inward w v) × (result.to ≡ target_of inward w v) }
 {
     if inward {
         return Pair {
@@ -75,8 +64,8 @@ fn pair_of(k: usize, w: u32, v: u32, inward: bool) -> Pair
 
 // The number of the first of a block's link rows that leads from cue x to cue y, or 0.
 fn own_row(xs: &[u32], rows: Rows, x: u32, y: u32) -> u32
-    requires { ⌜ (rows .first ≤ rows .end) × (rows .end ≤ rowCount (now xs)) × (rows .end ≤ maxRows) ⌝ }
-    ensures { λ n. ⌜ n ≡ rowBetween x y (rows .first + 1) (linksFrom (now (xs .entry)) (rows .first) (rows .end - rows .first)) ⌝ }
+    requires { (rows.first ≤ rows.end) × (rows.end ≤ row_count xs.now) × (rows.end ≤ max_rows) }
+    ensures { result ≡ row_between x y (rows.first + 1) (links_from xs.now rows.first (rows.end - rows.first)) }
 {
     let mut r = rows.first;
     while r < rows.end {
@@ -92,7 +81,7 @@ fn own_row(xs: &[u32], rows: Rows, x: u32, y: u32) -> u32
 
 // A level that is better than one found before; 0 is none.
 fn beats(n: u8, old: u8) -> bool
-    ensures { λ r. ⌜ r ≡ beatsLevel n old ⌝ }
+    ensures { result ≡ beats_level n old }
 {
     if n == 0 {
         return false;
@@ -105,8 +94,8 @@ fn beats(n: u8, old: u8) -> bool
 
 // The better of a lead and the use of row r.
 fn try_use(xs: &[u32], t: &[u32; INDEX], m: &[u8], c: Pair, r: usize, lead: Lead) -> Lead
-    requires { ⌜ Loaded (now xs) (now t) × MayLead (now xs) (now m) c × UsesRow (now xs) (now t) (c .block) r × IsLead (now xs) (now t) c r lead ⌝ }
-    ensures { λ b. ⌜ Tried (now (xs .entry)) (now (t .entry)) c r lead b ⌝ }
+    requires { Loaded xs.now t.now × MayLead xs.now m.now c × UsesRow xs.now t.now c.block r × IsLead xs.now t.now c r lead }
+    ensures { Tried xs.now t.now c r lead result }
 {
     let k = used(xs, r);
     let joins = joins(xs, t, k);
@@ -132,8 +121,8 @@ fn try_use(xs: &[u32], t: &[u32; INDEX], m: &[u8], c: Pair, r: usize, lead: Lead
 
 // The use that leads on to the best link below a copy of a block, from one of its cues to another.
 fn best_use(xs: &[u32], t: &[u32; INDEX], m: &[u8], c: Pair) -> Lead
-    requires { ⌜ Loaded (now xs) (now t) × MayLead (now xs) (now m) c ⌝ }
-    ensures { λ b. ⌜ BestLead (now (xs .entry)) (now (t .entry)) c b ⌝ }
+    requires { Loaded xs.now t.now × MayLead xs.now m.now c }
+    ensures { BestLead xs.now t.now c result }
 {
     let rows = use_rows(xs, t, c.block);
     let mut lead = Lead {
@@ -152,8 +141,8 @@ fn best_use(xs: &[u32], t: &[u32; INDEX], m: &[u8], c: Pair) -> Lead
 
 // The way ends here: no use leads to a better row than the copy's own, if it has one.
 fn stays(row: u32, n: u8) -> bool
-    requires { ⌜ n ≤ maxBlocks ⌝ }
-    ensures { λ r. ⌜ r ≡ staysHere row n ⌝ }
+    requires { n ≤ max_blocks }
+    ensures { result ≡ stays_here row n }
 {
     if n == 0 {
         return true;
@@ -170,8 +159,8 @@ fn stays(row: u32, n: u8) -> bool
 
 // The two cues in the copy that a lead leads to.
 fn follow(xs: &[u32], t: &[u32; INDEX], lead: Lead) -> Pair
-    requires { ⌜ Loaded (now xs) (now t) × MayFollow (now xs) lead ⌝ }
-    ensures { λ c. ⌜ Followed (now (xs .entry)) lead c ⌝ }
+    requires { Loaded xs.now t.now × MayFollow xs.now lead }
+    ensures { Followed xs.now lead result }
 {
     let k = used(xs, lead.row);
     let own = own(xs, t, k);
@@ -191,8 +180,8 @@ fn walk(
     depth: usize,
     rows: &mut [u32],
 ) -> RowAt
-    requires { ⌜ Loaded (now xs) (now t) × MayWalk (now xs) (now m) (now rows) depth start ⌝ }
-    ensures { λ r. ⌜ Walked (now (xs .entry)) (now (t .entry)) (now (rows .entry)) depth start (now (rows .exit)) r ⌝ }
+    requires { Loaded xs.now t.now × MayWalk xs.now m.now rows.old depth start }
+    ensures { Walked xs.now t.now rows.old depth start rows.new result }
 {
     let mut c = start;
     let mut d = depth;
@@ -210,8 +199,8 @@ fn walk(
 
 // The place of number v among the first n, or n.
 fn met_at(met: [u32; JOINS], n: usize, v: u32) -> usize
-    requires { ⌜ n ≤ maxJoins ⌝ }
-    ensures { λ j. ⌜ IsMet met n v j ⌝ }
+    requires { n ≤ max_joins }
+    ensures { IsMet met n v result }
 {
     let mut j = 0;
     while j < n {
@@ -225,8 +214,8 @@ fn met_at(met: [u32; JOINS], n: usize, v: u32) -> usize
 
 // The cue of a copy's block whose number is v, own or join, or 0.
 fn seen(xs: &[u32], t: &[u32; INDEX], z: Frame, v: u32) -> u32
-    requires { ⌜ Loaded (now xs) (now t) × IsCopy (now xs) z ⌝ }
-    ensures { λ c. ⌜ SeenAs (now (xs .entry)) z v c ⌝ }
+    requires { Loaded xs.now t.now × IsCopy xs.now z }
+    ensures { SeenAs xs.now z v result }
 {
     let own = own(xs, t, z.block);
     let base = z.base;
@@ -254,8 +243,8 @@ pub fn behind(
     v: u32,
     inward: bool,
 ) -> RowAt
-    requires { ⌜ Loaded (now xs) (now t) × Found (now xs) (now t) (now rows) place × (maxDepth ≤ length (now rows)) × (v ≤ place .cue) ⌝ }
-    ensures { λ r. ⌜ RowBehind (now (xs .entry)) (now (t .entry)) (now (rows .exit)) (sourceOf inward (place .cue) v) (targetOf inward (place .cue) v) r ⌝ }
+    requires { Loaded xs.now t.now × Found xs.now t.now rows.old place × (max_depth ≤ length rows.old) × (v ≤ place.cue) }
+    ensures { RowBehind xs.now t.now rows.new (source_of inward place.cue v) (target_of inward place.cue v) result }
 {
     let z = descend(xs, t, place, rows);
     let c = seen(xs, t, z, v);

@@ -1,17 +1,12 @@
 // The questions of the library, with their answers as numbers.
 use crate::text;
-use model::CountAnswer;
-use model::FewestAnswer;
-use model::ListAnswer;
-use model::LocateAnswer;
-use model::NumberAnswer;
-use model::QuickestAnswer;
-use model::ReadAnswer;
-use model::Refusal;
-use model::RowAnswer;
-use model::WriteAnswer;
+use model::{
+    CountAnswer, FewestAnswer, ListAnswer, LocateAnswer, NumberAnswer, QuickestAnswer, ReadAnswer,
+    Refusal, RowAnswer, WriteAnswer,
+};
 
 // An answer: 0 and what it gives, or a refusal with its place. What an answer lacks is 0.
+#[derive(Clone, Copy)]
 pub struct Said {
     pub number: u32,
     pub first: u32,

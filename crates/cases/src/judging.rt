@@ -1,12 +1,12 @@
 // What a case asks, and whether the answer and all that was lent are as they must be. Lent lists hold 7s before the call.
-ghost use Prim.Native.Nat.{_≤_};
-use crate::asking;
+ghost use Rattle.std.specs.Prelude.{◌≤◌};
+
 use crate::asking::Said;
-use crate::text;
+use crate::{asking, text};
 
 // The lesser of two numbers.
 pub fn least(a: usize, b: usize) -> usize
-    ensures { λ r. ⌜ (r ≤ a) × (r ≤ b) ⌝ }
+    ensures { (result ≤ a) × (result ≤ b) }
 {
     if a < b {
         return a;

@@ -3,6 +3,7 @@
 
 // How far the numbers of a field have been read: how many are stored, the number that is being read, whether it has a digit, and the
 // number before a times sign.
+#[derive(Clone, Copy)]
 struct Reading {
     many: usize,
     value: u32,

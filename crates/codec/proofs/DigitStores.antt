@@ -1,73 +1,73 @@
 -- The digits of a number, one and two at a time.
-use Prim.Native.Nat.{ℕ, _+_, _/_, _≤_, _<_}
-use mathlib.Core.Path.{_≡_, _∙_}
-use mathlib.Core.List.{List, [], _∷_, _++_}
+use Prim.Native.Nat.{ℕ, ◌+◌, ◌/◌, ◌≤◌, ◌<◌}
+use mathlib.Core.Path.{◌≡◌, ◌∙◌}
+use mathlib.Core.List.{List, [], ◌∷◌, ◌++◌}
 use native.Mathlib.Omega.{arith}
-use native.Mathlib.Decide.{decLt}
+use native.Mathlib.Decide.{dec_lt}
 use lib.ListN.{length, set, length-append}
-use Rattle·model.specs.Choice.{ifLt}
-use Rattle·model.specs.Values.{digitAt, digits}
-use Rattle·basics.proofs.Choices.{lt-then, lt-else}
-use Rattle·codec·specs.specs.Writing.{one, two, valueText, Puts}
-use Rattle·codec·proofs.proofs.Stores.{puts-byte, puts-both, puts-as, puts-long}
+use Rattle.model.specs.Choice.{if_lt}
+use Rattle.model.specs.Values.{digit_at, digits}
+use Rattle.basics.proofs.Choices.{lt_then, lt_else}
+use Rattle.codec.specs.Writing.{one, two, value_text, Puts}
+use Rattle.codec.proofs.Stores.{puts-byte, puts-both, puts-as, puts-long}
 
 -- A digit of a part of a number is one of the number.
-part-digit : (p q k v : ℕ) → v / k / p ≡ v / q → digitAt p (v / k) ≡ digitAt q v
-unfolding digitAt
+part-digit : (p q k v : ℕ) → v / k / p ≡ v / q → digit_at p (v / k) ≡ digit_at q v
+unfolding digit_at
 part-digit p q k v e = rw e
 
-pub two-is : (q : ℕ) → two q ≡ one (q / 10) ++ one q
+pub two_is : (q : ℕ) → two q ≡ one (q / 10) ++ one q
 unfolding one two
-two-is q = rw (part-digit 1 10 10 q (omega arith))
+two_is q = rw (part-digit 1 10 10 q (omega arith))
 
 module _ (v : ℕ) where
   pub one-digit : v < 10 → digits v ≡ one v
   unfolding digits one
-  one-digit h = lt-then _ _ _ _ h
+  one-digit h = lt_then _ _ _ _ h
 
   one-wide : v < 10 → 1 ≡ length (digits v)
   unfolding one
   one-wide h = rw (one-digit h)
 
   module _ (g : 10 ≤ v) where
-    pub two-digits : v < 100 → digits v ≡ two v
+    pub two_digits : v < 100 → digits v ≡ two v
     unfolding digits two
-    two-digits h = lt-else _ _ _ _ g ∙ lt-then _ _ _ _ h
+    two_digits h = lt_else _ _ _ _ g ∙ lt_then _ _ _ _ h
 
     two-wide : v < 100 → 2 ≡ length (digits v)
     unfolding two
-    two-wide h = rw (two-digits h)
+    two-wide h = rw (two_digits h)
 
     module _ (k : 100 ≤ v) where
-      pub three-digits : v < 1000 → digits v ≡ one (v / 100) ++ two v
+      pub three_digits : v < 1000 → digits v ≡ one (v / 100) ++ two v
       unfolding digits one two
-      three-digits h =
-          lt-else _ _ _ _ g ∙ lt-else _ _ _ _ k ∙ lt-then _ _ _ _ h ∙ rw (part-digit 1 100 100 v (omega arith))
+      three_digits h =
+          lt_else _ _ _ _ g ∙ lt_else _ _ _ _ k ∙ lt_then _ _ _ _ h ∙ rw (part-digit 1 100 100 v (omega arith))
 
-      pub three-wide : v < 1000 → 3 ≡ length (digits v)
+      pub three_wide : v < 1000 → 3 ≡ length (digits v)
       unfolding one two
-      three-wide h = rw (three-digits h)
+      three_wide h = rw (three_digits h)
 
       module _ (l : 1000 ≤ v) where
-        pub four-digits : v < 10000 → digits v ≡ two (v / 100) ++ two v
+        pub four_digits : v < 10000 → digits v ≡ two (v / 100) ++ two v
         unfolding digits two
-        four-digits h =
-            lt-else _ _ _ _ g ∙ lt-else _ _ _ _ k ∙ lt-else _ _ _ _ l ∙ lt-then _ _ _ _ h
+        four_digits h =
+            lt_else _ _ _ _ g ∙ lt_else _ _ _ _ k ∙ lt_else _ _ _ _ l ∙ lt_then _ _ _ _ h
             ∙ rw (part-digit 1 100 100 v (omega arith), part-digit 10 1000 100 v (omega arith))
 
-        pub four-wide : v < 10000 → 4 ≡ length (digits v)
+        pub four_wide : v < 10000 → 4 ≡ length (digits v)
         unfolding two
-        four-wide h = rw (four-digits h)
+        four_wide h = rw (four_digits h)
 
-        pub five-digits : 10000 ≤ v → digits v ≡ (one (v / 10000) ++ two (v / 100)) ++ two v
+        pub five_digits : 10000 ≤ v → digits v ≡ (one (v / 10000) ++ two (v / 100)) ++ two v
         unfolding digits one two
-        five-digits h =
-            lt-else _ _ _ _ g ∙ lt-else _ _ _ _ k ∙ lt-else _ _ _ _ l ∙ lt-else _ _ _ _ h
+        five_digits h =
+            lt_else _ _ _ _ g ∙ lt_else _ _ _ _ k ∙ lt_else _ _ _ _ l ∙ lt_else _ _ _ _ h
             ∙ rw (part-digit 1 100 100 v (omega arith), part-digit 10 1000 100 v (omega arith), part-digit 1 10000 10000 v (omega arith))
 
-        pub five-wide : 10000 ≤ v → 5 ≡ length (digits v)
+        pub five_wide : 10000 ≤ v → 5 ≡ length (digits v)
         unfolding one two
-        five-wide h = rw (five-digits h)
+        five_wide h = rw (five_digits h)
 
         -- Behind the first of five digits there is room for the next two, and then for the last two.
         module _
@@ -75,46 +75,46 @@ module _ (v : ℕ) where
           where
             pub second-room : i + length (two b) ≤ length p
             unfolding one two
-            second-room = omega (arith, five-wide h, puts-long s, s .place)
+            second-room = omega (arith, five_wide h, puts-long s, s.place)
 
-            pub third-room : (j c : ℕ) (q : List ℕ) → Puts (two b) p i j q → j + length (two c) ≤ length q
+            pub third_room : (j c : ℕ) (q : List ℕ) → Puts (two b) p i j q → j + length (two c) ≤ length q
             unfolding one two
-            third-room j c q t = omega (arith, five-wide h, puts-long s, s .place, puts-long t, t .place)
+            third_room j c q t = omega (arith, five_wide h, puts-long s, s.place, puts-long t, t.place)
 
 -- What is stored for them.
-pub puts-one : (q d at : ℕ) (o : List ℕ) → d ≡ digitAt 1 q → Puts (one q) o at (at + 1) (set o at d)
+pub puts_one : (q d at : ℕ) (o : List ℕ) → d ≡ digit_at 1 q → Puts (one q) o at (at + 1) (set o at d)
 unfolding one
-puts-one q d at o e = rw (← e) (puts-byte o at d)
+puts_one q d at o e = rw (← e) (puts-byte o at d)
 
 pub puts-two : (q at i j : ℕ) (o p r : List ℕ) → Puts (one (q / 10)) o at i p → Puts (one q) p i j r → Puts (two q) o at j r
-puts-two q at i j o p r s t = puts-as (two-is q) (puts-both s t)
+puts-two q at i j o p r s t = puts-as (two_is q) (puts-both s t)
 
 -- A value and the byte behind it.
-pub value-long : (v e : ℕ) → length (valueText v e) ≡ length (digits v) + 1
-unfolding valueText
+pub value-long : (v e : ℕ) → length (value_text v e) ≡ length (digits v) + 1
+unfolding value_text
 value-long v e = length-append (digits v) (e ∷ [])
 
-pub value-room : (v e at n : ℕ) → at + length (valueText v e) ≤ n → at + length (digits v) ≤ n
-value-room v e at n h = omega (arith, value-long v e)
+pub value_room : (v e at n : ℕ) → at + length (value_text v e) ≤ n → at + length (digits v) ≤ n
+value_room v e at n h = omega (arith, value-long v e)
 
 module _ (v at i : ℕ) (o p : List ℕ) (s : Puts (digits v) o at i p) where
-  pub end-room : (e : ℕ) → at + length (valueText v e) ≤ length o → i < length p
-  end-room e h = omega (arith, value-long v e, puts-long s, s .place)
+  pub end-room : (e : ℕ) → at + length (value_text v e) ≤ length o → i < length p
+  end-room e h = omega (arith, value-long v e, puts-long s, s.place)
 
-  pub puts-value : (e : ℕ) → Puts (valueText v e) o at (i + 1) (set p i e)
-  unfolding valueText
+  pub puts-value : (e : ℕ) → Puts (value_text v e) o at (i + 1) (set p i e)
+  unfolding value_text
   puts-value e = puts-both s (puts-byte p i e)
 
 -- How many digits: one, and one more for each limit that is reached.
-pub width-sum : (v a b c d : ℕ) → a ≡ ifLt v 10 0 1 → b ≡ ifLt v 100 0 1 → c ≡ ifLt v 1000 0 1 → d ≡ ifLt v 10000 0 1
+pub width_sum : (v a b c d : ℕ) → a ≡ if_lt v 10 0 1 → b ≡ if_lt v 100 0 1 → c ≡ if_lt v 1000 0 1 → d ≡ if_lt v 10000 0 1
     → 1 + a + b + c + d ≡ length (digits v)
-width-sum v a b c d p q r s = go (decLt v 10) (decLt v 100) (decLt v 1000) (decLt v 10000)
+width_sum v a b c d p q r s = go (dec_lt v 10) (dec_lt v 100) (dec_lt v 1000) (dec_lt v 10000)
   where
-    below : (n : ℕ) → v < n → _≡_ {A = ℕ} (ifLt v n 0 1) 0
-    below n h = lt-then v n 0 1 h
+    below : (n : ℕ) → v < n → ◌≡◌ {A = ℕ} (if_lt v n 0 1) 0
+    below n h = lt_then v n 0 1 h
 
-    above : (n : ℕ) → n ≤ v → _≡_ {A = ℕ} (ifLt v n 0 1) 1
-    above n h = lt-else v n 0 1 h
+    above : (n : ℕ) → n ≤ v → ◌≡◌ {A = ℕ} (if_lt v n 0 1) 1
+    above n h = lt_else v n 0 1 h
 
     go : Dec (v < 10) → Dec (v < 100) → Dec (v < 1000) → Dec (v < 10000) → 1 + a + b + c + d ≡ length (digits v)
     go (yes h) i j k =
@@ -124,7 +124,7 @@ width-sum v a b c d p q r s = go (decLt v 10) (decLt v 100) (decLt v 1000) (decL
     go (no h) (no i) (yes j) k =
         omega (
           arith,
-          three-wide v (omega arith) (omega arith) j,
+          three_wide v (omega arith) (omega arith) j,
           above 10 (omega arith),
           above 100 (omega arith),
           below 1000 j,
@@ -133,7 +133,7 @@ width-sum v a b c d p q r s = go (decLt v 10) (decLt v 100) (decLt v 1000) (decL
     go (no h) (no i) (no j) (yes k) =
         omega (
           arith,
-          four-wide v (omega arith) (omega arith) (omega arith) k,
+          four_wide v (omega arith) (omega arith) (omega arith) k,
           above 10 (omega arith),
           above 100 (omega arith),
           above 1000 (omega arith),
@@ -142,7 +142,7 @@ width-sum v a b c d p q r s = go (decLt v 10) (decLt v 100) (decLt v 1000) (decL
     go (no h) (no i) (no j) (no k) =
         omega (
           arith,
-          five-wide v (omega arith) (omega arith) (omega arith) (omega arith),
+          five_wide v (omega arith) (omega arith) (omega arith) (omega arith),
           above 10 (omega arith),
           above 100 (omega arith),
           above 1000 (omega arith),

@@ -1,128 +1,128 @@
 -- A file that is read up to a place: the invariant of the loop over its lines, and how it begins, goes on and ends.
-use Prim.Native.Nat.{ℕ, suc, _+_, _*_, _-_, _/_, _≤_, _<_}
-use mathlib.Core.Path.{_≡_, refl, sym, _∙_, ap}
+use Prim.Native.Nat.{ℕ, suc, ◌+◌, ◌*◌, ◌-◌, ◌/◌, ◌≤◌, ◌<◌}
+use mathlib.Core.Path.{◌≡◌, refl, sym, ◌∙◌, ap}
 use mathlib.Core.Bool.{Bool, true, false}
-use mathlib.Core.List.{List, [], _++_, append-nil, append-assoc}
+use mathlib.Core.List.{List, [], ◌++◌, append-nil, append_assoc}
 use native.Mathlib.Omega.{arith}
-use native.Mathlib.Decide.{decLt}
-use lib.ListN.{length, take, drop, length-append, drop-of-length-le}
-use lib.Seq.{take-nil, take-all, take-at, take-append-le, drop-at, drop-drop}
-use Rattle·model.specs.Limits.{rowSize, maxBytes}
-use Rattle·model.specs.Text.{ends, linesOf}
-use Rattle·model.specs.Rows.{rowCount}
-use Rattle·model.specs.Lists.{overwrite}
-use Rattle·model.specs.Verdicts.{refusal, Reading, Numbers, Unread, rowThen, readLines, readAll, readFile}
-use Rattle·basics.proofs.Choices.{lt-then, lt-else}
-use Rattle·shows.proofs.Lines.{spelled-many}
-use Rattle·lines.proofs.LineTexts.{line-text, line-counted}
-use Rattle·codec·specs.specs.Scanning.{namesSize, stored, StepSays, startsNamed}
-use Rattle·codec·specs.specs.Parsing.{filled, Parses}
-use Rattle·codec·specs.specs.declared.Parsed.{Parsed}
-use Rattle·codec·specs.specs.declared.Parsed.the-variants.{Rows, Refused}
-use Rattle·codec·specs.specs.declared.Step.the-variants.{On, Done}
-use Rattle·codec·proofs.proofs.Names.{named-long, named-read, unnamed-read}
-use Rattle·codec·proofs.proofs.RowScan.{row-line}
-use Rattle·codec·proofs.proofs.FileScan.{read-on, read-off}
+use native.Mathlib.Decide.{dec_lt}
+use lib.ListN.{length, take, drop, length-append, drop_of_length-le}
+use lib.Seq.{take-nil, take_all, take_at, take-append-le, drop_at, drop-drop}
+use Rattle.model.specs.Limits.{row_size, max_bytes}
+use Rattle.model.specs.Text.{ends, lines_of}
+use Rattle.model.specs.Rows.{row_count}
+use Rattle.model.specs.Lists.{overwrite}
+use Rattle.model.specs.Verdicts.{refusal, Reading, Numbers, Unread, row_then, read_lines, read_all, read_file}
+use Rattle.basics.proofs.Choices.{lt_then, lt_else}
+use Rattle.shows.proofs.Lines.{spelled_many}
+use Rattle.lines.proofs.LineTexts.{line_text_lem, line_counted}
+use Rattle.codec.specs.Scanning.{names_size, stored, StepSays, starts_named}
+use Rattle.codec.specs.Parsing.{filled, Parses}
+use Rattle.codec.specs.declared.Parsed.{Parsed}
+use Rattle.codec.specs.declared.Parsed.TheVariants.{Rows, Refused}
+use Rattle.codec.specs.declared.Step.TheVariants.{On, Done}
+use Rattle.codec.proofs.Names.{named-long, named-read, unnamed_read}
+use Rattle.codec.proofs.RowScan.{row_line}
+use Rattle.codec.proofs.FileScan.{read-on, read_off}
 
 -- n rows were read up to place at: their numbers, of which those that have room stand in the lent rows, and what is left to read.
 pub record Sofar (f lent : List ℕ) (at n : ℕ) (rows : List ℕ) : Type 0 where
   pub xs : List ℕ
-  pub reads : readFile f ≡ rowThen xs (readLines (n + 2) (linesOf (drop at f)))
-  pub many : length xs ≡ n * rowSize
+  pub reads : read_file f ≡ row_then xs (read_lines (n + 2) (lines_of (drop at f)))
+  pub many : length xs ≡ n * row_size
   pub kept : rows ≡ filled xs lent
   pub inside : at ≤ length f
   pub few : n ≤ at
   pub long : length rows ≡ length lent
 
-then-none : (k : Reading) → k ≡ rowThen [] k
-unfolding rowThen
+then-none : (k : Reading) → k ≡ row_then [] k
+unfolding row_then
 then-none (Numbers xs) = refl
 then-none (Unread r) = refl
 
-then-both : (vs ws : List ℕ) (k : Reading) → rowThen vs (rowThen ws k) ≡ rowThen (vs ++ ws) k
-unfolding rowThen
-then-both vs ws (Numbers xs) = rw (append-assoc vs ws xs)
+then-both : (vs ws : List ℕ) (k : Reading) → row_then vs (row_then ws k) ≡ row_then (vs ++ ws) k
+unfolding row_then
+then-both vs ws (Numbers xs) = rw (append_assoc vs ws xs)
 then-both vs ws (Unread r) = refl
 
-pub sofar-begin : (f rows : List ℕ) → length f ≤ maxBytes → startsNamed f ≡ true → Sofar f rows namesSize 0 rows
-unfolding readFile filled overwrite
-sofar-begin f rows h e =
+pub sofar_begin : (f rows : List ℕ) → length f ≤ max_bytes → starts_named f ≡ true → Sofar f rows names_size 0 rows
+unfolding read_file filled overwrite
+sofar_begin f rows h e =
     record {
       xs = [];
-      reads = lt-else _ _ _ _ h ∙ named-read f e ∙ then-none (readLines 2 (linesOf (drop namesSize f)));
+      reads = lt_else _ _ _ _ h ∙ named-read f e ∙ then-none (read_lines 2 (lines_of (drop names_size f)));
       many = refl;
-      kept = rw (take-nil (rowCount rows * rowSize)) refl;
+      kept = rw (take-nil (row_count rows * row_size)) refl;
       inside = named-long f e;
       few = omega arith;
       long = refl;
     }
 
 -- The numbers of one more row.
-stored-in : (xs vs rows lent : List ℕ) (r : ℕ) → length rows ≡ length lent → length xs ≡ r * rowSize → length vs ≡ rowSize
+stored-in : (xs vs rows lent : List ℕ) (r : ℕ) → length rows ≡ length lent → length xs ≡ r * row_size → length vs ≡ row_size
     → rows ≡ filled xs lent → stored r vs rows ≡ filled (xs ++ vs) lent
-unfolding stored filled overwrite rowCount
-stored-in xs vs rows lent r long m n p = go (decLt r (length rows / rowSize))
+unfolding stored filled overwrite row_count
+stored-in xs vs rows lent r long m n p = go (dec_lt r (length rows / row_size))
   where
     room : ℕ
-    room = length lent / rowSize * rowSize
+    room = length lent / row_size * row_size
 
-    go : Dec (r < length rows / rowSize) → stored r vs rows ≡ filled (xs ++ vs) lent
+    go : Dec (r < length rows / row_size) → stored r vs rows ≡ filled (xs ++ vs) lent
     go (yes h) =
-        let q : rows ≡ xs ++ drop (length xs) lent = p ∙ rw (take-all room xs (omega arith)) in
-        let a : take (r * rowSize) rows ≡ xs = ap (take (r * rowSize)) q ∙ take-at xs _ (r * rowSize) m in
-        let b : drop (r * rowSize) rows ≡ drop (r * rowSize) lent = ap (drop (r * rowSize)) q ∙ drop-at xs _ (r * rowSize) m ∙ rw m in
-        let l : length (xs ++ vs) ≡ r * rowSize + rowSize = length-append xs vs ∙ rw (m, n) in
-        lt-then r (length rows / rowSize) _ _ h
-        ∙ rw (a, b, drop-drop rowSize (r * rowSize) lent, take-all room (xs ++ vs) (omega (arith, l)), l)
-        (sym (append-assoc xs vs (drop (r * rowSize + rowSize) lent)))
+        let q : rows ≡ xs ++ drop (length xs) lent = p ∙ rw (take_all room xs (omega arith)) in
+        let a : take (r * row_size) rows ≡ xs = ap (take (r * row_size)) q ∙ take_at xs _ (r * row_size) m in
+        let b : drop (r * row_size) rows ≡ drop (r * row_size) lent = ap (drop (r * row_size)) q ∙ drop_at xs _ (r * row_size) m ∙ rw m in
+        let l : length (xs ++ vs) ≡ r * row_size + row_size = length-append xs vs ∙ rw (m, n) in
+        lt_then r (length rows / row_size) _ _ h
+        ∙ rw (a, b, drop-drop row_size (r * row_size) lent, take_all room (xs ++ vs) (omega (arith, l)), l)
+        (sym (append_assoc xs vs (drop (r * row_size + row_size) lent)))
     go (no h) =
-        lt-else r (length rows / rowSize) _ _ (omega arith) ∙ p ∙ ap (λ (ys : List ℕ). overwrite ys lent) (sym (take-append-le room xs vs (omega arith)))
+        lt_else r (length rows / row_size) _ _ (omega arith) ∙ p ∙ ap (λ (ys : List ℕ). overwrite ys lent) (sym (take-append-le room xs vs (omega arith)))
 
 module _ (f lent rows ys : List ℕ) (at n : ℕ) (s : Sofar f lent at n rows) (m : length ys ≡ length rows) where
   -- One more line: its row is stored, and less of the file is left.
   module _ (next : ℕ) (w : StepSays f at n (On next) rows ys) where
-    pub sofar-less : length f - next < length f - at
+    pub sofar_less : length f - next < length f - at
     unfolding StepSays ends
-    sofar-less =
-        let (vs, p, q) = row-line _ n next rows ys (w .1) in
-        omega (arith, w .0, line-counted ends f at vs next p (omega arith) at (omega arith) (s .inside) .0)
+    sofar_less =
+        let (vs, p, q) = row_line _ n next rows ys w.1 in
+        omega (arith, w.0, (line_counted ends f at vs next p (omega arith) at (omega arith) s.inside).0)
 
-    pub sofar-on : Sofar f lent next (n + 1) ys
+    pub sofar_on : Sofar f lent next (n + 1) ys
     unfolding StepSays ends
-    sofar-on =
-        let (vs, p, q) = row-line _ n next rows ys (w .1) in
-        let many : length vs ≡ rowSize = spelled-many (line-text ends f at vs next p .spells) in
-        let (few, inside) = line-counted ends f at vs next p (omega arith) n (s .few) (s .inside) in
+    sofar_on =
+        let (vs, p, q) = row_line _ n next rows ys w.1 in
+        let many : length vs ≡ row_size = spelled_many (line_text_lem ends f at vs next p).spells in
+        let (few, inside) = line_counted ends f at vs next p (omega arith) n s.few s.inside in
         let e : suc (n + 2) ≡ n + 1 + 2 = omega arith in
         record {
-          xs = s .xs ++ vs;
-          reads = s .reads ∙ rw (read-on f at (n + 2) vs next p, e) (then-both (s .xs) vs _);
-          many = rw (length-append (s .xs) vs, s .many, many) (omega arith);
-          kept = q ∙ stored-in (s .xs) vs rows lent n (s .long) (s .many) many (s .kept);
+          xs = s.xs ++ vs;
+          reads = s.reads ∙ rw (read-on f at (n + 2) vs next p, e) (then-both s.xs vs _);
+          many = rw (length-append s.xs vs, s.many, many) (omega arith);
+          kept = q ∙ stored-in s.xs vs rows lent n s.long s.many many s.kept;
           inside = inside;
           few = few;
-          long = m ∙ s .long;
+          long = m ∙ s.long;
         }
 
   -- The end of reading: the file's rows, or a line that is none.
-  pub sofar-done : (p : Parsed) → StepSays f at n (Done p) rows ys → Parses (readFile f) p lent ys
-  unfolding StepSays Parses rowThen readLines linesOf rowCount
-  sofar-done (Rows k) w =
+  pub sofar_done : (p : Parsed) → StepSays f at n (Done p) rows ys → Parses (read_file f) p lent ys
+  unfolding StepSays Parses row_then read_lines lines_of row_count
+  sofar_done (Rows k) w =
       let (h, e, q) = w in
-      let c : length (s .xs) / rowSize ≡ n = omega (arith, s .many) in
-      rw (s .reads, drop-of-length-le f {i = at} h, append-nil (s .xs), c, e, q) (refl, s .kept)
-  sofar-done (Refused r) w =
+      let c : length s.xs / row_size ≡ n = omega (arith, s.many) in
+      rw (s.reads, drop_of_length-le f {i = at} h, append-nil s.xs, c, e, q) (refl, s.kept)
+  sofar_done (Refused r) w =
       let (h, e, q) = w in
-      rw (s .reads, read-off f at (n + 2) h e, q)
+      rw (s.reads, read_off f at (n + 2) h e, q)
 
 -- The refusals of a whole file.
-pub long-refused : (f lent ys : List ℕ) (p : Parsed) → maxBytes < length f → p ≡ Refused (record { number = 1; place = 0 })
-    → Parses (readFile f) p lent ys
-unfolding Parses readFile refusal
-long-refused f lent ys p h g = rw (lt-then maxBytes (length f) (Unread (refusal 1 0)) (readAll (linesOf f)) h) g
+pub long-refused : (f lent ys : List ℕ) (p : Parsed) → max_bytes < length f → p ≡ Refused (record { number = 1; place = 0 })
+    → Parses (read_file f) p lent ys
+unfolding Parses read_file refusal
+long-refused f lent ys p h g = rw (lt_then max_bytes (length f) (Unread (refusal 1 0)) (read_all (lines_of f)) h) g
 
-pub unnamed-refused : (f lent ys : List ℕ) (p : Parsed) (t : Bool) → length f ≤ maxBytes → t ≡ startsNamed f → t ≡ false
-    → p ≡ Refused (record { number = 2; place = 1 }) → Parses (readFile f) p lent ys
-unfolding Parses readFile refusal
-unnamed-refused f lent ys p t h q e g =
-    rw (lt-else maxBytes (length f) (Unread (refusal 1 0)) (readAll (linesOf f)) h, unnamed-read f (sym q ∙ e)) g
+pub unnamed_refused : (f lent ys : List ℕ) (p : Parsed) (t : Bool) → length f ≤ max_bytes → t ≡ starts_named f → t ≡ false
+    → p ≡ Refused (record { number = 2; place = 1 }) → Parses (read_file f) p lent ys
+unfolding Parses read_file refusal
+unnamed_refused f lent ys p t h q e g =
+    rw (lt_else max_bytes (length f) (Unread (refusal 1 0)) (read_all (lines_of f)) h, unnamed_read f (sym q ∙ e)) g

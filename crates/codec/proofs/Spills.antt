@@ -1,64 +1,64 @@
 -- Values that are stored with bytes behind them, which the next text overwrites; and the table that they are copied from.
-use Prim.Native.Nat.{ℕ, zero, suc, _+_, _*_, _-_, _≤_, _<_}
-use mathlib.Core.Path.{_≡_, refl, sym, _∙_, ap}
-use mathlib.Core.List.{List, [], _∷_, _++_, append-nil, append-assoc}
+use Prim.Native.Nat.{ℕ, zero, suc, ◌+◌, ◌*◌, ◌-◌, ◌≤◌, ◌<◌}
+use mathlib.Core.Path.{◌≡◌, refl, sym, ◌∙◌, ap}
+use mathlib.Core.List.{List, [], ◌∷◌, ◌++◌, append-nil, append_assoc}
 use native.Mathlib.Omega.{arith}
-use native.Mathlib.Decide.{decLt}
-use lib.ListN.{length, getD, take, drop, set, length-set, length-append}
-use lib.Seq.{sets, length-sets, length-take-le, drop-cons, set-set, set-comm, take-at, take-take, getD-at, getD-take, getD-drop, take-append-add, drop-append-add}
-use Rattle·model.specs.Choice.{ifLt}
-use Rattle·model.specs.Values.{digitZero}
-use Rattle·model.specs.Text.{comma}
-use Rattle·basics.proofs.Choices.{lt-then, lt-else}
-use Rattle·codec·specs.specs.Writing.{tableSize, textSize, valueText, Puts, Spills, fourBytes, shortText, shortTexts}
-use Rattle·codec·proofs.proofs.Stores.{sets-both}
-use Rattle·codec·proofs.proofs.DigitStores.{value-long, width-sum}
+use native.Mathlib.Decide.{dec_lt}
+use lib.ListN.{length, get_or, take, drop, set, length-set, length-append}
+use lib.Seq.{sets, length-sets, length-take-le, drop-cons, set-set, set_comm, take_at, take-take, get_or_at, get_or-take, get_or-drop, take-append-add, drop-append-add}
+use Rattle.model.specs.Choice.{if_lt}
+use Rattle.model.specs.Values.{digit_zero}
+use Rattle.model.specs.Text.{comma}
+use Rattle.basics.proofs.Choices.{lt_then, lt_else}
+use Rattle.codec.specs.Writing.{table_size, text_size, value_text, Puts, Spills, four_bytes, short_text, short_texts}
+use Rattle.codec.proofs.Stores.{sets_both}
+use Rattle.codec.proofs.DigitStores.{value-long, width_sum}
 
 -- A text that is as long as one before it overwrites that.
 set-sets : (a l : List ℕ) (i j x : ℕ) → i < j → set (sets l j a) i x ≡ sets (set l i x) j a
 set-sets [] l i j x h = refl
 set-sets (y ∷ a) l i j x h =
     set-sets a (set l j y) i (suc j) x (omega arith)
-    ∙ ap (λ (m : List ℕ). sets m (suc j) a) (set-comm l j i y x (λ e. omega arith))
+    ∙ ap (λ (m : List ℕ). sets m (suc j) a) (set_comm l j i y x (λ e. omega arith))
 
-sets-over : (a b o : List ℕ) (at : ℕ) → length a ≤ length b → sets (sets o at a) at b ≡ sets o at b
-sets-over [] b o at h = refl
-sets-over (x ∷ a) [] o at h = absurd (omega arith)
-sets-over (x ∷ a) (y ∷ b) o at h =
+sets_over : (a b o : List ℕ) (at : ℕ) → length a ≤ length b → sets (sets o at a) at b ≡ sets o at b
+sets_over [] b o at h = refl
+sets_over (x ∷ a) [] o at h = absurd (omega arith)
+sets_over (x ∷ a) (y ∷ b) o at h =
     ap (λ (m : List ℕ). sets m (suc at) b)
     (set-sets a (set o at x) at (suc at) y (omega arith) ∙ ap (λ (m : List ℕ). sets m (suc at) a) (set-set o at x y))
-    ∙ sets-over a b (set o at y) (suc at) (omega arith)
+    ∙ sets_over a b (set o at y) (suc at) (omega arith)
 
-sets-next : (a m b o : List ℕ) (at : ℕ) → length m ≤ length b → sets (sets o at (a ++ m)) (at + length a) b ≡ sets o at (a ++ b)
-sets-next a m b o at h =
-    ap (λ (l : List ℕ). sets l (at + length a) b) (sym (sets-both a m o at))
-    ∙ sets-over m b (sets o at a) (at + length a) h
-    ∙ sets-both a b o at
+sets_next : (a m b o : List ℕ) (at : ℕ) → length m ≤ length b → sets (sets o at (a ++ m)) (at + length a) b ≡ sets o at (a ++ b)
+sets_next a m b o at h =
+    ap (λ (l : List ℕ). sets l (at + length a) b) (sym (sets_both a m o at))
+    ∙ sets_over m b (sets o at a) (at + length a) h
+    ∙ sets_both a b o at
 
-pub spills-long : {a o p : List ℕ} {at i : ℕ} → Spills a o at i p → length p ≡ length o
-spills-long {a} {o} {p} {at} s = ap length (s .bytes) ∙ length-sets o at (a ++ s .more)
+pub spills_long : {a o p : List ℕ} {at i : ℕ} → Spills a o at i p → length p ≡ length o
+spills_long {a} {o} {p} {at} s = ap length s.bytes ∙ length-sets o at (a ++ s.more)
 
 pub puts-spill : {a o p : List ℕ} {at i : ℕ} → Puts a o at i p → Spills a o at i p
-puts-spill {a} s = record { more = []; few = omega arith; place = s .place; bytes = s .bytes ∙ rw (append-nil a) }
+puts-spill {a} s = record { more = []; few = omega arith; place = s.place; bytes = s.bytes ∙ rw (append-nil a) }
 
 module _ {a b o p q : List ℕ} {at i j : ℕ} (s : Spills a o at i p) (h : 2 ≤ length b) where
-  spills-both : Spills b p i j q → Spills (a ++ b) o at j q
-  spills-both t =
-      let l : length (s .more) ≤ length (b ++ t .more) = rw (length-append b (t .more)) (omega (arith, s .few)) in
+  spills_both : Spills b p i j q → Spills (a ++ b) o at j q
+  spills_both t =
+      let l : length s.more ≤ length (b ++ t.more) = rw (length-append b t.more) (omega (arith, s.few)) in
       record {
-        more = t .more;
-        few = t .few;
-        place = rw (length-append a b) (omega (arith, s .place, t .place));
+        more = t.more;
+        few = t.few;
+        place = rw (length-append a b) (omega (arith, s.place, t.place));
         bytes =
-            t .bytes
-            ∙ rw (s .bytes, s .place) (sets-next a (s .more) (b ++ t .more) o at l ∙ ap (sets o at) (sym (append-assoc a b (t .more))));
+            t.bytes
+            ∙ rw (s.bytes, s.place) (sets_next a s.more (b ++ t.more) o at l ∙ ap (sets o at) (sym (append_assoc a b t.more)));
       }
 
-  spills-puts : Puts b p i j q → Puts (a ++ b) o at j q
-  spills-puts t =
+  spills_puts : Puts b p i j q → Puts (a ++ b) o at j q
+  spills_puts t =
       record {
-        place = rw (length-append a b) (omega (arith, s .place, t .place));
-        bytes = t .bytes ∙ rw (s .bytes, s .place) (sets-next a (s .more) b o at (omega (arith, s .few)));
+        place = rw (length-append a b) (omega (arith, s.place, t.place));
+        bytes = t.bytes ∙ rw (s.bytes, s.place) (sets_next a s.more b o at (omega (arith, s.few)));
       }
 
 -- A text is stored so up to a place: what is left of it.
@@ -67,8 +67,8 @@ pub record Spilled (whole rest o : List ℕ) (from at : ℕ) (p : List ℕ) : Ty
   pub split : done ++ rest ≡ whole
   pub spills : Spills done o from at p
 
-pub spilled-begin : (w o : List ℕ) (from : ℕ) → Spilled w w o from from o
-spilled-begin w o from =
+pub spilled_begin : (w o : List ℕ) (from : ℕ) → Spilled w w o from from o
+spilled_begin w o from =
     record {
       done = [];
       split = refl;
@@ -76,116 +76,116 @@ spilled-begin w o from =
     }
 
 module _ (w rest a b o p : List ℕ) (from at : ℕ) (e : rest ≡ a ++ b) (h : 2 ≤ length a) (s : Spilled w rest o from at p) where
-  pub spilled-on : (q : List ℕ) (next : ℕ) → Spills a p at next q → Spilled w b o from next q
-  spilled-on q next t =
+  pub spilled_on : (q : List ℕ) (next : ℕ) → Spills a p at next q → Spilled w b o from next q
+  spilled_on q next t =
       record {
-        done = s .done ++ a;
-        split = append-assoc (s .done) a b ∙ rw e at (s .split);
-        spills = spills-both (s .spills) h t;
+        done = s.done ++ a;
+        split = append_assoc s.done a b ∙ rw e at s.split;
+        spills = spills_both s.spills h t;
       }
 
-  pub spilled-end : (q : List ℕ) (next : ℕ) → b ≡ [] → Puts a p at next q → Puts w o from next q
-  spilled-end q next n t =
+  pub spilled_end : (q : List ℕ) (next : ℕ) → b ≡ [] → Puts a p at next q → Puts w o from next q
+  spilled_end q next n t =
       let f : rest ≡ a = e ∙ rw n (append-nil a) in
-      rw (rw f at (s .split)) at (spills-puts (s .spills) h t)
+      rw (rw f at s.split) at (spills_puts s.spills h t)
 
-  pub spilled-room : from + length w ≤ length o → at + length a + length b ≤ length p
-  spilled-room k =
-      let l : length w ≡ length (s .done) + (length a + length b) =
-      ap length (sym (s .split)) ∙ rw (e, length-append (s .done) (a ++ b), length-append a b) in
-      omega (arith, spills-long (s .spills), s .spills .place)
+  pub spilled_room : from + length w ≤ length o → at + length a + length b ≤ length p
+  spilled_room k =
+      let l : length w ≡ length s.done + (length a + length b) =
+      ap length (sym s.split) ∙ rw (e, length-append s.done (a ++ b), length-append a b) in
+      omega (arith, spills_long s.spills, s.spills.place)
 
 -- The table: four bytes and a digit for each value.
-pub text-some : (v e : ℕ) → 2 ≤ length (valueText v e)
-text-some v e = omega (arith, value-long v e, width-sum v _ _ _ _ refl refl refl refl)
+pub text-some : (v e : ℕ) → 2 ≤ length (value_text v e)
+text-some v e = omega (arith, value-long v e, width_sum v _ _ _ _ refl refl refl refl)
 
-four-long : (v : ℕ) → length (fourBytes v) ≡ 4
-unfolding fourBytes
-four-long v =
-    length-take-le 4 (valueText v comma ++ (comma ∷ comma ∷ []))
-    (rw (length-append (valueText v comma) (comma ∷ comma ∷ [])) (omega (arith, text-some v comma)))
+four_long : (v : ℕ) → length (four_bytes v) ≡ 4
+unfolding four_bytes
+four_long v =
+    length-take-le 4 (value_text v comma ++ (comma ∷ comma ∷ []))
+    (rw (length-append (value_text v comma) (comma ∷ comma ∷ [])) (omega (arith, text-some v comma)))
 
-short-long : (v : ℕ) → length (shortText v) ≡ textSize
-unfolding shortText
-short-long v = length-append (fourBytes v) ((digitZero + length (valueText v comma)) ∷ []) ∙ rw (four-long v)
+short-long : (v : ℕ) → length (short_text v) ≡ text_size
+unfolding short_text
+short-long v = length-append (four_bytes v) ((digit_zero + length (value_text v comma)) ∷ []) ∙ rw (four_long v)
 
-texts-long : (v n : ℕ) → length (shortTexts v n) ≡ n * textSize
-unfolding shortTexts
-texts-long v zero = refl
-texts-long v (suc n) =
-    length-append (shortText v) (shortTexts (suc v) n) ∙ rw (short-long v, texts-long (suc v) n) (omega arith)
+texts_long : (v n : ℕ) → length (short_texts v n) ≡ n * text_size
+unfolding short_texts
+texts_long v zero = refl
+texts_long v (suc n) =
+    length-append (short_text v) (short_texts (suc v) n) ∙ rw (short-long v, texts_long (suc v) n) (omega arith)
 
-texts-at : (v n k : ℕ) → k < n → take textSize (drop (k * textSize) (shortTexts v n)) ≡ shortText (v + k)
-unfolding shortTexts
-texts-at v zero k h = absurd (omega arith)
-texts-at v (suc n) zero h =
+texts_at : (v n k : ℕ) → k < n → take text_size (drop (k * text_size) (short_texts v n)) ≡ short_text (v + k)
+unfolding short_texts
+texts_at v zero k h = absurd (omega arith)
+texts_at v (suc n) zero h =
     let e : v + 0 ≡ v = omega arith in
-    rw e (take-at (shortText v) (shortTexts (suc v) n) textSize (short-long v))
-texts-at v (suc n) (suc k) h =
-    let e : suc k * textSize ≡ length (shortText v) + k * textSize = rw (short-long v) (omega arith) in
+    rw e (take_at (short_text v) (short_texts (suc v) n) text_size (short-long v))
+texts_at v (suc n) (suc k) h =
+    let e : suc k * text_size ≡ length (short_text v) + k * text_size = rw (short-long v) (omega arith) in
     let f : v + suc k ≡ suc v + k = omega arith in
-    rw (e, f, drop-append-add (shortText v) (shortTexts (suc v) n) (k * textSize)) (texts-at (suc v) n k (omega arith))
+    rw (e, f, drop-append-add (short_text v) (short_texts (suc v) n) (k * text_size)) (texts_at (suc v) n k (omega arith))
 
-at-most-one : (v k : ℕ) → ifLt v k 0 1 ≤ 1
-at-most-one v k = go (decLt v k)
+at_most_one : (v k : ℕ) → if_lt v k 0 1 ≤ 1
+at_most_one v k = go (dec_lt v k)
   where
-    go : Dec (v < k) → ifLt v k 0 1 ≤ 1
-    go (yes h) = let e : _≡_ {A = ℕ} (ifLt v k 0 1) 0 = lt-then v k 0 1 h in omega arith
-    go (no h) = let e : _≡_ {A = ℕ} (ifLt v k 0 1) 1 = lt-else v k 0 1 (omega arith) in omega arith
+    go : Dec (v < k) → if_lt v k 0 1 ≤ 1
+    go (yes h) = let e : ◌≡◌ {A = ℕ} (if_lt v k 0 1) 0 = lt_then v k 0 1 h in omega arith
+    go (no h) = let e : ◌≡◌ {A = ℕ} (if_lt v k 0 1) 1 = lt_else v k 0 1 (omega arith) in omega arith
 
-module _ (v n : ℕ) (ts : List ℕ) (h : v < tableSize) (e : n ≡ v) (t : ts ≡ shortTexts 0 tableSize) where
-  pub size-room : n * textSize + 4 < length ts
-  size-room = rw (t, texts-long 0 tableSize) (omega arith)
+module _ (v n : ℕ) (ts : List ℕ) (h : v < table_size) (e : n ≡ v) (t : ts ≡ short_texts 0 table_size) where
+  pub size_room : n * text_size + 4 < length ts
+  size_room = rw (t, texts_long 0 table_size) (omega arith)
 
-  pub four-room : n * textSize + 4 ≤ length ts
-  four-room = omega (arith, size-room)
+  pub four_room : n * text_size + 4 ≤ length ts
+  four_room = omega (arith, size_room)
 
-  entry : take textSize (drop (n * textSize) ts) ≡ shortText v
-  entry = let z : 0 + v ≡ v = omega arith in rw (e, t, texts-at 0 tableSize v h, z)
+  entry : take text_size (drop (n * text_size) ts) ≡ short_text v
+  entry = let z : 0 + v ≡ v = omega arith in rw (e, t, texts_at 0 table_size v h, z)
 
-  size-at : getD ts (n * textSize + 4) 0 ≡ digitZero + length (valueText v comma)
-  unfolding shortText
+  size-at : get_or ts (n * text_size + 4) 0 ≡ digit_zero + length (value_text v comma)
+  unfolding short_text
   size-at =
-      sym (getD-drop (n * textSize) ts 4 0)
-      ∙ sym (getD-take textSize (drop (n * textSize) ts) 4 0 (omega arith))
-      ∙ rw entry (getD-at (fourBytes v) (digitZero + length (valueText v comma)) [] 0 4 (four-long v))
+      sym (get_or-drop (n * text_size) ts 4 0)
+      ∙ sym (get_or-take text_size (drop (n * text_size) ts) 4 0 (omega arith))
+      ∙ rw entry (get_or_at (four_bytes v) (digit_zero + length (value_text v comma)) [] 0 4 (four_long v))
 
-  four-at : take 4 (drop (n * textSize) ts) ≡ fourBytes v
-  unfolding shortText
-  four-at =
-      sym (take-take 4 textSize (drop (n * textSize) ts) (omega arith))
-      ∙ rw entry (take-at (fourBytes v) ((digitZero + length (valueText v comma)) ∷ []) 4 (four-long v))
+  four_at : take 4 (drop (n * text_size) ts) ≡ four_bytes v
+  unfolding short_text
+  four_at =
+      sym (take-take 4 text_size (drop (n * text_size) ts) (omega arith))
+      ∙ rw entry (take_at (four_bytes v) ((digit_zero + length (value_text v comma)) ∷ []) 4 (four_long v))
 
-  short-wide : length (valueText v comma) ≤ 4
+  short-wide : length (value_text v comma) ≤ 4
   short-wide =
       omega (
         arith,
         value-long v comma,
-        width-sum v _ _ 0 0 refl refl (sym (lt-then v 1000 0 1 (omega arith))) (sym (lt-then v 10000 0 1 (omega arith))),
-        at-most-one v 10,
-        at-most-one v 100,
+        width_sum v _ _ 0 0 refl refl (sym (lt_then v 1000 0 1 (omega arith))) (sym (lt_then v 10000 0 1 (omega arith))),
+        at_most_one v 10,
+        at_most_one v 100,
       )
 
-  pub size-digit : digitZero ≤ getD ts (n * textSize + 4) 0
+  pub size-digit : digit_zero ≤ get_or ts (n * text_size + 4) 0
   size-digit = omega (arith, size-at)
 
-  pub comma-short : (o r : List ℕ) (at w : ℕ) → r ≡ sets o at (take 4 (drop (n * textSize) ts)) → w ≡ getD ts (n * textSize + 4) 0 - digitZero
-      → Spills (valueText v comma) o at (at + w) r
-  unfolding fourBytes
+  pub comma-short : (o r : List ℕ) (at w : ℕ) → r ≡ sets o at (take 4 (drop (n * text_size) ts)) → w ≡ get_or ts (n * text_size + 4) 0 - digit_zero
+      → Spills (value_text v comma) o at (at + w) r
+  unfolding four_bytes
   comma-short o r at w g s =
       let rest = comma ∷ comma ∷ [] in
-      let m = 4 - length (valueText v comma) in
-      let k : 4 ≡ length (valueText v comma) + m = omega (arith, short-wide) in
-      let f : fourBytes v ≡ valueText v comma ++ take m rest =
-      ap (λ (j : ℕ). take j (valueText v comma ++ rest)) k ∙ take-append-add (valueText v comma) rest m in
+      let m = 4 - length (value_text v comma) in
+      let k : 4 ≡ length (value_text v comma) + m = omega (arith, short-wide) in
+      let f : four_bytes v ≡ value_text v comma ++ take m rest =
+      ap (λ (j : ℕ). take j (value_text v comma ++ rest)) k ∙ take-append-add (value_text v comma) rest m in
       record {
         more = take m rest;
         few = omega (arith, length-take-le m rest (omega (arith, text-some v comma)), text-some v comma);
         place = omega (arith, size-at);
-        bytes = g ∙ rw four-at (ap (sets o at) f);
+        bytes = g ∙ rw four_at (ap (sets o at) f);
       }
 
-pub comma-room : (v at : ℕ) (o : List ℕ) → at + length (valueText v comma) + 2 ≤ length o → at + 4 ≤ length o
+pub comma-room : (v at : ℕ) (o : List ℕ) → at + length (value_text v comma) + 2 ≤ length o → at + 4 ≤ length o
 comma-room v at o h = omega (arith, text-some v comma)
 
 -- Four bytes that are copied.
@@ -193,17 +193,17 @@ module _ (o : List ℕ) (at x : ℕ) where
   pub second-room : at + 4 ≤ length o → at + 1 < length (set o at x)
   second-room h = omega (arith, length-set o at x)
 
-  pub third-room : (y : ℕ) → at + 4 ≤ length o → at + 2 < length (set (set o at x) (at + 1) y)
-  third-room y h = omega (arith, length-set o at x, length-set (set o at x) (at + 1) y)
+  pub third_room : (y : ℕ) → at + 4 ≤ length o → at + 2 < length (set (set o at x) (at + 1) y)
+  third_room y h = omega (arith, length-set o at x, length-set (set o at x) (at + 1) y)
 
-  pub fourth-room : (y z : ℕ) → at + 4 ≤ length o → at + 3 < length (set (set (set o at x) (at + 1) y) (at + 2) z)
-  fourth-room y z h =
+  pub fourth_room : (y z : ℕ) → at + 4 ≤ length o → at + 3 < length (set (set (set o at x) (at + 1) y) (at + 2) z)
+  fourth_room y z h =
       omega (arith, length-set o at x, length-set (set o at x) (at + 1) y, length-set (set (set o at x) (at + 1) y) (at + 2) z)
 
-pub four-stored : (f o : List ℕ) (i at : ℕ) → i + 4 ≤ length f
-    → set (set (set (set o at (getD f i 0)) (at + 1) (getD f (i + 1) 0)) (at + 2) (getD f (i + 2) 0)) (at + 3) (getD f (i + 3) 0)
+pub four_stored : (f o : List ℕ) (i at : ℕ) → i + 4 ≤ length f
+    → set (set (set (set o at (get_or f i 0)) (at + 1) (get_or f (i + 1) 0)) (at + 2) (get_or f (i + 2) 0)) (at + 3) (get_or f (i + 3) 0)
     ≡ sets o at (take 4 (drop i f))
-four-stored f o i at h =
+four_stored f o i at h =
     let a : at + 1 ≡ suc at = omega arith in
     let b : at + 2 ≡ suc (suc at) = omega arith in
     let c : at + 3 ≡ suc (suc (suc at)) = omega arith in

@@ -1,21 +1,21 @@
 -- Texts that are stored one behind the other.
-use Prim.Native.Nat.{ℕ, suc, _+_, _≤_}
-use mathlib.Core.Path.{_≡_, refl, sym, _∙_, ap}
-use mathlib.Core.List.{List, [], _∷_, _++_, append-nil, append-assoc}
+use Prim.Native.Nat.{ℕ, suc, ◌+◌, ◌≤◌}
+use mathlib.Core.Path.{◌≡◌, refl, sym, ◌∙◌, ap}
+use mathlib.Core.List.{List, [], ◌∷◌, ◌++◌, append-nil, append_assoc}
 use native.Mathlib.Omega.{arith}
 use lib.ListN.{length, set, length-append}
 use lib.Seq.{sets, length-sets, sets-eq}
-use Rattle·model.specs.Lists.{overwrite}
-use Rattle·codec·specs.specs.Writing.{Puts}
+use Rattle.model.specs.Lists.{overwrite}
+use Rattle.codec.specs.Writing.{Puts}
 
-pub sets-both : (a b o : List ℕ) (at : ℕ) → sets (sets o at a) (at + length a) b ≡ sets o at (a ++ b)
-sets-both [] b o at = let k : at + 0 ≡ at = omega arith in rw k
-sets-both (x ∷ a) b o at =
+pub sets_both : (a b o : List ℕ) (at : ℕ) → sets (sets o at a) (at + length a) b ≡ sets o at (a ++ b)
+sets_both [] b o at = let k : at + 0 ≡ at = omega arith in rw k
+sets_both (x ∷ a) b o at =
     let k : at + suc (length a) ≡ suc at + length a = omega arith in
-    rw k (sets-both a b (set o at x) (suc at))
+    rw k (sets_both a b (set o at x) (suc at))
 
-pub puts-none : (o : List ℕ) (at : ℕ) → Puts [] o at at o
-puts-none o at = record { place = omega arith; bytes = refl }
+pub puts_none : (o : List ℕ) (at : ℕ) → Puts [] o at at o
+puts_none o at = record { place = omega arith; bytes = refl }
 
 pub puts-byte : (o : List ℕ) (at e : ℕ) → Puts (e ∷ []) o at (at + 1) (set o at e)
 puts-byte o at e = record { place = refl; bytes = refl }
@@ -23,15 +23,15 @@ puts-byte o at e = record { place = refl; bytes = refl }
 pub puts-both : {a b o p q : List ℕ} {at i j : ℕ} → Puts a o at i p → Puts b p i j q → Puts (a ++ b) o at j q
 puts-both {a} {b} {o} {p} {q} {at} s t =
     record {
-      place = rw (length-append a b) (omega (arith, s .place, t .place));
-      bytes = t .bytes ∙ rw (s .bytes, s .place) (sets-both a b o at);
+      place = rw (length-append a b) (omega (arith, s.place, t.place));
+      bytes = t.bytes ∙ rw (s.bytes, s.place) (sets_both a b o at);
     }
 
 pub puts-as : {a b o p : List ℕ} {at i : ℕ} → b ≡ a → Puts a o at i p → Puts b o at i p
 puts-as e s = rw e s
 
 pub puts-long : {a o p : List ℕ} {at i : ℕ} → Puts a o at i p → length p ≡ length o
-puts-long {a} {o} {p} {at} s = ap length (s .bytes) ∙ length-sets o at a
+puts-long {a} {o} {p} {at} s = ap length s.bytes ∙ length-sets o at a
 
 -- Room for a text is room for its parts.
 pub room-same : (a w : List ℕ) (at n : ℕ) → w ≡ a → at + length w ≤ n → at + length a ≤ n
@@ -40,9 +40,9 @@ room-same a w at n e h = rw e at h
 pub room-first : (a b w : List ℕ) (at n : ℕ) → w ≡ a ++ b → at + length w ≤ n → at + length a ≤ n
 room-first a b w at n e h = omega (arith, ap length e ∙ length-append a b)
 
-pub room-next : (a b w o p : List ℕ) (at i : ℕ) → w ≡ a ++ b → at + length w ≤ length o → Puts a o at i p
+pub room_next : (a b w o p : List ℕ) (at i : ℕ) → w ≡ a ++ b → at + length w ≤ length o → Puts a o at i p
     → i + length b ≤ length p
-room-next a b w o p at i e h s = omega (arith, ap length e ∙ length-append a b, puts-long s, s .place)
+room_next a b w o p at i e h s = omega (arith, ap length e ∙ length-append a b, puts-long s, s.place)
 
 -- A text is stored up to a place: what is left of it.
 pub record Stored (whole rest o : List ℕ) (from at : ℕ) (p : List ℕ) : Type 0 where
@@ -51,31 +51,31 @@ pub record Stored (whole rest o : List ℕ) (from at : ℕ) (p : List ℕ) : Typ
   pub puts : Puts done o from at p
 
 pub stored-begin : (w o : List ℕ) (from : ℕ) → Stored w w o from from o
-stored-begin w o from = record { done = []; split = refl; puts = puts-none o from }
+stored-begin w o from = record { done = []; split = refl; puts = puts_none o from }
 
 module _ (w rest a b o p : List ℕ) (from at : ℕ) (e : rest ≡ a ++ b) (s : Stored w rest o from at p) where
-  pub stored-on : (q : List ℕ) (next : ℕ) → Puts a p at next q → Stored w b o from next q
-  stored-on q next t =
+  pub stored_on : (q : List ℕ) (next : ℕ) → Puts a p at next q → Stored w b o from next q
+  stored_on q next t =
       record {
-        done = s .done ++ a;
-        split = append-assoc (s .done) a b ∙ rw (e) at (s .split);
-        puts = puts-both (s .puts) t;
+        done = s.done ++ a;
+        split = append_assoc s.done a b ∙ rw (e) at s.split;
+        puts = puts-both s.puts t;
       }
 
   pub stored-room : from + length w ≤ length o → at + length a ≤ length p
   stored-room h =
-      let l : length w ≡ length (s .done) + (length a + length b) =
-      ap length (sym (s .split)) ∙ rw (e, length-append (s .done) (a ++ b), length-append a b) in
-      omega (arith, puts-long (s .puts), s .puts .place)
+      let l : length w ≡ length s.done + (length a + length b) =
+      ap length (sym s.split) ∙ rw (e, length-append s.done (a ++ b), length-append a b) in
+      omega (arith, puts-long s.puts, s.puts.place)
 
 pub stored-end : (w rest o p : List ℕ) (from at : ℕ) → rest ≡ [] → Stored w rest o from at p → Puts w o from at p
 stored-end w rest o p from at e s =
-    let q : s .done ≡ w = sym (append-nil (s .done)) ∙ rw e at (s .split) in
-    rw q at (s .puts)
+    let q : s.done ≡ w = sym (append-nil s.done) ∙ rw e at s.split in
+    rw q at s.puts
 
 -- A text that is stored from the start on overwrites the beginning.
 pub puts-over : (w o p : List ℕ) (next : ℕ) → length w ≤ length o → Puts w o 0 next p → p ≡ overwrite w o
 unfolding overwrite
 puts-over w o p next h s =
     let k : 0 + length w ≡ length w = omega arith in
-    s .bytes ∙ sets-eq w o 0 (omega arith) ∙ rw k
+    s.bytes ∙ sets-eq w o 0 (omega arith) ∙ rw k

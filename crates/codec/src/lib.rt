@@ -1,26 +1,23 @@
 // The show file as bytes. Others call parse, which reads it to rows; measure and emit, which write it from rows; and put_bytes.
-use lines::COMMA;
-use lines::LINE_FEED;
-use lines::Line;
+#![tactic(auto)]
+
+ghost use Rattle.std.specs.Prelude.{◌≡◌, true, ◌+◌, ◌*◌, ◌-◌, ◌≤◌, ◌<◌, length, take, drop};
+ghost use Rattle.std.proofs.lemmas.List.Edits.{sets};
+ghost use Rattle.model.specs.Choice.{if_lt};
+ghost use Rattle.model.specs.Limits.{row_size, max_bytes, max_rows};
+ghost use Rattle.model.specs.Values.{digits, digit_at};
+ghost use Rattle.model.specs.Text.{comma, names, ends};
+ghost use Rattle.model.specs.Rows.{rows_from, row_lines, file_text};
+ghost use Rattle.model.specs.Lists.{overwrite};
+ghost use Rattle.model.specs.Verdicts.{read_file};
+ghost use Rattle.lines.specs.Scanning.{line_at};
+ghost use Rattle.codec.specs.Scanning.{RowSays, StepSays, names_size, starts_named};
+ghost use Rattle.codec.specs.Parsing.{Parses};
+ghost use Rattle.codec.specs.Writing.{table_size, one, two, value_text, row_text, Puts, Spills, short_texts};
+
+use lines::{COMMA, LINE_FEED, Line};
 use model::Refusal;
-use model::limits::MAX_BYTES;
-use model::limits::ROW_SIZE;
-ghost use mathlib.Core.Path.{_≡_};
-ghost use mathlib.Core.Bool.{true};
-ghost use Prim.Native.Nat.{_+_, _*_, _-_, _≤_, _<_};
-ghost use lib.ListN.{length, take, drop};
-ghost use lib.Seq.{sets};
-ghost use Rattle·model.specs.Choice.{ifLt};
-ghost use Rattle·model.specs.Limits.{rowSize, maxBytes, maxRows};
-ghost use Rattle·model.specs.Values.{digits, digitAt};
-ghost use Rattle·model.specs.Text.{comma, names, ends};
-ghost use Rattle·model.specs.Rows.{rowsFrom, rowLines, fileText};
-ghost use Rattle·model.specs.Lists.{overwrite};
-ghost use Rattle·model.specs.Verdicts.{readFile};
-ghost use Rattle·lines.specs.Scanning.{lineAt};
-ghost use Rattle·codec·specs.specs.Scanning.{RowSays, StepSays, namesSize, startsNamed};
-ghost use Rattle·codec·specs.specs.Parsing.{Parses};
-ghost use Rattle·codec·specs.specs.Writing.{tableSize, one, two, valueText, rowText, Puts, Spills, shortTexts};
+use model::limits::{MAX_BYTES, ROW_SIZE};
 
 // The place of a row's last value.
 const LAST: usize = ROW_SIZE - 1;
@@ -33,6 +30,7 @@ const NAMES_SIZE: usize = 33;
 const NAMES_SIZE_32: u32 = 33;
 
 // What a file says: how many rows it has, or why it is refused.
+#[derive(Drop)]
 pub enum Parsed {
     Rows(usize),
     Refused(Refusal),
@@ -41,12 +39,14 @@ pub enum Parsed {
 // Reading: rows at a place of the file, and the reader that goes through it. Their lines are read by crates/lines.
 
 // A step through the file: over a line, to the place behind it; or the last, with what the file says.
+#[derive(Drop)]
 enum Step {
     On(usize),
     Done(Parsed),
 }
 
 // A file and the place in it where the next line begins.
+#[derive(Clone, Copy)]
 struct Reader<'a> {
     file: &'a [u8],
     at: usize,
@@ -54,7 +54,7 @@ struct Reader<'a> {
 
 // The line at a place: its values to row r, if there is room for that row.
 fn row_at(file: &[u8], at: usize, rows: &mut [u32], r: usize) -> Line
-    ensures { λ l. ⌜ RowSays (lineAt ends (now (file .entry)) at) r l (now (rows .entry)) (now (rows .exit)) ⌝ }
+    ensures { RowSays (line_at ends file.now at) r result rows.old rows.new }
 {
     if r < rows.len() / ROW_SIZE {
         let a = r * ROW_SIZE;
@@ -67,21 +67,21 @@ fn row_at(file: &[u8], at: usize, rows: &mut [u32], r: usize) -> Line
 
 // The file starts with the line of names.
 fn named(file: &[u8]) -> bool
-    ensures { λ r. ⌜ r ≡ startsNamed (now (file .entry)) ⌝ }
+    ensures { result ≡ starts_named file.now }
 {
     lines::starts(file, &NAMES)
 }
 
 fn refuse(number: u32, place: u32) -> Parsed
-    ensures { λ r. ⌜ r ≡ Parsed.Refused (record { number = number; place = place }) ⌝ }
+    ensures { result ≡ Parsed.Refused (record { number = number; place = place }) }
 {
     Parsed::Refused(Refusal { number, place })
 }
 
 // The step from a place: the line there goes to row n. The file's end and a line that is none are the last step.
 fn step_at(file: &[u8], at: usize, rows: &mut [u32], n: usize) -> Step
-    requires { ⌜ n ≤ maxBytes ⌝ }
-    ensures { λ s. ⌜ StepSays (now (file .entry)) at n s (now (rows .entry)) (now (rows .exit)) ⌝ }
+    requires { n ≤ max_bytes }
+    ensures { StepSays file.now at n result rows.old rows.new }
 {
     if file.len() <= at {
         return Step::Done(Parsed::Rows(n));
@@ -94,23 +94,23 @@ fn step_at(file: &[u8], at: usize, rows: &mut [u32], n: usize) -> Step
 
 // The reader of a file at a place.
 fn reader_at<'a>(file: &'a [u8], at: usize) -> Reader<'a>
-    ensures { λ r. ⌜ (r .file ≡ file .entry) × (r .at ≡ at) ⌝ }
+    ensures { (result.file ≡ file.entry) × (result.at ≡ at) }
 {
     Reader { file, at }
 }
 
 // The step from a reader's place.
 fn next_row<'a, 'b>(r: Reader<'a>, rows: &'b mut [u32], n: usize) -> Step
-    requires { ⌜ n ≤ maxBytes ⌝ }
-    ensures { λ s. ⌜ StepSays (now (r .entry .file)) (r .entry .at) n s (now (rows .entry)) (now (rows .exit)) ⌝ }
+    requires { n ≤ max_bytes }
+    ensures { StepSays r.entry.file.now r.entry.at n result rows.old rows.new }
 {
     step_at(r.file, r.at, rows, n)
 }
 
 // Reads the lines behind the line of names: one reader goes through them, line by line.
 fn read_lines(file: &[u8], rows: &mut [u32]) -> Parsed
-    requires { ⌜ (length (now file) ≤ maxBytes) × (startsNamed (now file) ≡ true) ⌝ }
-    ensures { λ r. ⌜ Parses (readFile (now (file .entry))) r (now (rows .entry)) (now (rows .exit)) ⌝ }
+    requires { (length file.now ≤ max_bytes) × (starts_named file.now ≡ true) }
+    ensures { Parses (read_file file.now) result rows.old rows.new }
 {
     let mut r = reader_at(file, NAMES_SIZE);
     let mut n = 0;
@@ -125,7 +125,7 @@ fn read_lines(file: &[u8], rows: &mut [u32]) -> Parsed
 
 // Reads a file to rows. Rows for which there is no room are checked and counted, but not stored. What a refused file leaves in the list is left open.
 pub fn parse(file: &[u8], rows: &mut [u32]) -> Parsed
-    ensures { λ r. ⌜ Parses (readFile (now (file .entry))) r (now (rows .entry)) (now (rows .exit)) ⌝ }
+    ensures { Parses (read_file file.now) result rows.old rows.new }
 {
     if MAX_BYTES < file.len() {
         return refuse(1, 0);
@@ -148,15 +148,15 @@ const TEXTS: [u8; 1320] =
     *b"0,,,21,,,22,,,23,,,24,,,25,,,26,,,27,,,28,,,29,,,210,,311,,312,,313,,314,,315,,316,,317,,318,,319,,320,,321,,322,,323,,324,,325,,326,,327,,328,,329,,330,,331,,332,,333,,334,,335,,336,,337,,338,,339,,340,,341,,342,,343,,344,,345,,346,,347,,348,,349,,350,,351,,352,,353,,354,,355,,356,,357,,358,,359,,360,,361,,362,,363,,364,,365,,366,,367,,368,,369,,370,,371,,372,,373,,374,,375,,376,,377,,378,,379,,380,,381,,382,,383,,384,,385,,386,,387,,388,,389,,390,,391,,392,,393,,394,,395,,396,,397,,398,,399,,3100,4101,4102,4103,4104,4105,4106,4107,4108,4109,4110,4111,4112,4113,4114,4115,4116,4117,4118,4119,4120,4121,4122,4123,4124,4125,4126,4127,4128,4129,4130,4131,4132,4133,4134,4135,4136,4137,4138,4139,4140,4141,4142,4143,4144,4145,4146,4147,4148,4149,4150,4151,4152,4153,4154,4155,4156,4157,4158,4159,4160,4161,4162,4163,4164,4165,4166,4167,4168,4169,4170,4171,4172,4173,4174,4175,4176,4177,4178,4179,4180,4181,4182,4183,4184,4185,4186,4187,4188,4189,4190,4191,4192,4193,4194,4195,4196,4197,4198,4199,4200,4201,4202,4203,4204,4205,4206,4207,4208,4209,4210,4211,4212,4213,4214,4215,4216,4217,4218,4219,4220,4221,4222,4223,4224,4225,4226,4227,4228,4229,4230,4231,4232,4233,4234,4235,4236,4237,4238,4239,4240,4241,4242,4243,4244,4245,4246,4247,4248,4249,4250,4251,4252,4253,4254,4255,4256,4257,4258,4259,4260,4261,4262,4263,4";
 
 fn wide(x: u32) -> usize
-    ensures { λ r. ⌜ r ≡ x ⌝ }
+    ensures { result ≡ x }
 {
     x as usize
 }
 
 // 1 where v reaches a limit, and 0 below it.
 fn reaches(v: u32, limit: u32) -> u32
-    ensures { λ r. ⌜ r ≡ ifLt v limit 0 1 ⌝ }
-    ensures { λ r. ⌜ r ≤ 1 ⌝ }
+    ensures value { result ≡ if_lt v limit 0 1 }
+    ensures upper_bound { result ≤ 1 }
 {
     if v < limit {
         return 0;
@@ -166,16 +166,16 @@ fn reaches(v: u32, limit: u32) -> u32
 
 // How many digits a number is written with.
 fn width(v: u32) -> u32
-    ensures { λ r. ⌜ r ≡ length (digits v) ⌝ }
-    ensures { λ r. ⌜ r ≤ 5 ⌝ }
+    ensures value { result ≡ length (digits v) }
+    ensures upper_bound { result ≤ 5 }
 {
     1 + reaches(v, 10) + reaches(v, 100) + reaches(v, 1000) + reaches(v, 10000)
 }
 
 // The length of the file of n rows.
 pub fn measure(xs: &[u32], n: usize) -> usize
-    requires { ⌜ (n * rowSize ≤ length (now xs)) × (n ≤ maxRows) ⌝ }
-    ensures { λ r. ⌜ r ≡ length (fileText (rowsFrom (now (xs .entry)) 0 n)) ⌝ }
+    requires { (n * row_size ≤ length xs.now) × (n ≤ max_rows) }
+    ensures { result ≡ length (file_text (rows_from xs.now 0 n)) }
 {
     let m = n * ROW_SIZE;
     let mut sum: u32 = NAMES_SIZE_32;
@@ -189,15 +189,15 @@ pub fn measure(xs: &[u32], n: usize) -> usize
 
 // The last digit of a number.
 fn digit(q: u32) -> u8
-    ensures { λ r. ⌜ r ≡ digitAt 1 q ⌝ }
+    ensures { result ≡ digit_at 1 q }
 {
     (q % 10) as u8 + 48
 }
 
 // Writes the last digit of a number.
 fn put_one(q: u32, out: &mut [u8], at: usize) -> usize
-    requires { ⌜ at + length (one q) ≤ length (now out) ⌝ }
-    ensures { λ r. ⌜ Puts (one q) (now (out .entry)) at r (now (out .exit)) ⌝ }
+    requires { at + length (one q) ≤ length out.old }
+    ensures { Puts (one q) out.old at result out.new }
 {
     out[at] = digit(q);
     at + 1
@@ -205,8 +205,8 @@ fn put_one(q: u32, out: &mut [u8], at: usize) -> usize
 
 // Writes the last two digits of a number.
 fn put_two(q: u32, out: &mut [u8], at: usize) -> usize
-    requires { ⌜ at + length (two q) ≤ length (now out) ⌝ }
-    ensures { λ r. ⌜ Puts (two q) (now (out .entry)) at r (now (out .exit)) ⌝ }
+    requires { at + length (two q) ≤ length out.old }
+    ensures { Puts (two q) out.old at result out.new }
 {
     let i = put_one(q / 10, out, at);
     put_one(q, out, i)
@@ -214,8 +214,8 @@ fn put_two(q: u32, out: &mut [u8], at: usize) -> usize
 
 // Writes a number's digits.
 fn put_digits(v: u32, out: &mut [u8], at: usize) -> usize
-    requires { ⌜ at + length (digits v) ≤ length (now out) ⌝ }
-    ensures { λ r. ⌜ Puts (digits v) (now (out .entry)) at r (now (out .exit)) ⌝ }
+    requires { at + length (digits v) ≤ length out.old }
+    ensures { Puts (digits v) out.old at result out.new }
 {
     if v < 10 {
         return put_one(v, out, at);
@@ -238,8 +238,8 @@ fn put_digits(v: u32, out: &mut [u8], at: usize) -> usize
 
 // Writes a value and the byte behind it.
 fn put_value(v: u32, end: u8, out: &mut [u8], at: usize) -> usize
-    requires { ⌜ at + length (valueText v end) ≤ length (now out) ⌝ }
-    ensures { λ r. ⌜ Puts (valueText v end) (now (out .entry)) at r (now (out .exit)) ⌝ }
+    requires { at + length (value_text v end) ≤ length out.old }
+    ensures { Puts (value_text v end) out.old at result out.new }
 {
     let i = put_digits(v, out, at);
     out[i] = end;
@@ -248,16 +248,16 @@ fn put_value(v: u32, end: u8, out: &mut [u8], at: usize) -> usize
 
 // The number that a digit stands for.
 fn number_of(b: u8) -> usize
-    requires { ⌜ 48 ≤ b ⌝ }
-    ensures { λ r. ⌜ (r ≡ b - 48) × (r < 256) ⌝ }
+    requires { 48 ≤ b }
+    ensures { (result ≡ b - 48) × (result < 256) }
 {
     (b - 48) as usize
 }
 
 // Copies four bytes.
 fn copy_four(from: &[u8], i: usize, out: &mut [u8], at: usize)
-    requires { ⌜ (i + 4 ≤ length (now from)) × (at + 4 ≤ length (now out)) ⌝ }
-    ensures { λ _. ⌜ now (out .exit) ≡ sets (now (out .entry)) at (take 4 (drop i (now (from .entry)))) ⌝ }
+    requires { (i + 4 ≤ length from.now) × (at + 4 ≤ length out.old) }
+    ensures { out.new ≡ sets out.old at (take 4 (drop i from.now)) }
 {
     let a = from[i];
     let b = from[i + 1];
@@ -271,8 +271,8 @@ fn copy_four(from: &[u8], i: usize, out: &mut [u8], at: usize)
 
 // Writes a value and a comma. Up to two bytes behind them change too: what is written next goes there.
 fn put_comma(v: u32, texts: &[u8], out: &mut [u8], at: usize) -> usize
-    requires { ⌜ (now texts ≡ shortTexts 0 tableSize) × (at + length (valueText v comma) + 2 ≤ length (now out)) ⌝ }
-    ensures { λ r. ⌜ Spills (valueText v comma) (now (out .entry)) at r (now (out .exit)) ⌝ }
+    requires { (texts.now ≡ short_texts 0 table_size) × (at + length (value_text v comma) + 2 ≤ length out.old) }
+    ensures { Spills (value_text v comma) out.old at result out.new }
 {
     if v < TABLE {
         let i = wide(v) * TEXT;
@@ -284,8 +284,8 @@ fn put_comma(v: u32, texts: &[u8], out: &mut [u8], at: usize) -> usize
 
 // Writes the line of row r.
 fn put_row(xs: &[u32], r: usize, texts: &[u8], out: &mut [u8], from: usize) -> usize
-    requires { ⌜ (r * rowSize + rowSize ≤ length (now xs)) × (now texts ≡ shortTexts 0 tableSize) × (from + length (rowText (now xs) r) ≤ length (now out)) ⌝ }
-    ensures { λ p. ⌜ Puts (rowText (now (xs .entry)) r) (now (out .entry)) from p (now (out .exit)) ⌝ }
+    requires { (r * row_size + row_size ≤ length xs.now) × (texts.now ≡ short_texts 0 table_size) × (from + length (row_text xs.now r) ≤ length out.old) }
+    ensures { Puts (row_text xs.now r) out.old from result out.new }
 {
     let a = r * ROW_SIZE;
     let mut at = from;
@@ -299,8 +299,8 @@ fn put_row(xs: &[u32], r: usize, texts: &[u8], out: &mut [u8], from: usize) -> u
 
 // Writes bytes to the start of a list.
 pub fn put_bytes(bytes: &[u8], out: &mut [u8]) -> usize
-    requires { ⌜ length (now bytes) ≤ length (now out) ⌝ }
-    ensures { λ r. ⌜ Puts (now (bytes .entry)) (now (out .entry)) 0 r (now (out .exit)) ⌝ }
+    requires { length bytes.now ≤ length out.old }
+    ensures { Puts bytes.now out.old 0 result out.new }
 {
     let mut i = 0;
     while i < bytes.len() {
@@ -312,16 +312,16 @@ pub fn put_bytes(bytes: &[u8], out: &mut [u8]) -> usize
 
 // Writes the line of names.
 fn put_names(out: &mut [u8]) -> usize
-    requires { ⌜ namesSize ≤ length (now out) ⌝ }
-    ensures { λ r. ⌜ Puts names (now (out .entry)) 0 r (now (out .exit)) ⌝ }
+    requires { names_size ≤ length out.old }
+    ensures { Puts names out.old 0 result out.new }
 {
     put_bytes(&NAMES, out)
 }
 
 // Writes the lines of n rows, with the table of texts.
 fn put_lines(xs: &[u32], n: usize, texts: &[u8], out: &mut [u8], from: usize) -> usize
-    requires { ⌜ (n * rowSize ≤ length (now xs)) × (now texts ≡ shortTexts 0 tableSize) × (from + length (rowLines (rowsFrom (now xs) 0 n)) ≤ length (now out)) ⌝ }
-    ensures { λ p. ⌜ Puts (rowLines (rowsFrom (now (xs .entry)) 0 n)) (now (out .entry)) from p (now (out .exit)) ⌝ }
+    requires { (n * row_size ≤ length xs.now) × (texts.now ≡ short_texts 0 table_size) × (from + length (row_lines (rows_from xs.now 0 n)) ≤ length out.old) }
+    ensures { Puts (row_lines (rows_from xs.now 0 n)) out.old from result out.new }
 {
     let mut at = from;
     let mut r = 0;
@@ -334,16 +334,16 @@ fn put_lines(xs: &[u32], n: usize, texts: &[u8], out: &mut [u8], from: usize) ->
 
 // Writes the lines of n rows.
 fn put_rows(xs: &[u32], n: usize, out: &mut [u8], from: usize) -> usize
-    requires { ⌜ (n * rowSize ≤ length (now xs)) × (from + length (rowLines (rowsFrom (now xs) 0 n)) ≤ length (now out)) ⌝ }
-    ensures { λ p. ⌜ Puts (rowLines (rowsFrom (now (xs .entry)) 0 n)) (now (out .entry)) from p (now (out .exit)) ⌝ }
+    requires { (n * row_size ≤ length xs.now) × (from + length (row_lines (rows_from xs.now 0 n)) ≤ length out.old) }
+    ensures { Puts (row_lines (rows_from xs.now 0 n)) out.old from result out.new }
 {
     put_lines(xs, n, &TEXTS, out, from)
 }
 
 // Writes the file of n rows.
 pub fn emit(xs: &[u32], n: usize, out: &mut [u8])
-    requires { ⌜ (n * rowSize ≤ length (now xs)) × (n ≤ maxRows) × (length (fileText (rowsFrom (now xs) 0 n)) ≤ length (now out)) ⌝ }
-    ensures { λ _. ⌜ now (out .exit) ≡ overwrite (fileText (rowsFrom (now (xs .entry)) 0 n)) (now (out .entry)) ⌝ }
+    requires { (n * row_size ≤ length xs.now) × (n ≤ max_rows) × (length (file_text (rows_from xs.now 0 n)) ≤ length out.old) }
+    ensures { out.new ≡ overwrite (file_text (rows_from xs.now 0 n)) out.old }
 {
     let at = put_names(out);
     put_rows(xs, n, out, at);

@@ -2,26 +2,19 @@
 //
 // `descend` goes from the show along the rows of a place, use by use: a use gives the copy inside its block, the number that its cues
 // follow, and the cues that its joins meet.
-use blocks::INDEX;
-use blocks::JOINS;
-use blocks::Place;
-use blocks::column;
-use blocks::joins;
-use blocks::last;
-use blocks::own;
-use blocks::size_of;
-use blocks::use_rows;
-use blocks::used;
-use blocks::wide;
-ghost use mathlib.Core.Path.{_≡_};
-ghost use Prim.Native.Nat.{_+_, _≤_};
-ghost use Rattle·model.specs.Limits.{maxJoins, maxTotal};
-ghost use Rattle·model.specs.Unfolding.{cueAt};
-ghost use Rattle·blocks.specs.Loaded.{Loaded, IsRow};
-ghost use Rattle·blocks.specs.Places.{Found};
-ghost use Rattle·copies·specs.specs.Copies.{innerBase, MayStep, Stepped, ColumnsFit, MeetIs, CopyAt};
+#![tactic(auto)]
+
+ghost use Rattle.std.specs.Prelude.{◌≡◌, ◌+◌, ◌≤◌};
+ghost use Rattle.model.specs.Limits.{max_joins, max_total};
+ghost use Rattle.model.specs.Unfolding.{cue_at};
+ghost use Rattle.blocks.specs.Loaded.{Loaded, IsRow};
+ghost use Rattle.blocks.specs.Places.{Found};
+ghost use Rattle.copies.specs.Copies.{inner_base, MayStep, Stepped, ColumnsFit, MeetIs, CopyAt};
+
+use blocks::{INDEX, JOINS, Place, column, joins, last, own, size_of, use_rows, used, wide};
 
 // A copy of a block in the show: its block, the number that its own cues follow, and the cues that its joins meet.
+#[derive(Clone, Copy)]
 pub struct Frame {
     pub block: usize,
     pub base: u32,
@@ -30,8 +23,8 @@ pub struct Frame {
 
 // The number of cue c of a copy of a block with own own cues.
 fn cue_number(own: u32, z: Frame, c: u32) -> u32
-    requires { ⌜ (c ≤ own + maxJoins) × (z .base + own ≤ maxTotal) ⌝ }
-    ensures { λ v. ⌜ v ≡ cueAt own (z .base) (z .met) c ⌝ }
+    requires { (c ≤ own + max_joins) × (z.base + own ≤ max_total) }
+    ensures { result ≡ cue_at own z.base z.met c }
 {
     if own < c {
         let met = z.met;
@@ -43,8 +36,8 @@ fn cue_number(own: u32, z: Frame, c: u32) -> u32
 
 // The cues that the joins of the use of row r meet, in a copy.
 fn meet(xs: &[u32], r: usize, joins: usize, own: u32, z: Frame) -> [u32; JOINS]
-    requires { ⌜ IsRow (now xs) r × (joins ≤ maxJoins) × (z .base + own ≤ maxTotal) × ColumnsFit (now xs) r joins own ⌝ }
-    ensures { λ out. ⌜ MeetIs (now (xs .entry)) r joins own z out ⌝ }
+    requires { IsRow xs.now r × (joins ≤ max_joins) × (z.base + own ≤ max_total) × ColumnsFit xs.now r joins own }
+    ensures { MeetIs xs.now r joins own z result }
 {
     let mut out: [u32; JOINS] = [0; JOINS];
     let mut j = 0;
@@ -59,8 +52,8 @@ fn meet(xs: &[u32], r: usize, joins: usize, own: u32, z: Frame) -> [u32; JOINS]
 
 // The number that the cues of the copy of the use of row r follow, in a copy.
 fn inner_base(xs: &[u32], t: &[u32; INDEX], z: Frame, r: usize) -> u32
-    requires { ⌜ Loaded (now xs) (now t) × MayStep (now xs) (now t) z r ⌝ }
-    ensures { λ b. ⌜ b ≡ innerBase (now (xs .entry)) (now (t .entry)) (z .block) (z .base) r ⌝ }
+    requires { Loaded xs.now t.now × MayStep xs.now t.now z r }
+    ensures { result ≡ inner_base xs.now t.now z.block z.base r }
 {
     let rows = use_rows(xs, t, z.block);
     let mut b = z.base + own(xs, t, z.block);
@@ -74,8 +67,8 @@ fn inner_base(xs: &[u32], t: &[u32; INDEX], z: Frame, r: usize) -> u32
 
 // One step down: into the copy of the use of row r.
 fn step(xs: &[u32], t: &[u32; INDEX], z: Frame, r: usize) -> Frame
-    requires { ⌜ Loaded (now xs) (now t) × MayStep (now xs) (now t) z r ⌝ }
-    ensures { λ y. ⌜ Stepped (now (xs .entry)) (now (t .entry)) z r y ⌝ }
+    requires { Loaded xs.now t.now × MayStep xs.now t.now z r }
+    ensures { Stepped xs.now t.now z r result }
 {
     let own = own(xs, t, z.block);
     let j = used(xs, r);
@@ -91,8 +84,8 @@ fn step(xs: &[u32], t: &[u32; INDEX], z: Frame, r: usize) -> Frame
 
 // The copy that owns the cue of a place: along the rows from the show, use by use.
 pub fn descend(xs: &[u32], t: &[u32; INDEX], place: Place, rows: &[u32]) -> Frame
-    requires { ⌜ Loaded (now xs) (now t) × Found (now xs) (now t) (now rows) place ⌝ }
-    ensures { λ z. ⌜ CopyAt (now (xs .entry)) (now (t .entry)) (now (rows .entry)) (place .depth) z ⌝ }
+    requires { Loaded xs.now t.now × Found xs.now t.now rows.now place }
+    ensures { CopyAt xs.now t.now rows.now place.depth result }
 {
     let none: [u32; JOINS] = [0; JOINS];
     let depth = place.depth;

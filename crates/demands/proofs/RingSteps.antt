@@ -2,23 +2,23 @@
 -- stands alone. No cue has a number here, and nothing rests on a law.
 use Prim.Native.Nat.{ℕ}
 use mathlib.Core.Path.{refl}
-use mathlib.Core.List.{List, [], _∷_}
-use Rattle·model.specs.Blocks.{Link, Use, Block, blockAt, lastBlock}
-use Rattle·model.specs.Lists.{range}
-use Rattle·demands·specs.specs.Replacement.{Node, Edge, Standing, Graph, ownNodes, nodesOf, nth, edge, standing, Step, stay, then, joinNodes, begin, Ended}
-use Rattle·demands·specs.specs.Numbers.{node}
+use mathlib.Core.List.{List, [], ◌∷◌}
+use Rattle.model.specs.Blocks.{Link, Use, Block, block_at, last_block}
+use Rattle.model.specs.Lists.{range}
+use Rattle.demands.specs.Replacement.{Node, Edge, Standing, Graph, own_nodes, nodes_of, nth, edge, standing, Step, stay, then, join_nodes, begin, Ended}
+use Rattle.demands.specs.Numbers.{node}
 
 -- Its blocks, the last first.
 abbrev pub link-of : ℕ → ℕ → ℕ → Link
 link-of from to label = record { from = from; to = to; label = label }
 
-abbrev pub use-of : ℕ → List ℕ → Use
-use-of block at = record { block = block; at = at }
+abbrev pub use_of : ℕ → List ℕ → Use
+use_of block at = record { block = block; at = at }
 
 abbrev pub bs : List Block
 bs =
-    record { joins = 0; own = 2; links = link-of 2 1 2 ∷ []; uses = use-of 1 (1 ∷ 2 ∷ []) ∷ [] }
-    ∷ record { joins = 2; own = 1; links = []; uses = use-of 0 (1 ∷ 3 ∷ []) ∷ use-of 0 (2 ∷ 1 ∷ []) ∷ [] }
+    record { joins = 0; own = 2; links = link-of 2 1 2 ∷ []; uses = use_of 1 (1 ∷ 2 ∷ []) ∷ [] }
+    ∷ record { joins = 2; own = 1; links = []; uses = use_of 0 (1 ∷ 3 ∷ []) ∷ use_of 0 (2 ∷ 1 ∷ []) ∷ [] }
     ∷ record { joins = 2; own = 1; links = link-of 1 3 1 ∷ link-of 2 1 1 ∷ []; uses = [] } ∷ []
 
 -- The five cues: of the show, of its copy of block 1, and of the two copies of block 0 in that.
@@ -40,19 +40,19 @@ e = node (1 ∷ 2 ∷ []) 1
 abbrev pub from-to : Node → Node → ℕ → Edge
 from-to u v label = record { from = u; to = v; label = label }
 
-abbrev pub use-at : List ℕ → ℕ → List Node → Standing
-use-at path block met = record { path = path; block = block; met = met }
+abbrev pub use_at_lem : List ℕ → ℕ → List Node → Standing
+use_at_lem path block met = record { path = path; block = block; met = met }
 
 -- The graph after one, two, three and four steps.
 abbrev pub after-1 : Graph
-after-1 = record { cues = a ∷ b ∷ []; links = from-to b a 2 ∷ []; uses = use-at (1 ∷ []) 1 (a ∷ b ∷ []) ∷ [] }
+after-1 = record { cues = a ∷ b ∷ []; links = from-to b a 2 ∷ []; uses = use_at_lem (1 ∷ []) 1 (a ∷ b ∷ []) ∷ [] }
 
 abbrev pub after-2 : Graph
 after-2 =
     record {
       cues = a ∷ b ∷ c ∷ [];
       links = from-to b a 2 ∷ [];
-      uses = use-at (1 ∷ 1 ∷ []) 0 (c ∷ b ∷ []) ∷ use-at (1 ∷ 2 ∷ []) 0 (a ∷ c ∷ []) ∷ [];
+      uses = use_at_lem (1 ∷ 1 ∷ []) 0 (c ∷ b ∷ []) ∷ use_at_lem (1 ∷ 2 ∷ []) 0 (a ∷ c ∷ []) ∷ [];
     }
 
 abbrev pub after-3 : Graph
@@ -60,7 +60,7 @@ after-3 =
     record {
       cues = a ∷ b ∷ c ∷ e ∷ [];
       links = from-to b a 2 ∷ from-to e c 1 ∷ from-to a e 1 ∷ [];
-      uses = use-at (1 ∷ 1 ∷ []) 0 (c ∷ b ∷ []) ∷ [];
+      uses = use_at_lem (1 ∷ 1 ∷ []) 0 (c ∷ b ∷ []) ∷ [];
     }
 
 abbrev pub after-4 : Graph
@@ -72,20 +72,20 @@ after-4 =
     }
 
 -- The steps: the third one replaces the second of two uses.
-pub step-1 : Step bs (begin bs (lastBlock bs)) after-1
-unfolding joinNodes begin ownNodes nodesOf nth edge standing range blockAt lastBlock
-step-1 = record { before = []; chosen = use-at [] 2 []; after = []; stood = refl; cues = refl; links = refl; uses = refl }
+pub step-1 : Step bs (begin bs (last_block bs)) after-1
+unfolding join_nodes begin own_nodes nodes_of nth edge standing range block_at last_block
+step-1 = record { before = []; chosen = use_at_lem [] 2 []; after = []; stood = refl; cues = refl; links = refl; uses = refl }
 
 step-2 : Step bs after-1 after-2
-unfolding ownNodes nodesOf nth edge standing range blockAt
-step-2 = record { before = []; chosen = use-at (1 ∷ []) 1 (a ∷ b ∷ []); after = []; stood = refl; cues = refl; links = refl; uses = refl }
+unfolding own_nodes nodes_of nth edge standing range block_at
+step-2 = record { before = []; chosen = use_at_lem (1 ∷ []) 1 (a ∷ b ∷ []); after = []; stood = refl; cues = refl; links = refl; uses = refl }
 
 step-3 : Step bs after-2 after-3
-unfolding ownNodes nodesOf nth edge standing range blockAt
+unfolding own_nodes nodes_of nth edge standing range block_at
 step-3 =
     record {
-      before = use-at (1 ∷ 1 ∷ []) 0 (c ∷ b ∷ []) ∷ [];
-      chosen = use-at (1 ∷ 2 ∷ []) 0 (a ∷ c ∷ []);
+      before = use_at_lem (1 ∷ 1 ∷ []) 0 (c ∷ b ∷ []) ∷ [];
+      chosen = use_at_lem (1 ∷ 2 ∷ []) 0 (a ∷ c ∷ []);
       after = [];
       stood = refl;
       cues = refl;
@@ -94,10 +94,10 @@ step-3 =
     }
 
 step-4 : Step bs after-3 after-4
-unfolding ownNodes nodesOf nth edge standing range blockAt
-step-4 = record { before = []; chosen = use-at (1 ∷ 1 ∷ []) 0 (c ∷ b ∷ []); after = []; stood = refl; cues = refl; links = refl; uses = refl }
+unfolding own_nodes nodes_of nth edge standing range block_at
+step-4 = record { before = []; chosen = use_at_lem (1 ∷ 1 ∷ []) 0 (c ∷ b ∷ []); after = []; stood = refl; cues = refl; links = refl; uses = refl }
 
-pub ring-ended : Ended bs (lastBlock bs) 4 after-4
+pub ring-ended : Ended bs (last_block bs) 4 after-4
 ring-ended = record { run = then (then (then (then stay step-1) step-2) step-3) step-4; over = refl }
 
 -- Block 1 alone: its own cue, the cues of its two copies of block 0, and what its joins meet, which no copy owns.
@@ -116,19 +116,19 @@ met-1 = node [] 2
 abbrev pub met-2 : Node
 met-2 = node [] 3
 
-abbrev pub alone-1 : Graph
-alone-1 = record { cues = own ∷ []; links = []; uses = use-at (1 ∷ []) 0 (own ∷ met-2 ∷ []) ∷ use-at (2 ∷ []) 0 (met-1 ∷ own ∷ []) ∷ [] }
+abbrev pub alone_1 : Graph
+alone_1 = record { cues = own ∷ []; links = []; uses = use_at_lem (1 ∷ []) 0 (own ∷ met-2 ∷ []) ∷ use_at_lem (2 ∷ []) 0 (met-1 ∷ own ∷ []) ∷ [] }
 
-abbrev pub alone-2 : Graph
-alone-2 =
+abbrev pub alone_2 : Graph
+alone_2 =
     record {
       cues = own ∷ second ∷ [];
       links = from-to second own 1 ∷ from-to met-1 second 1 ∷ [];
-      uses = use-at (1 ∷ []) 0 (own ∷ met-2 ∷ []) ∷ [];
+      uses = use_at_lem (1 ∷ []) 0 (own ∷ met-2 ∷ []) ∷ [];
     }
 
-abbrev pub alone-3 : Graph
-alone-3 =
+abbrev pub alone_3 : Graph
+alone_3 =
     record {
       cues = own ∷ second ∷ first ∷ [];
       links = from-to second own 1 ∷ from-to met-1 second 1 ∷ from-to first met-2 1 ∷ from-to own first 1 ∷ [];
@@ -136,16 +136,16 @@ alone-3 =
     }
 
 -- Its steps: the second one replaces the second of two uses.
-alone-step-1 : Step bs (begin bs 1) alone-1
-unfolding joinNodes begin ownNodes nodesOf nth edge standing range blockAt
-alone-step-1 = record { before = []; chosen = use-at [] 1 (met-1 ∷ met-2 ∷ []); after = []; stood = refl; cues = refl; links = refl; uses = refl }
+alone_step_1 : Step bs (begin bs 1) alone_1
+unfolding join_nodes begin own_nodes nodes_of nth edge standing range block_at
+alone_step_1 = record { before = []; chosen = use_at_lem [] 1 (met-1 ∷ met-2 ∷ []); after = []; stood = refl; cues = refl; links = refl; uses = refl }
 
-alone-step-2 : Step bs alone-1 alone-2
-unfolding ownNodes nodesOf nth edge standing range blockAt
-alone-step-2 =
+alone_step_2 : Step bs alone_1 alone_2
+unfolding own_nodes nodes_of nth edge standing range block_at
+alone_step_2 =
     record {
-      before = use-at (1 ∷ []) 0 (own ∷ met-2 ∷ []) ∷ [];
-      chosen = use-at (2 ∷ []) 0 (met-1 ∷ own ∷ []);
+      before = use_at_lem (1 ∷ []) 0 (own ∷ met-2 ∷ []) ∷ [];
+      chosen = use_at_lem (2 ∷ []) 0 (met-1 ∷ own ∷ []);
       after = [];
       stood = refl;
       cues = refl;
@@ -153,9 +153,9 @@ alone-step-2 =
       uses = refl;
     }
 
-alone-step-3 : Step bs alone-2 alone-3
-unfolding ownNodes nodesOf nth edge standing range blockAt
-alone-step-3 = record { before = []; chosen = use-at (1 ∷ []) 0 (own ∷ met-2 ∷ []); after = []; stood = refl; cues = refl; links = refl; uses = refl }
+alone_step_3 : Step bs alone_2 alone_3
+unfolding own_nodes nodes_of nth edge standing range block_at
+alone_step_3 = record { before = []; chosen = use_at_lem (1 ∷ []) 0 (own ∷ met-2 ∷ []); after = []; stood = refl; cues = refl; links = refl; uses = refl }
 
-pub alone-ended : Ended bs 1 3 alone-3
-alone-ended = record { run = then (then (then stay alone-step-1) alone-step-2) alone-step-3; over = refl }
+pub alone_ended : Ended bs 1 3 alone_3
+alone_ended = record { run = then (then (then stay alone_step_1) alone_step_2) alone_step_3; over = refl }

@@ -1,220 +1,220 @@
 -- What holds of each use that stands while block k is unfolded: the copy that will be put in for it is the copy at the end of its path, and each cue of the
 -- block that it names has there the number of the cue that the step makes of it. So the copy is what the step puts in, and the copies for the uses it leaves.
-use Prim.Native.Nat.{ℕ, suc, _+_, _-_, _≤_, _<_}
+use Prim.Native.Nat.{ℕ, suc, ◌+◌, ◌-◌, ◌≤◌, ◌<◌}
 use native.Mathlib.Omega.{arith}
-use native.Mathlib.Decide.{decLt}
-use native.Mathlib.Nat.{add-zero, add-assoc}
-use mathlib.Core.Path.{_≡_, refl, sym, _∙_, ap, ap₂}
-use mathlib.Core.List.{List, [], _∷_, _++_, map, map-map, flatMap, List·Memᴰ}
-use lib.ListN.{length, getD, take, List·getD-map}
-use Rattle·model.specs.Choice.{ifLt}
-use Rattle·model.specs.Blocks.{Link, Use, Block, blockAt, joinsOf, sumOver, total}
-use Rattle·model.specs.Unfolding.{renamed, usesLinks, links}
-use Rattle·model.specs.Paths.{ownNumber, copyNumber, numberIn}
-use Rattle·model.specs.Lists.{range}
-use Rattle·basics.proofs.Members.{map-same}
-use Rattle·shows.specs.WellFormed.{GoodLink, Good}
-use Rattle·shows.specs.Copies.{Part, partsFrom, Copy, number, own-links, all-links, extent, copyOf, part-copy, nthUse, part-at, after, Steps, ends, goes}
-use Rattle·shows.specs.Numbering.{usedBy, blockAfter}
-use Rattle·shows.proofs.Ranges.{cueAt-own, cueAt-join}
-use Rattle·shows.proofs.BlockAt.{good-at, total-at, links-at}
-use Rattle·shows.proofs.Locality.{alone-copy}
-use Rattle·shows.proofs.Trails.{after-snoc, numberIn-at, number-after}
-use Rattle·shows.proofs.TracedByPath.{used-is}
-use Rattle·demands·specs.specs.Replacement.{Node, Standing, ownNodes, nodesOf, nth, edge, standing, nodeNumber, nodeAt, endNumber, byNumbers}
-use Rattle·demands·specs.specs.Numbers.{node}
-use Rattle·demands·proofs.proofs.Rearranging.{ranges-alike, range-parts}
-use Rattle·demands·proofs.proofs.PutIn.{none, nth-own, nth-join, noUse, use-mem, stand, standing-at}
-use Rattle·demands·proofs.proofs.Nodes.{node-back, end-own}
+use native.Mathlib.Decide.{dec_lt}
+use native.Mathlib.Nat.{add-zero, add_assoc}
+use mathlib.Core.Path.{◌≡◌, refl, sym, ◌∙◌, ap, ap₂}
+use mathlib.Core.List.{List, [], ◌∷◌, ◌++◌, map, map-map, flat_map, Memᴰ}
+use lib.ListN.{length, get_or, take, get_or-map}
+use Rattle.model.specs.Choice.{if_lt}
+use Rattle.model.specs.Blocks.{Link, Use, Block, block_at, joins_of, sum_over, total}
+use Rattle.model.specs.Unfolding.{renamed, uses_links, links}
+use Rattle.model.specs.Paths.{own_number, copy_number, number_in}
+use Rattle.model.specs.Lists.{range}
+use Rattle.basics.proofs.Members.{map_same}
+use Rattle.shows.specs.WellFormed.{GoodLink, Good}
+use Rattle.shows.specs.Copies.{Part, parts_from, Copy, number, own-links, all-links, extent, copy_of, part-copy, nth_use, part_at, after, Steps, ends, goes}
+use Rattle.shows.specs.Numbering.{used_by, block_after}
+use Rattle.shows.proofs.Ranges.{cue_at-own, cue_at-join}
+use Rattle.shows.proofs.BlockAt.{good-at, total-at, links-at}
+use Rattle.shows.proofs.Locality.{alone_copy}
+use Rattle.shows.proofs.Trails.{after-snoc, number_in_at, number-after}
+use Rattle.shows.proofs.TracedByPath.{used_is}
+use Rattle.demands.specs.Replacement.{Node, Standing, own_nodes, nodes_of, nth, edge, standing, node_number, node_at, end_number, by_numbers}
+use Rattle.demands.specs.Numbers.{node}
+use Rattle.demands.proofs.Rearranging.{ranges_alike, range-parts}
+use Rattle.demands.proofs.PutIn.{none, nth-own, nth-join, no_use, use_mem, stand, standing-at}
+use Rattle.demands.proofs.Nodes.{node-back, end-own}
 
 -- One step more at the end of a path.
-steps-snoc : {z : Copy} {path : List ℕ} (p : ℕ) → Steps z path → 1 ≤ p → p ≤ length (after z path .block .uses) → Steps z (path ++ (p ∷ []))
+steps-snoc : {z : Copy} {path : List ℕ} (p : ℕ) → Steps z path → 1 ≤ p → p ≤ length (after z path).block.uses → Steps z (path ++ (p ∷ []))
 unfolding after
 steps-snoc p ends x y = goes x y ends
 steps-snoc p (goes a b s) x y = goes a b (steps-snoc p s x y)
 
-block-snoc : (bs : List Block) (k : ℕ) (path : List ℕ) (p : ℕ) → blockAfter bs k (path ++ (p ∷ [])) ≡ usedBy (blockAt bs (blockAfter bs k path) .uses) p
-unfolding blockAfter
+block-snoc : (bs : List Block) (k : ℕ) (path : List ℕ) (p : ℕ) → block_after bs k (path ++ (p ∷ [])) ≡ used_by (block_at bs (block_after bs k path)).uses p
+unfolding block_after
 block-snoc bs k [] p = refl
-block-snoc bs k (q ∷ path) p = block-snoc bs (usedBy (blockAt bs k .uses) q) path p
+block-snoc bs k (q ∷ path) p = block-snoc bs (used_by (block_at bs k).uses q) path p
 
 module _ (bs : List Block) (k : ℕ) where
   -- The copy that will be put in for a use, and the cues of a copy.
-  abbrev copyFor : Standing → Copy
-  copyFor u = after (alone-copy bs k) (u .path)
+  abbrev copy_for : Standing → Copy
+  copy_for u = after (alone_copy bs k) u.path
 
-  abbrev nodesIn : Copy → List Node
-  nodesIn z = map (nodeAt bs k) (range (suc (z .base)) (extent z))
+  abbrev nodes_in : Copy → List Node
+  nodes_in z = map (node_at bs k) (range (suc z.base) (extent z))
 
   -- What a use is to bring: all the links, and all the cues.
-  abbrev pub linksFor : Standing → List Link
-  linksFor u = all-links (copyFor u)
+  abbrev pub links_for : Standing → List Link
+  links_for u = all-links (copy_for u)
 
-  abbrev pub cuesFor : Standing → List Node
-  cuesFor u = nodesIn (copyFor u)
+  abbrev pub cues_for : Standing → List Node
+  cues_for u = nodes_in (copy_for u)
 
   -- Each step of the path is a use, and it leads to the block that the use names; what is at its end is a copy of that block, and its joins meet the cues'
   -- numbers.
   pub record Stands (u : Standing) : Type 0 where
-    pub steps : Steps (alone-copy bs k) (u .path)
-    pub leads : blockAfter bs k (u .path) ≡ u .block
+    pub steps : Steps (alone_copy bs k) u.path
+    pub leads : block_after bs k u.path ≡ u.block
     pub base : ℕ
-    pub is : copyFor u ≡ copyOf bs (u .block) base (map (endNumber bs k) (u .met))
-    pub known : u .block < length bs
+    pub is : copy_for u ≡ copy_of bs u.block base (map (end_number bs k) u.met)
+    pub known : u.block < length bs
 
 module _ (bs : List Block) (good : Good bs) (k : ℕ) where
   -- The cue that no copy has has no number.
-  none-number : endNumber bs k none ≡ 0
-  unfolding nodeNumber after copyNumber ownNumber ifLt
-  none-number = end-own bs k [] 0 (omega arith) ∙ numberIn-at bs good k 0 [] 0
+  none_number : end_number bs k none ≡ 0
+  unfolding node_number after copy_number own_number if_lt
+  none_number = end-own bs k [] 0 (omega arith) ∙ number_in_at bs good k 0 [] 0
 
   module _ {u : Standing} (s : Stands bs k u) where
     abbrev block : Block
-    block = blockAt bs (u .block)
+    block = block_at bs u.block
 
     abbrev copy : Copy
-    copy = copyOf bs (u .block) (s .base) (map (endNumber bs k) (u .met))
+    copy = copy_of bs u.block s.base (map (end_number bs k) u.met)
 
     abbrev cues : List Node
-    cues = nodesOf block u
+    cues = nodes_of block u
 
     -- The number that the own cues come to: the copies of the block's uses follow it.
     abbrev behind : ℕ
-    behind = s .base + block .own
+    behind = s.base + block.own
 
     -- The number of an own cue.
-    own-number : (c : ℕ) → 1 ≤ c → c ≤ block .own → numberIn bs k 0 (u .path) c ≡ number copy c
+    own-number : (c : ℕ) → 1 ≤ c → c ≤ block.own → number_in bs k 0 u.path c ≡ number copy c
     own-number c x y =
-        number-after bs good k 0 (range (suc (total bs k)) (joinsOf bs k)) (u .path) c (s .steps) x (rw (s .is) y) ∙ ap (λ (z : Copy). number z c) (s .is)
+        number-after bs good k 0 (range (suc (total bs k)) (joins_of bs k)) u.path c s.steps x (rw s.is y) ∙ ap (λ (z : Copy). number z c) s.is
 
     -- The number of every cue that the step makes of a cue of the block.
-    pub cue-number : (c : ℕ) → 1 ≤ c → endNumber bs k (nth cues c) ≡ number copy c
-    unfolding nodeNumber
-    cue-number c x = go (decLt (block .own) c)
+    pub cue-number : (c : ℕ) → 1 ≤ c → end_number bs k (nth cues c) ≡ number copy c
+    unfolding node_number
+    cue-number c x = go (dec_lt block.own c)
       where
-        go : Dec (block .own < c) → endNumber bs k (nth cues c) ≡ number copy c
+        go : Dec (block.own < c) → end_number bs k (nth cues c) ≡ number copy c
         go (no h) =
-            ap (endNumber bs k) (nth-own block u c x (omega arith))
-            ∙ end-own bs k (u .path) c (rw (s .is) (omega arith))
+            ap (end_number bs k) (nth-own block u c x (omega arith))
+            ∙ end-own bs k u.path c (rw s.is (omega arith))
             ∙ own-number c x (omega arith)
         go (yes h) =
-            ap (endNumber bs k) (nth-join block u c h)
-            ∙ sym (List·getD-map (endNumber bs k) (u .met) (c - block .own - 1) none)
-            ∙ ap (getD (map (endNumber bs k) (u .met)) (c - block .own - 1)) none-number
-            ∙ sym (cueAt-join (block .own) (s .base) (map (endNumber bs k) (u .met)) c h)
+            ap (end_number bs k) (nth-join block u c h)
+            ∙ sym (get_or-map (end_number bs k) u.met (c - block.own - 1) none)
+            ∙ ap (get_or (map (end_number bs k) u.met) (c - block.own - 1)) none_number
+            ∙ sym (cue_at-join block.own s.base (map (end_number bs k) u.met) c h)
 
     -- Its links.
-    own-edges : map (byNumbers bs k) (map (edge cues) (block .links)) ≡ own-links copy
-    unfolding byNumbers edge renamed
-    own-edges = map-map (byNumbers bs k) (edge cues) (block .links) ∙ map-same _ _ (block .links) alike
+    own-edges : map (by_numbers bs k) (map (edge cues) block.links) ≡ own-links copy
+    unfolding by_numbers edge renamed
+    own-edges = map-map (by_numbers bs k) (edge cues) block.links ∙ map_same _ _ block.links alike
       where
-        alike : (l : Link) → List·Memᴰ l (block .links) → byNumbers bs k (edge cues l) ≡ renamed (number copy) l
+        alike : (l : Link) → Memᴰ l block.links → by_numbers bs k (edge cues l) ≡ renamed (number copy) l
         alike l i =
-            let g : GoodLink block l = good-at bs good (u .block) .links l i in
-            ap₂ (λ (x y : ℕ). record { from = x; to = y; label = l .label }) (cue-number (l .from) (g .from .0)) (cue-number (l .to) (g .to .0))
+            let g : GoodLink block l = (good-at bs good u.block).links l i in
+            ap₂ (λ (x y : ℕ). record { from = x; to = y; label = l.label }) (cue-number l.from g.from.0) (cue-number l.to g.to.0)
 
     -- Its own cues are those that their numbers name.
-    own-node : (c : ℕ) → 1 ≤ c → c ≤ block .own → node (u .path) c ≡ nodeAt bs k (s .base + c)
-    unfolding nodeNumber
-    own-node c x y = node-back bs k (node (u .path) c) (s .base + c) (own-number c x y ∙ cueAt-own (block .own) (s .base) _ c y) (omega arith)
+    own-node : (c : ℕ) → 1 ≤ c → c ≤ block.own → node u.path c ≡ node_at bs k (s.base + c)
+    unfolding node_number
+    own-node c x y = node-back bs k (node u.path c) (s.base + c) (own-number c x y ∙ cue_at-own block.own s.base _ c y) (omega arith)
 
-    own-cues : ownNodes (u .path) (block .own) ≡ map (nodeAt bs k) (range (suc (s .base)) (block .own))
-    unfolding ownNodes
-    own-cues = ranges-alike _ (nodeAt bs k) 1 (suc (s .base)) (block .own) (λ i l. moved i (own-node (1 + i) (omega arith) (omega arith)))
+    own-cues : own_nodes u.path block.own ≡ map (node_at bs k) (range (suc s.base) block.own)
+    unfolding own_nodes
+    own-cues = ranges_alike _ (node_at bs k) 1 (suc s.base) block.own (λ i l. moved i (own-node (1 + i) (omega arith) (omega arith)))
       where
-        moved : (i : ℕ) {v : Node} → v ≡ nodeAt bs k (s .base + (1 + i)) → v ≡ nodeAt bs k (suc (s .base) + i)
-        moved i e = let q : suc (s .base) + i ≡ s .base + (1 + i) = omega arith in rw q e
+        moved : (i : ℕ) {v : Node} → v ≡ node_at bs k (s.base + (1 + i)) → v ≡ node_at bs k (suc s.base + i)
+        moved i e = let q : suc s.base + i ≡ s.base + (1 + i) = omega arith in rw q e
 
     -- Some uses of the block, the first of which is the p-th and has its copy after base.
     abbrev Follow : ℕ → ℕ → List Use → Type 0
     Follow p base us =
-        (i : ℕ) → i < length us → part-at copy (p + i) ≡ record { of = getD us i noUse; base = base + sumOver (total bs) (take i us) }
+        (i : ℕ) → i < length us → part_at copy (p + i) ≡ record { of = get_or us i no_use; base = base + sum_over (total bs) (take i us) }
 
-    follow-all : Follow 1 behind (block .uses)
-    unfolding nthUse
-    follow-all i l = let e : 1 + i - 1 ≡ i = omega arith in rw e
+    follow_all : Follow 1 behind block.uses
+    unfolding nth_use
+    follow_all i l = let e : 1 + i - 1 ≡ i = omega arith in rw e
 
     -- The copies of some uses are those for the uses that the step makes of them.
-    copy-new : (p : ℕ) → after (alone-copy bs k) (u .path ++ (p ∷ [])) ≡ part-copy copy (part-at copy p)
-    copy-new p = after-snoc (alone-copy bs k) (u .path) p ∙ ap (λ (z : Copy). part-copy z (part-at z p)) (s .is)
+    copy-new : (p : ℕ) → after (alone_copy bs k) (u.path ++ (p ∷ [])) ≡ part-copy copy (part_at copy p)
+    copy-new p = after-snoc (alone_copy bs k) u.path p ∙ ap (λ (z : Copy). part-copy z (part_at z p)) s.is
 
     copies-new : {X : Type 0} (f : Copy → List X) (p base : ℕ) (us : List Use) → Follow p base us
-        → flatMap (λ w. f (copyFor bs k w)) (standing cues (u .path) p us)
-        ≡ flatMap (λ q. f (part-copy copy q)) (partsFrom (total bs) base us)
-    unfolding flatMap standing partsFrom sumOver
+        → flat_map (λ w. f (copy_for bs k w)) (standing cues u.path p us)
+        ≡ flat_map (λ q. f (part-copy copy q)) (parts_from (total bs) base us)
+    unfolding flat_map standing parts_from sum_over
     copies-new f p base [] h = refl
     copies-new f p base (w ∷ us) h =
-        ap₂ _++_ (ap f (copy-new p ∙ ap (part-copy copy) first)) (copies-new f (suc p) (base + total bs (w .block)) us rest)
+        ap₂ ◌++◌ (ap f (copy-new p ∙ ap (part-copy copy) first)) (copies-new f (suc p) (base + total bs w.block) us rest)
       where
-        first : part-at copy p ≡ record { of = w; base = base }
+        first : part_at copy p ≡ record { of = w; base = base }
         first = rw (add-zero p, add-zero base) at (h 0 (omega arith))
 
-        rest : Follow (suc p) (base + total bs (w .block)) us
+        rest : Follow (suc p) (base + total bs w.block) us
         rest i l =
             let d : suc p + i ≡ p + suc i = omega arith in
-            rw (d, add-assoc base (total bs (w .block)) _) (h (suc i) (omega arith))
+            rw (d, add_assoc base (total bs w.block) _) (h (suc i) (omega arith))
 
     -- The links and the cues of those copies.
     parts-links : (base : ℕ) (us : List Use)
-        → usesLinks (total bs) (links bs) (number copy) base us ≡ flatMap (λ q. all-links (part-copy copy q)) (partsFrom (total bs) base us)
-    unfolding usesLinks flatMap partsFrom
+        → uses_links (total bs) (links bs) (number copy) base us ≡ flat_map (λ q. all-links (part-copy copy q)) (parts_from (total bs) base us)
+    unfolding uses_links flat_map parts_from
     parts-links base [] = refl
-    parts-links base (w ∷ us) = ap₂ _++_ (links-at bs good (w .block) base (map (number copy) (w .at))) (parts-links (base + total bs (w .block)) us)
+    parts-links base (w ∷ us) = ap₂ ◌++◌ (links-at bs good w.block base (map (number copy) w.at)) (parts-links (base + total bs w.block) us)
 
     parts-cues : (base : ℕ) (us : List Use)
-        → map (nodeAt bs k) (range (suc base) (sumOver (total bs) us)) ≡ flatMap (λ q. nodesIn bs k (part-copy copy q)) (partsFrom (total bs) base us)
-    unfolding range sumOver flatMap partsFrom
+        → map (node_at bs k) (range (suc base) (sum_over (total bs) us)) ≡ flat_map (λ q. nodes_in bs k (part-copy copy q)) (parts_from (total bs) base us)
+    unfolding range sum_over flat_map parts_from
     parts-cues base [] = refl
     parts-cues base (w ∷ us) =
-        range-parts (nodeAt bs k) base (total bs (w .block)) (sumOver (total bs) us)
-        ∙ ap₂ _++_ (ap (λ (n : ℕ). map (nodeAt bs k) (range (suc base) n)) (total-at bs good (w .block) base (map (number copy) (w .at))))
-        (parts-cues (base + total bs (w .block)) us)
+        range-parts (node_at bs k) base (total bs w.block) (sum_over (total bs) us)
+        ∙ ap₂ ◌++◌ (ap (λ (n : ℕ). map (node_at bs k) (range (suc base) n)) (total-at bs good w.block base (map (number copy) w.at)))
+        (parts-cues (base + total bs w.block) us)
 
     -- So a use brings what the step puts in, and what the uses that it leaves are to bring.
     abbrev pub new : List Standing
-    new = standing cues (u .path) 1 (block .uses)
+    new = standing cues u.path 1 block.uses
 
-    pub split-links : linksFor bs k u
-        ≡ map (byNumbers bs k) (map (edge cues) (block .links)) ++ flatMap (linksFor bs k) new
-    split-links =
-        ap all-links (s .is)
-        ∙ ap₂ _++_ (sym own-edges)
-        (parts-links behind (block .uses) ∙ sym (copies-new all-links 1 behind (block .uses) follow-all))
+    pub split_links : links_for bs k u
+        ≡ map (by_numbers bs k) (map (edge cues) block.links) ++ flat_map (links_for bs k) new
+    split_links =
+        ap all-links s.is
+        ∙ ap₂ ◌++◌ (sym own-edges)
+        (parts-links behind block.uses ∙ sym (copies-new all-links 1 behind block.uses follow_all))
 
-    pub split-cues : cuesFor bs k u ≡ ownNodes (u .path) (block .own) ++ flatMap (cuesFor bs k) new
-    split-cues =
-        ap (nodesIn bs k) (s .is)
-        ∙ range-parts (nodeAt bs k) (s .base) (block .own) (sumOver (total bs) (block .uses))
-        ∙ ap₂ _++_ (sym own-cues)
-        (parts-cues behind (block .uses) ∙ sym (copies-new (nodesIn bs k) 1 behind (block .uses) follow-all))
+    pub split_cues : cues_for bs k u ≡ own_nodes u.path block.own ++ flat_map (cues_for bs k) new
+    split_cues =
+        ap (nodes_in bs k) s.is
+        ∙ range-parts (node_at bs k) s.base block.own (sum_over (total bs) block.uses)
+        ∙ ap₂ ◌++◌ (sym own-cues)
+        (parts-cues behind block.uses ∙ sym (copies-new (nodes_in bs k) 1 behind block.uses follow_all))
 
     -- The joins of those copies meet the cues' numbers.
-    met-new : (w : Use) → List·Memᴰ w (block .uses) → map (number copy) (w .at) ≡ map (endNumber bs k) (map (nth cues) (w .at))
+    met-new : (w : Use) → Memᴰ w block.uses → map (number copy) w.at ≡ map (end_number bs k) (map (nth cues) w.at)
     met-new w m =
-        sym (map-map (endNumber bs k) (nth cues) (w .at)
-        ∙ map-same _ _ (w .at) (λ c i. cue-number c (good-at bs good (u .block) .uses w m .cues c i .0)))
+        sym (map-map (end_number bs k) (nth cues) w.at
+        ∙ map_same _ _ w.at (λ c i. cue-number c (((good-at bs good u.block).uses w m).cues c i).0))
 
     -- The paths of those uses lead to the blocks that they name.
-    leads-new : (i : ℕ) → i < length (block .uses) → blockAfter bs k (u .path ++ ((1 + i) ∷ [])) ≡ getD (block .uses) i noUse .block
+    leads-new : (i : ℕ) → i < length block.uses → block_after bs k (u.path ++ ((1 + i) ∷ [])) ≡ (get_or block.uses i no_use).block
     leads-new i l =
-        block-snoc bs k (u .path) (1 + i)
-        ∙ ap (λ (j : ℕ). usedBy (blockAt bs j .uses) (1 + i)) (s .leads)
-        ∙ used-is (block .uses) (1 + i) (omega arith)
-        ∙ ap (λ (q : Part). q .of .block) (follow-all i l)
+        block-snoc bs k u.path (1 + i)
+        ∙ ap (λ (j : ℕ). used_by (block_at bs j).uses (1 + i)) s.leads
+        ∙ used_is block.uses (1 + i) (omega arith)
+        ∙ ap (λ (q : Part). q.of.block) (follow_all i l)
 
     -- And each of those uses stands.
-    pub new-stands : (w : Standing) → List·Memᴰ w new → Stands bs k w
-    new-stands w m = let (i, l, e) = standing-at cues (u .path) 1 (block .uses) w m in rw e (go i l)
+    pub new-stands : (w : Standing) → Memᴰ w new → Stands bs k w
+    new-stands w m = let (i, l, e) = standing-at cues u.path 1 block.uses w m in rw e (go i l)
       where
-        go : (i : ℕ) → i < length (block .uses) → Stands bs k (stand cues (u .path) (1 + i) (getD (block .uses) i noUse))
+        go : (i : ℕ) → i < length block.uses → Stands bs k (stand cues u.path (1 + i) (get_or block.uses i no_use))
         go i l =
-            let w : Use = getD (block .uses) i noUse in
-            let base : ℕ = behind + sumOver (total bs) (take i (block .uses)) in
-            let m : List·Memᴰ w (block .uses) = use-mem (block .uses) i l in
+            let w : Use = get_or block.uses i no_use in
+            let base : ℕ = behind + sum_over (total bs) (take i block.uses) in
+            let m : Memᴰ w block.uses = use_mem block.uses i l in
             record {
-              steps = steps-snoc (1 + i) (s .steps) (omega arith) (rw (s .is) (omega arith));
+              steps = steps-snoc (1 + i) s.steps (omega arith) (rw s.is (omega arith));
               leads = leads-new i l;
               base = base;
-              is = copy-new (1 + i) ∙ ap (part-copy copy) (follow-all i l) ∙ ap (copyOf bs (w .block) base) (met-new w m);
-              known = good-at bs good (u .block) .uses w m .lower;
+              is = copy-new (1 + i) ∙ ap (part-copy copy) (follow_all i l) ∙ ap (copy_of bs w.block base) (met-new w m);
+              known = ((good-at bs good u.block).uses w m).lower;
             }

@@ -1,34 +1,35 @@
 -- The four stages together: what the verdict on rows says.
-use Prim.Native.Nat.{ℕ, suc, _%_, _≤_, _<_}
+use Prim.Native.Nat.{ℕ, suc, ◌%◌, ◌≤◌, ◌<◌}
 use native.Mathlib.Omega.{arith}
-use native.Mathlib.Decide.{ℕ-discrete, decLt}
-use mathlib.Core.Path.{_≡_, refl, _∙_}
+use native.Mathlib.Decide.{ℕ_discrete, dec_lt}
+use mathlib.Core.Path.{◌≡◌, refl, ◌∙◌}
 use mathlib.Core.Bool.{Bool}
-use mathlib.Core.Logic.{inl, inr, Iff·rfl}
+use mathlib.Core.Logic.Iff
+use mathlib.Core.Logic.{inl, inr}
 use mathlib.Core.List.{List}
 use lib.ListN.{length}
-use Rattle·model.specs.Limits.{rowSize, maxRows}
-use Rattle·model.specs.Rows.{rowCount, rowsOf}
-use Rattle·model.specs.Blocks.{blocksOf}
-use Rattle·model.specs.Verdicts.{refused, andThen, checkLength, openingRows, checkBlocks, mayStand, totalFits, verdict}
-use Rattle·model.specs.declared.Verdict.{Verdict}
-use Rattle·model.specs.declared.Verdict.the-variants.{Accepted, Refused}
-use Rattle·basics.proofs.Choices.{eq-then, eq-else, lt-then, lt-else}
-use Rattle·demands·specs.specs.Acceptance.{
+use Rattle.model.specs.Limits.{row_size, max_rows}
+use Rattle.model.specs.Rows.{row_count, rows_of}
+use Rattle.model.specs.Blocks.{blocks_of}
+use Rattle.model.specs.Verdicts.{refused, and_then, check_length, opening_rows, check_blocks, may_stand, total_fits, verdict}
+use Rattle.model.specs.declared.Verdict.{Verdict}
+use Rattle.model.specs.declared.Verdict.TheVariants.{Accepted, Refused}
+use Rattle.basics.proofs.Choices.{eq_then, eq_else, lt_then, lt_else}
+use Rattle.demands.specs.Acceptance.{
   Check,
   Length,
   Ends,
   Totals,
-  refusalNumber,
+  refusal_number,
   LooksAt,
   Keeps,
   turn,
   Earlier,
   FirstBroken,
 }
-use Rattle·demands·proofs.proofs.Stages.{numbers, same-check, looks-at-row, Stage, passes, fails, go-on, stop}
-use Rattle·demands·proofs.proofs.RowByRow.{rows-say, RowsPassed, rows-passed}
-use Rattle·demands·proofs.proofs.BlockByBlock.{Blockwise, blocks-say, ends, totals}
+use Rattle.demands.proofs.Stages.{numbers, same_check, looks-at_row, Stage, passes, fails, go_on, stop}
+use Rattle.demands.proofs.RowByRow.{rows-say, RowsPassed, rows-passed}
+use Rattle.demands.proofs.BlockByBlock.{Blockwise, blocks-say, ends, totals}
 
 -- Every check is kept at every place.
 abbrev pub Kept : List ℕ → Type 0
@@ -41,101 +42,101 @@ KeptBefore xs t = (c : Check) (p : ℕ) → turn c < t → LooksAt xs c p → Ke
 -- What a verdict says.
 pub data VerdictSays (xs : List ℕ) (v : Verdict) : Type 0 where
   lawful : v ≡ Accepted → Kept xs → VerdictSays xs v
-  unlawful : (c : Check) (p : ℕ) → v ≡ refused (refusalNumber c) p → FirstBroken xs c p → VerdictSays xs v
+  unlawful : (c : Check) (p : ℕ) → v ≡ refused (refusal_number c) p → FirstBroken xs c p → VerdictSays xs v
 
 -- A stage, and what comes behind it.
-stage-then : (xs : List ℕ) (t : ℕ) (v w : Verdict) → Stage xs t 0 v → KeptBefore xs t
-    → (v ≡ Accepted → KeptBefore xs (suc t) → VerdictSays xs w) → VerdictSays xs (andThen v w)
-unfolding andThen refused
-stage-then xs t v w (passes e f) b next = rw e (next e (λ c p h l. at c p h l (ℕ-discrete (turn c) t)))
+stage_then : (xs : List ℕ) (t : ℕ) (v w : Verdict) → Stage xs t 0 v → KeptBefore xs t
+    → (v ≡ Accepted → KeptBefore xs (suc t) → VerdictSays xs w) → VerdictSays xs (and_then v w)
+unfolding and_then refused
+stage_then xs t v w (passes e f) b next = rw e (next e (λ c p h l. at c p h l (ℕ_discrete (turn c) t)))
   where
     at : (c : Check) (p : ℕ) → turn c < suc t → LooksAt xs c p → Dec (turn c ≡ t) → Keeps xs c p
     at c p h l (yes z) = f c p z (omega arith) l
     at c p h l (no z) = b c p (omega arith) l
-stage-then xs t v w (fails c p e h l n f) b next =
+stage_then xs t v w (fails c p e h l n f) b next =
     rw e (unlawful c p refl (record { looks = l; broken = n; before = λ d q k m. at d q k m }))
   where
     at : (d : Check) (q : ℕ) → LooksAt xs d q → Earlier d q c p → Keeps xs d q
     at d q k (inl z) = b d q (omega arith) k
-    at d q k (inr z) = f d q (z .0 ∙ h) (omega arith) k (z .1)
+    at d q k (inr z) = f d q (z.0 ∙ h) (omega arith) k z.1
 
 -- The stages behind the first begin at row 1.
-from-first : (xs : List ℕ) (t : ℕ) (v : Verdict) → 1 ≤ t → Stage xs t 1 v → Stage xs t 0 v
-from-first xs t v a s = go-on xs t 0 v (λ c h l. absurd (omega (arith, looks-at-row xs c 0 (omega arith) l))) s
+from_first : (xs : List ℕ) (t : ℕ) (v : Verdict) → 1 ≤ t → Stage xs t 1 v → Stage xs t 0 v
+from_first xs t v a s = go_on xs t 0 v (λ c h l. absurd (omega (arith, looks-at_row xs c 0 (omega arith) l))) s
 
 -- Check 4: failed, passed, and which of the two.
 length-fails : (xs : List ℕ) (v : Verdict) → v ≡ refused 4 0 → (Keeps xs Length 0 → ⊥) → Stage xs 0 0 v
-unfolding refusalNumber turn
-length-fails xs v e n = stop xs 0 0 v Length e refl refl n (λ d z l. absurd (omega (arith, numbers d .low)))
+unfolding refusal_number turn
+length-fails xs v e n = stop xs 0 0 v Length e refl refl n (λ d z l. absurd (omega (arith, (numbers d).low)))
 
 length-passes : (xs : List ℕ) (v : Verdict) → v ≡ Accepted → Keeps xs Length 0 → Stage xs 0 0 v
-unfolding refusalNumber
-length-passes xs v e h = passes e (λ c q z m l. at c q (same-check c Length (numbers c .first z)))
+unfolding refusal_number
+length-passes xs v e h = passes e (λ c q z m l. at c q (same_check c Length ((numbers c).first z)))
   where
     at : (c : Check) (q : ℕ) → c ≡ Length → Keeps xs c q
     at c q e = rw e h
 
-length-says : (xs : List ℕ) → Stage xs 0 0 (checkLength xs)
-unfolding checkLength
-length-says xs = go (ℕ-discrete (length xs % rowSize) 0) (decLt (rowCount xs) 1) (decLt maxRows (rowCount xs))
+length-says : (xs : List ℕ) → Stage xs 0 0 (check_length xs)
+unfolding check_length
+length-says xs = go (ℕ_discrete (length xs % row_size) 0) (dec_lt (row_count xs) 1) (dec_lt max_rows (row_count xs))
   where
-    go : Dec (length xs % rowSize ≡ 0) → Dec (rowCount xs < 1) → Dec (maxRows < rowCount xs) → Stage xs 0 0 (checkLength xs)
-    go (no n) b c = length-fails xs _ (eq-else _ 0 _ _ n) (λ h. n (h .0))
-    go (yes a) (yes b) c = length-fails xs _ (eq-then _ 0 _ _ a ∙ lt-then _ 1 _ _ b) (λ h. omega (arith, h .1))
+    go : Dec (length xs % row_size ≡ 0) → Dec (row_count xs < 1) → Dec (max_rows < row_count xs) → Stage xs 0 0 (check_length xs)
+    go (no n) b c = length-fails xs _ (eq_else _ 0 _ _ n) (λ h. n h.0)
+    go (yes a) (yes b) c = length-fails xs _ (eq_then _ 0 _ _ a ∙ lt_then _ 1 _ _ b) (λ h. omega (arith, h.1))
     go (yes a) (no b) (yes c) =
-        length-fails xs _ (eq-then _ 0 _ _ a ∙ lt-else _ 1 _ _ (omega arith) ∙ lt-then maxRows _ _ _ c) (λ h. omega (arith, h .2))
+        length-fails xs _ (eq_then _ 0 _ _ a ∙ lt_else _ 1 _ _ (omega arith) ∙ lt_then max_rows _ _ _ c) (λ h. omega (arith, h.2))
     go (yes a) (no b) (no c) =
-        length-passes xs _ (eq-then _ 0 _ _ a ∙ lt-else _ 1 _ _ (omega arith) ∙ lt-else maxRows _ _ _ (omega arith)) (a, omega arith, omega arith)
+        length-passes xs _ (eq_then _ 0 _ _ a ∙ lt_else _ 1 _ _ (omega arith) ∙ lt_else max_rows _ _ _ (omega arith)) (a, omega arith, omega arith)
 
 -- A last stage has nothing behind it.
-and-accepted : (v : Verdict) → v ≡ andThen v Accepted
-unfolding andThen
-and-accepted Accepted = refl
-and-accepted (Refused r) = refl
+and_accepted : (v : Verdict) → v ≡ and_then v Accepted
+unfolding and_then
+and_accepted Accepted = refl
+and_accepted (Refused r) = refl
 
 -- Checks 9 and 10, once all rows have passed.
 module _ (xs : List ℕ) (passed : RowsPassed xs) where
-  ends-blockwise : Blockwise xs Ends (mayStand (blocksOf xs))
-  unfolding turn refusalNumber
+  ends-blockwise : Blockwise xs Ends (may_stand (blocks_of xs))
+  unfolding turn refusal_number
   ends-blockwise =
       record {
         late = omega arith;
-        alone = λ d z. same-check d Ends (numbers d .third z);
-        looks = λ q. Iff·rfl;
+        alone = λ d z. same_check d Ends ((numbers d).third z);
+        looks = λ q. Iff.rfl;
         says = ends xs passed;
-        place = passed .place;
+        place = passed.place;
       }
 
-  totals-blockwise : Blockwise xs Totals (totalFits (blocksOf xs))
-  unfolding turn refusalNumber
+  totals-blockwise : Blockwise xs Totals (total_fits (blocks_of xs))
+  unfolding turn refusal_number
   totals-blockwise =
       record {
         late = omega arith;
-        alone = λ d z. same-check d Totals (numbers d .last z);
-        looks = λ q. Iff·rfl;
+        alone = λ d z. same_check d Totals ((numbers d).last z);
+        looks = λ q. Iff.rfl;
         says = totals xs passed;
-        place = passed .place;
+        place = passed.place;
       }
 
   -- Each of the two from the first row on,
   blocks-stage : (c : Check) (ok : ℕ → Bool) → Blockwise xs c ok
-      → Stage xs (turn c) 0 (checkBlocks (refusalNumber c) ok 0 (openingRows 1 (rowsOf xs)))
-  blocks-stage c ok b = from-first xs (turn c) _ (b .late) (blocks-say xs c ok b)
+      → Stage xs (turn c) 0 (check_blocks (refusal_number c) ok 0 (opening_rows 1 (rows_of xs)))
+  blocks-stage c ok b = from_first xs (turn c) _ b.late (blocks-say xs c ok b)
 
   -- and both.
   blocks-then : KeptBefore xs 2
-      → VerdictSays xs (andThen (checkBlocks 9 (mayStand (blocksOf xs)) 0 (openingRows 1 (rowsOf xs)))
-      (checkBlocks 10 (totalFits (blocksOf xs)) 0 (openingRows 1 (rowsOf xs))))
-  unfolding turn refusalNumber
+      → VerdictSays xs (and_then (check_blocks 9 (may_stand (blocks_of xs)) 0 (opening_rows 1 (rows_of xs)))
+      (check_blocks 10 (total_fits (blocks_of xs)) 0 (opening_rows 1 (rows_of xs))))
+  unfolding turn refusal_number
   blocks-then b =
-      stage-then xs 2 _ _ (blocks-stage Ends _ ends-blockwise) b
-      (λ _ b. rw (and-accepted (checkBlocks 10 (totalFits (blocksOf xs)) 0 (openingRows 1 (rowsOf xs))))
-      (stage-then xs 3 _ _ (blocks-stage Totals _ totals-blockwise) b (λ _ b. lawful refl (λ c p l. b c p (numbers c .few) l))))
+      stage_then xs 2 _ _ (blocks-stage Ends _ ends-blockwise) b
+      (λ _ b. rw (and_accepted (check_blocks 10 (total_fits (blocks_of xs)) 0 (opening_rows 1 (rows_of xs))))
+      (stage_then xs 3 _ _ (blocks-stage Totals _ totals-blockwise) b (λ _ b. lawful refl (λ c p l. b c p (numbers c).few l))))
 
 -- All four.
 pub verdict-says : (xs : List ℕ) → VerdictSays xs (verdict xs)
 unfolding verdict turn
 verdict-says xs =
-    stage-then xs 0 _ _ (length-says xs) (λ c p h. absurd (omega arith))
-    (λ _ b. stage-then xs 1 _ _ (from-first xs 1 _ (omega arith) (rows-say xs .stage)) b
-    (λ e b. blocks-then xs (rows-passed xs (b Length 0 (omega arith) refl .1) e) b))
+    stage_then xs 0 _ _ (length-says xs) (λ c p h. absurd (omega arith))
+    (λ _ b. stage_then xs 1 _ _ (from_first xs 1 _ (omega arith) (rows-say xs).stage) b
+    (λ e b. blocks-then xs (rows-passed xs (b Length 0 (omega arith) refl).1 e) b))

@@ -1,46 +1,46 @@
 -- What write answers and leaves is what the documents demand.
-use Prim.Native.Nat.{ℕ, _≤_}
-use mathlib.Core.Path.{_≡_, _∙_, ap}
+use Prim.Native.Nat.{ℕ, ◌≤◌}
+use mathlib.Core.Path.{◌≡◌, ◌∙◌, ap}
 use mathlib.Core.List.{List}
 use lib.ListN.{length}
-use Rattle·model.specs.Rows.{rowsOf, fileText}
-use Rattle·model.specs.Verdicts.{verdict}
-use Rattle·model.specs.Questions.{Outcome, answer}
-use Rattle·model.specs.declared.Verdict.the-variants.{Accepted}
-use Rattle·model.specs.declared.WriteAnswer.{WriteAnswer}
-use Rattle·model.specs.declared.WriteAnswer.the-variants.{Written}
-use Rattle·shows.proofs.RoundTrips.{rows-spell, write-answer}
-use Rattle·demands·specs.specs.Buffers.{Leaves}
-use Rattle·model.specs.Asking.{AsksWrite}
-use Rattle·demands·specs.specs.Acceptance.{Lawful}
-use Rattle·demands·specs.specs.Files.{UnpaddedFile, IsWritten}
-use Rattle·demands·proofs.proofs.Acceptance.{accepted-exactly}
-use Rattle·demands·proofs.proofs.Padding.{text-is, text-file-unpadded, one-file}
-use Rattle·demands·proofs.proofs.Answers.{written-is}
-use Rattle·demands·proofs.proofs.RoundTrips.{Wrote, wrote}
+use Rattle.model.specs.Rows.{rows_of, file_text}
+use Rattle.model.specs.Verdicts.{verdict}
+use Rattle.model.specs.Questions.{Outcome, answer}
+use Rattle.model.specs.declared.Verdict.TheVariants.{Accepted}
+use Rattle.model.specs.declared.WriteAnswer.{WriteAnswer}
+use Rattle.model.specs.declared.WriteAnswer.TheVariants.{Written}
+use Rattle.shows.proofs.RoundTrips.{rows-spell, write-answer}
+use Rattle.demands.specs.Buffers.{Leaves}
+use Rattle.model.specs.Asking.{AsksWrite}
+use Rattle.demands.specs.Acceptance.{Lawful}
+use Rattle.demands.specs.Files.{UnpaddedFile, IsWritten}
+use Rattle.demands.proofs.Acceptance.{accepted-exactly}
+use Rattle.demands.proofs.Padding.{text-is, text-file_unpadded, one-file}
+use Rattle.demands.proofs.Answers.{written_is}
+use Rattle.demands.proofs.RoundTrips.{Wrote, wrote}
 
 -- The file that is written for accepted rows says them, and is unpadded.
-pub says : (xs : List ℕ) → verdict xs ≡ Accepted → UnpaddedFile (fileText (rowsOf xs)) xs
-says xs v = text-file-unpadded (rows-spell xs v)
+pub says : (xs : List ℕ) → verdict xs ≡ Accepted → UnpaddedFile (file_text (rows_of xs)) xs
+says xs v = text-file_unpadded (rows-spell xs v)
 
 -- Each answer of write is the one that is demanded.
 pub is-written : (xs out after : List ℕ) (w : WriteAnswer) → AsksWrite xs out w after → IsWritten xs out w after
 unfolding answer
 is-written xs out after w e =
     record {
-      file = λ l. (fileText (rowsOf xs), says xs (accepted-exactly xs .1 l));
+      file = λ l. (file_text (rows_of xs), says xs ((accepted-exactly xs).1 l));
       one-file = λ f g. one-file;
       answers = (λ (bytes, a). lawful bytes (wrote xs out after w e bytes a), λ (l, (f, s, h)). answers l f s h);
       given = λ bytes a. given bytes (wrote xs out after w e bytes a);
     }
   where
     lawful : (bytes : ℕ) → Wrote xs out after bytes → Lawful xs × ((f : List ℕ) × UnpaddedFile f xs × (length f ≤ length out))
-    lawful bytes k = (accepted-exactly xs .0 (k .lawful), (fileText (rowsOf xs), says xs (k .lawful), k .fits))
+    lawful bytes k = ((accepted-exactly xs).0 k.lawful, (file_text (rows_of xs), says xs k.lawful, k.fits))
 
     answers : Lawful xs → (f : List ℕ) → UnpaddedFile f xs → length f ≤ length out → (bytes : ℕ) × (w ≡ Written bytes)
     answers l f s h =
-        let a = write-answer xs out (accepted-exactly xs .1 l) (rw (text-is s) h) in
-        (length (fileText (rowsOf xs)), written-is w _ (ap (λ (o : Outcome). o .answer) (e ∙ a)))
+        let a = write-answer xs out ((accepted-exactly xs).1 l) (rw (text-is s) h) in
+        (length (file_text (rows_of xs)), written_is w _ (ap (λ (o : Outcome). o.answer) (e ∙ a)))
 
     given : (bytes : ℕ) → Wrote xs out after bytes → (f : List ℕ) × UnpaddedFile f xs × (bytes ≡ length f) × Leaves f out after
-    given bytes k = (fileText (rowsOf xs), says xs (k .lawful), k .bytes-are, k .left)
+    given bytes k = (file_text (rows_of xs), says xs k.lawful, k.bytes-are, k.left)

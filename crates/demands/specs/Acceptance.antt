@@ -1,71 +1,67 @@
 -- Which rows are a show: the sentences of document 01, "The show file" and, for the totals, "Unfolding", one by one, said of the rows themselves
 -- and not by the checks; and which refusal is given for rows that break one. Rows are counted from 1.
-use Prim.Native.Nat.{ℕ, suc, _+_, _-_, _%_, _≤_, _<_}
-use mathlib.Core.Path.{_≡_}
-use mathlib.Core.Logic.{_⊎_, _↔_, _≢_}
-use mathlib.Core.List.{List, [], _∷_, _++_}
-use lib.ListN.{length, getD}
-use Rattle·model.specs.Choice.{ifEq}
-use Rattle·model.specs.Limits.{rowSize, maxJoins, maxOwn, maxLabel, maxBlocks, maxRows, maxTotal}
-use Rattle·model.specs.Rows.{Row, rowAt, rowCount, rowsOf}
-use Rattle·model.specs.Answers.{Returned}
+use Rattle.std.specs.Prelude.{ℕ, suc, ◌+◌, ◌-◌, ◌%◌, ◌≤◌, ◌<◌, ◌≡◌, ◌⊎◌, ◌↔◌, ◌≢◌, List, [], ◌∷◌, ◌++◌, length, get_or}
+use Rattle.model.specs.Choice.{if_eq}
+use Rattle.model.specs.Limits.{row_size, max_joins, max_own, max_label, max_blocks, max_rows, max_total}
+use Rattle.model.specs.Rows.{Row, row_at, row_count, rows_of}
+use Rattle.model.specs.Answers.{Returned}
 
 -- The rows.
 
-abbrev pub nthRow : List ℕ → ℕ → Row
-nthRow xs r = rowAt xs (r - 1)
+abbrev pub nth_row : List ℕ → ℕ → Row
+nth_row xs r = row_at xs (r - 1)
 
 abbrev pub IsRow : List ℕ → ℕ → Type 0
-IsRow xs r = (1 ≤ r) × (r ≤ rowCount xs)
+IsRow xs r = (1 ≤ r) × (r ≤ row_count xs)
 
 -- The j-th of the columns a to h, counted from 1.
 abbrev pub column : Row → ℕ → ℕ
-column w j = getD (w .columns) (j - 1) 0
+column w j = get_or w.columns (j - 1) 0
 
 -- "There are three kinds of row."
 abbrev pub Opens : Row → Type 0
-Opens w = w .kind ≡ 0
+Opens w = w.kind ≡ 0
 
 abbrev pub Links : Row → Type 0
-Links w = w .kind ≡ 1
+Links w = w.kind ≡ 1
 
 abbrev pub Uses : Row → Type 0
-Uses w = w .kind ≡ 2
+Uses w = w.kind ≡ 2
 
 -- The row that opens block k: the first of kind 0 that has its number. Where there is none, one with no joins and no own cue.
-unfoldable pub openingIn : List Row → ℕ → Row
-openingIn [] k = record { block = 0; kind = 0; label = 0; columns = [] }
-openingIn (w ∷ ws) k = ifEq (w .kind) 0 (ifEq (w .block) k w (openingIn ws k)) (openingIn ws k)
+unfoldable pub opening_in : List Row → ℕ → Row
+opening_in [] k = record { block = 0; kind = 0; label = 0; columns = [] }
+opening_in (w ∷ ws) k = if_eq w.kind 0 (if_eq w.block k w (opening_in ws k)) (opening_in ws k)
 
 -- "label is its joins", "a is its own cues".
-unfoldable pub joinsIn : List ℕ → ℕ → ℕ
-joinsIn xs k = openingIn (rowsOf xs) k .label
+unfoldable pub joins_in : List ℕ → ℕ → ℕ
+joins_in xs k = (opening_in (rows_of xs) k).label
 
-unfoldable pub ownIn : List ℕ → ℕ → ℕ
-ownIn xs k = column (openingIn (rowsOf xs) k) 1
+unfoldable pub own_in : List ℕ → ℕ → ℕ
+own_in xs k = column (opening_in (rows_of xs) k) 1
 
 -- "cues 1 to own are its own; own + 1 to own + joins are its joins in order. It has no others".
 abbrev pub CueOf : List ℕ → ℕ → ℕ → Type 0
-CueOf xs k c = (1 ≤ c) × (c ≤ ownIn xs k + joinsIn xs k)
+CueOf xs k c = (1 ≤ c) × (c ≤ own_in xs k + joins_in xs k)
 
 -- The sentences of one row.
 
 -- "A block's rows are its opening, its links, its uses. Blocks run 0, 1, 2 and on without a gap": what may stand first, and behind a row v.
 pub record Begins (w : Row) : Type 0 where
   pub opens : Opens w
-  pub block : w .block ≡ 0
+  pub block : w.block ≡ 0
 
 pub data Follows (v w : Row) : Type 0 where
-  next-block : Opens w → w .block ≡ suc (v .block) → Follows v w
-  next-link : Links w → w .block ≡ v .block → Opens v ⊎ Links v → Follows v w
-  next-use : Uses w → w .block ≡ v .block → Follows v w
+  next-block : Opens w → w.block ≡ suc v.block → Follows v w
+  next-link : Links w → w.block ≡ v.block → Opens v ⊎ Links v → Follows v w
+  next-use : Uses w → w.block ≡ v.block → Follows v w
 
 abbrev pub InPlace : List ℕ → ℕ → Type 0
-InPlace xs r = (r ≡ 1 → Begins (nthRow xs r)) × (1 < r → Follows (nthRow xs (r - 1)) (nthRow xs r))
+InPlace xs r = (r ≡ 1 → Begins (nth_row xs r)) × (1 < r → Follows (nth_row xs (r - 1)) (nth_row xs r))
 
 -- "at most 128".
 abbrev pub FewBlocks : Row → Type 0
-FewBlocks w = w .block < maxBlocks
+FewBlocks w = w.block < max_blocks
 
 -- "b to h are 0", "c to h are 0", "the rest are 0": the columns behind the first n.
 abbrev pub IdleAfter : ℕ → Row → Type 0
@@ -73,23 +69,23 @@ IdleAfter n w = (j : ℕ) → n < j → j ≤ 8 → column w j ≡ 0
 
 -- "Kind 0 opens a block: label is its joins (0 to 8), a is its own cues (0 to 255), b to h are 0."
 pub record OpeningFits (w : Row) : Type 0 where
-  pub joins : w .label ≤ maxJoins
-  pub own : column w 1 ≤ maxOwn
+  pub joins : w.label ≤ max_joins
+  pub own : column w 1 ≤ max_own
   pub idle : IdleAfter 1 w
 
 -- "Kind 1 is a link (a follow-on): label 1 to 255, from cue a to cue b, c to h are 0."
 pub record LinkFits (xs : List ℕ) (w : Row) : Type 0 where
-  pub label : (1 ≤ w .label) × (w .label ≤ maxLabel)
-  pub from : CueOf xs (w .block) (column w 1)
-  pub to : CueOf xs (w .block) (column w 2)
+  pub label : (1 ≤ w.label) × (w.label ≤ max_label)
+  pub from : CueOf xs w.block (column w 1)
+  pub to : CueOf xs w.block (column w 2)
   pub idle : IdleAfter 2 w
 
 -- "Kind 2 is a use: label is a lower block number than its own. The first columns, as many as that block has joins, name the cues its
 -- joins meet; the rest are 0." "links and uses name only these".
 pub record UseFits (xs : List ℕ) (w : Row) : Type 0 where
-  pub lower : w .label < w .block
-  pub cues : (j : ℕ) → 1 ≤ j → j ≤ joinsIn xs (w .label) → CueOf xs (w .block) (column w j)
-  pub idle : IdleAfter (joinsIn xs (w .label)) w
+  pub lower : w.label < w.block
+  pub cues : (j : ℕ) → 1 ≤ j → j ≤ joins_in xs w.label → CueOf xs w.block (column w j)
+  pub idle : IdleAfter (joins_in xs w.label) w
 
 -- "A link or use names no cue twice." Of the first n columns no two are the same.
 abbrev pub NoneTwice : ℕ → Row → Type 0
@@ -102,57 +98,57 @@ pub data Below : List ℕ → List ℕ → Type 0 where
 
 -- "Links in a block strictly rise by (a, b, label)": a link that stands behind a link. Both are of one block, since they follow.
 abbrev pub Rises : Row → Row → Type 0
-Rises v w = Below (column v 1 ∷ column v 2 ∷ v .label ∷ []) (column w 1 ∷ column w 2 ∷ w .label ∷ [])
+Rises v w = Below (column v 1 ∷ column v 2 ∷ v.label ∷ []) (column w 1 ∷ column w 2 ∷ w.label ∷ [])
 
 -- "Uses never fall by (a to h, label); equal uses are allowed": a use that stands behind a use.
 abbrev pub NeverFalls : Row → Row → Type 0
-NeverFalls v w = Below (w .columns ++ (w .label ∷ [])) (v .columns ++ (v .label ∷ [])) → ⊥
+NeverFalls v w = Below (w.columns ++ (w.label ∷ [])) (v.columns ++ (v.label ∷ [])) → ⊥
 
 -- The sentences of one block, said of its opening w. Its block is the last if the last row is one of it.
 abbrev pub IsLast : List ℕ → Row → Type 0
-IsLast xs w = w .block ≡ nthRow xs (rowCount xs) .block
+IsLast xs w = w.block ≡ (nth_row xs (row_count xs)).block
 
 -- "The last block is the show: no joins, at least one own cue."
 pub record Shows (w : Row) : Type 0 where
-  pub joins : w .label ≡ 0
+  pub joins : w.label ≡ 0
   pub own : 1 ≤ column w 1
 
 -- "Every other block has 1 to 8 joins and may go unused." (At most 8: `OpeningFits`.)
 abbrev pub HasJoins : Row → Type 0
-HasJoins w = 1 ≤ w .label
+HasJoins w = 1 ≤ w.label
 
 -- "Total of a block: own cues plus the totals of its uses, each use counted." The uses of block k among some rows, where T gives the totals,
-unfoldable pub usesTotal : (ℕ → ℕ) → ℕ → List Row → ℕ
-usesTotal T k [] = 0
-usesTotal T k (w ∷ ws) = ifEq (w .kind) 2 (ifEq (w .block) k (T (w .label) + usesTotal T k ws) (usesTotal T k ws)) (usesTotal T k ws)
+unfoldable pub uses_total : (ℕ → ℕ) → ℕ → List Row → ℕ
+uses_total T k [] = 0
+uses_total T k (w ∷ ws) = if_eq w.kind 2 (if_eq w.block k (T w.label + uses_total T k ws) (uses_total T k ws)) (uses_total T k ws)
 
 -- and that T gives the total of every block.
 abbrev pub AreTotals : List ℕ → (ℕ → ℕ) → Type 0
 AreTotals xs T =
-    (r : ℕ) → IsRow xs r → Opens (nthRow xs r)
-    → T (nthRow xs r .block) ≡ ownIn xs (nthRow xs r .block) + usesTotal T (nthRow xs r .block) (rowsOf xs)
+    (r : ℕ) → IsRow xs r → Opens (nth_row xs r)
+    → T (nth_row xs r).block ≡ own_in xs (nth_row xs r).block + uses_total T (nth_row xs r).block (rows_of xs)
 
 -- "No total may exceed 2,147,483,647." (Accepted rows have totals: `Numbers.IsCount`.)
 abbrev pub TotalFits : List ℕ → Row → Type 0
-TotalFits xs w = (T : ℕ → ℕ) → AreTotals xs T → T (w .block) ≤ maxTotal
+TotalFits xs w = (T : ℕ → ℕ) → AreTotals xs T → T w.block ≤ max_total
 
 -- Every sentence, of all rows. "A show is accepted when its rows meet none of refusals 4 to 10."
 pub record Lawful (xs : List ℕ) : Type 0 where
-  pub whole : length xs % rowSize ≡ 0
-  pub rows : (1 ≤ rowCount xs) × (rowCount xs ≤ maxRows)
+  pub whole : length xs % row_size ≡ 0
+  pub rows : (1 ≤ row_count xs) × (row_count xs ≤ max_rows)
   pub sequence : (r : ℕ) → IsRow xs r → InPlace xs r
-  pub blocks : (r : ℕ) → IsRow xs r → FewBlocks (nthRow xs r)
-  pub openings : (r : ℕ) → IsRow xs r → Opens (nthRow xs r) → OpeningFits (nthRow xs r)
-  pub links : (r : ℕ) → IsRow xs r → Links (nthRow xs r) → LinkFits xs (nthRow xs r)
-  pub uses : (r : ℕ) → IsRow xs r → Uses (nthRow xs r) → UseFits xs (nthRow xs r)
-  pub link-cues : (r : ℕ) → IsRow xs r → Links (nthRow xs r) → NoneTwice 2 (nthRow xs r)
-  pub use-cues : (r : ℕ) → IsRow xs r → Uses (nthRow xs r) → NoneTwice (joinsIn xs (nthRow xs r .label)) (nthRow xs r)
-  pub links-rise : (r : ℕ) → IsRow xs r → 1 < r → Links (nthRow xs (r - 1)) → Links (nthRow xs r) → Rises (nthRow xs (r - 1)) (nthRow xs r)
-  pub uses-never-fall : (r : ℕ) → IsRow xs r → 1 < r → Uses (nthRow xs (r - 1)) → Uses (nthRow xs r)
-      → NeverFalls (nthRow xs (r - 1)) (nthRow xs r)
-  pub last-block : (r : ℕ) → IsRow xs r → Opens (nthRow xs r) → IsLast xs (nthRow xs r) → Shows (nthRow xs r)
-  pub other-blocks : (r : ℕ) → IsRow xs r → Opens (nthRow xs r) → (IsLast xs (nthRow xs r) → ⊥) → HasJoins (nthRow xs r)
-  pub totals : (r : ℕ) → IsRow xs r → Opens (nthRow xs r) → TotalFits xs (nthRow xs r)
+  pub blocks : (r : ℕ) → IsRow xs r → FewBlocks (nth_row xs r)
+  pub openings : (r : ℕ) → IsRow xs r → Opens (nth_row xs r) → OpeningFits (nth_row xs r)
+  pub links : (r : ℕ) → IsRow xs r → Links (nth_row xs r) → LinkFits xs (nth_row xs r)
+  pub uses : (r : ℕ) → IsRow xs r → Uses (nth_row xs r) → UseFits xs (nth_row xs r)
+  pub link-cues : (r : ℕ) → IsRow xs r → Links (nth_row xs r) → NoneTwice 2 (nth_row xs r)
+  pub use_cues : (r : ℕ) → IsRow xs r → Uses (nth_row xs r) → NoneTwice (joins_in xs (nth_row xs r).label) (nth_row xs r)
+  pub links-rise : (r : ℕ) → IsRow xs r → 1 < r → Links (nth_row xs (r - 1)) → Links (nth_row xs r) → Rises (nth_row xs (r - 1)) (nth_row xs r)
+  pub uses-never_fall : (r : ℕ) → IsRow xs r → 1 < r → Uses (nth_row xs (r - 1)) → Uses (nth_row xs r)
+      → NeverFalls (nth_row xs (r - 1)) (nth_row xs r)
+  pub last_block_is : (r : ℕ) → IsRow xs r → Opens (nth_row xs r) → IsLast xs (nth_row xs r) → Shows (nth_row xs r)
+  pub other_blocks : (r : ℕ) → IsRow xs r → Opens (nth_row xs r) → (IsLast xs (nth_row xs r) → ⊥) → HasJoins (nth_row xs r)
+  pub totals : (r : ℕ) → IsRow xs r → Opens (nth_row xs r) → TotalFits xs (nth_row xs r)
 
 -- Which refusal is given.
 
@@ -167,14 +163,14 @@ pub data Check : Type 0 where
   Totals : Check
 
 -- "Refusals by number".
-unfoldable pub refusalNumber : Check → ℕ
-refusalNumber Length = 4
-refusalNumber Sequence = 5
-refusalNumber Ranges = 6
-refusalNumber Repeats = 7
-refusalNumber Order = 8
-refusalNumber Ends = 9
-refusalNumber Totals = 10
+unfoldable pub refusal_number : Check → ℕ
+refusal_number Length = 4
+refusal_number Sequence = 5
+refusal_number Ranges = 6
+refusal_number Repeats = 7
+refusal_number Order = 8
+refusal_number Ends = 9
+refusal_number Totals = 10
 
 -- "given when": p is a place at which a check looks: 0, a row, or an "opening row".
 abbrev pub LooksAt : List ℕ → Check → ℕ → Type 0
@@ -183,21 +179,21 @@ LooksAt xs Sequence p = IsRow xs p
 LooksAt xs Ranges p = IsRow xs p
 LooksAt xs Repeats p = IsRow xs p
 LooksAt xs Order p = IsRow xs p
-LooksAt xs Ends p = IsRow xs p × Opens (nthRow xs p)
-LooksAt xs Totals p = IsRow xs p × Opens (nthRow xs p)
+LooksAt xs Ends p = IsRow xs p × Opens (nth_row xs p)
+LooksAt xs Totals p = IsRow xs p × Opens (nth_row xs p)
 
 -- The sentences that a check is about are kept at a place.
 abbrev pub Keeps : List ℕ → Check → ℕ → Type 0
-Keeps xs Length p = (length xs % rowSize ≡ 0) × (1 ≤ rowCount xs) × (rowCount xs ≤ maxRows)
-Keeps xs Sequence p = InPlace xs p × FewBlocks (nthRow xs p)
+Keeps xs Length p = (length xs % row_size ≡ 0) × (1 ≤ row_count xs) × (row_count xs ≤ max_rows)
+Keeps xs Sequence p = InPlace xs p × FewBlocks (nth_row xs p)
 Keeps xs Ranges p =
-    (Opens (nthRow xs p) → OpeningFits (nthRow xs p)) × (Links (nthRow xs p) → LinkFits xs (nthRow xs p)) × (Uses (nthRow xs p) → UseFits xs (nthRow xs p))
-Keeps xs Repeats p = (Links (nthRow xs p) → NoneTwice 2 (nthRow xs p)) × (Uses (nthRow xs p) → NoneTwice (joinsIn xs (nthRow xs p .label)) (nthRow xs p))
+    (Opens (nth_row xs p) → OpeningFits (nth_row xs p)) × (Links (nth_row xs p) → LinkFits xs (nth_row xs p)) × (Uses (nth_row xs p) → UseFits xs (nth_row xs p))
+Keeps xs Repeats p = (Links (nth_row xs p) → NoneTwice 2 (nth_row xs p)) × (Uses (nth_row xs p) → NoneTwice (joins_in xs (nth_row xs p).label) (nth_row xs p))
 Keeps xs Order p =
-    (1 < p → Links (nthRow xs (p - 1)) → Links (nthRow xs p) → Rises (nthRow xs (p - 1)) (nthRow xs p))
-    × (1 < p → Uses (nthRow xs (p - 1)) → Uses (nthRow xs p) → NeverFalls (nthRow xs (p - 1)) (nthRow xs p))
-Keeps xs Ends p = (IsLast xs (nthRow xs p) → Shows (nthRow xs p)) × ((IsLast xs (nthRow xs p) → ⊥) → HasJoins (nthRow xs p))
-Keeps xs Totals p = TotalFits xs (nthRow xs p)
+    (1 < p → Links (nth_row xs (p - 1)) → Links (nth_row xs p) → Rises (nth_row xs (p - 1)) (nth_row xs p))
+    × (1 < p → Uses (nth_row xs (p - 1)) → Uses (nth_row xs p) → NeverFalls (nth_row xs (p - 1)) (nth_row xs p))
+Keeps xs Ends p = (IsLast xs (nth_row xs p) → Shows (nth_row xs p)) × ((IsLast xs (nth_row xs p) → ⊥) → HasJoins (nth_row xs p))
+Keeps xs Totals p = TotalFits xs (nth_row xs p)
 
 -- "Checks run in this order"; "Checks 5 to 8 run row by row, in order within a row, and the first failing row decides": 5 to 8 are run
 -- together, and check c at p comes before check d at q.
@@ -211,7 +207,7 @@ turn Ends = 2
 turn Totals = 3
 
 abbrev pub Earlier : Check → ℕ → Check → ℕ → Type 0
-Earlier c p d q = (turn c < turn d) ⊎ ((turn c ≡ turn d) × ((p < q) ⊎ ((p ≡ q) × (refusalNumber c < refusalNumber d))))
+Earlier c p d q = (turn c < turn d) ⊎ ((turn c ≡ turn d) × ((p < q) ⊎ ((p ≡ q) × (refusal_number c < refusal_number d))))
 
 -- Check c fails at p, and none fails before it.
 pub record FirstBroken (xs : List ℕ) (c : Check) (p : ℕ) : Type 0 where
@@ -222,6 +218,6 @@ pub record FirstBroken (xs : List ℕ) (c : Check) (p : ℕ) : Type 0 where
 -- What a question about lent rows returns: "Each but reading takes lent rows and checks them before it answers."
 pub record ChecksRows (xs : List ℕ) (a : Returned) : Type 0 where
   -- Each of 4 to 10 with its place exactly if its sentence is the first that is broken,
-  pub refused : (c : Check) (p : ℕ) → ((a .number ≡ refusalNumber c) × (a .place ≡ p)) ↔ FirstBroken xs c p
+  pub refused : (c : Check) (p : ℕ) → ((a.number ≡ refusal_number c) × (a.place ≡ p)) ↔ FirstBroken xs c p
   -- and none of them, but an answer or a refusal from 11 on, exactly if the rows keep every sentence.
-  pub accepted : ((a .number ≡ 0) ⊎ (10 < a .number)) ↔ Lawful xs
+  pub accepted : ((a.number ≡ 0) ⊎ (10 < a.number)) ↔ Lawful xs

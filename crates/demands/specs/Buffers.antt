@@ -1,8 +1,5 @@
 -- What is left in a lent list. Document 01, "Questions": "the rest unchanged", "Only the needed beginning of the lent output changes."
-use mathlib.Core.Path.{_≡_}
-use mathlib.Core.List.{List}
-use Prim.Native.Nat.{ℕ}
-use lib.ListN.{length, take, drop}
+use Rattle.std.specs.Prelude.{◌≡◌, List, ℕ, length, take, drop}
 
 -- The lent list has some numbers at its beginning afterwards, and is what it was behind them.
 pub record Leaves (numbers lent after : List ℕ) : Type 0 where

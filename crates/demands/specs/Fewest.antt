@@ -1,12 +1,10 @@
 -- Demand 3: what fewest answers about cues s and t. Document 01, "Questions": "Fewest from s to t: a number, or none." What a chain is: `Chain` of
 -- crates/distances/specs/Demand.
-use Prim.Native.Nat.{ℕ, _≤_}
-use mathlib.Core.Path.{_≡_}
-use mathlib.Core.List.{List}
-use Rattle·model.specs.Blocks.{Link}
-use Rattle·model.specs.declared.FewestAnswer.{FewestAnswer}
-use Rattle·model.specs.declared.FewestAnswer.the-variants.{Steps, None}
-use Rattle·distances.specs.Demand.{Chain, NoChain}
+use Rattle.std.specs.Prelude.{ℕ, ◌≤◌, ◌≡◌, List}
+use Rattle.model.specs.Blocks.{Link}
+use Rattle.model.specs.declared.FewestAnswer.{FewestAnswer}
+use Rattle.model.specs.declared.FewestAnswer.TheVariants.{Steps, None}
+use Rattle.distances.specs.Demand.{Chain, NoChain}
 
 -- The answer r from cue s to cue t, where E are the links that a chain may have.
 pub record IsFewest (E : List Link) (s t : ℕ) (r : FewestAnswer) : Type 0 where

@@ -1,33 +1,30 @@
 -- The row behind a follow-on: what row answers about cues s and t, and leaves in the lent list. Document 02, Paper 2: "For s and t, give the number of one
 -- link row, and the depth and path of the copy it stands in, the path into a path list as for locating." What a copy at a path is: Copies. Rows are
 -- counted from 1.
-use Prim.Native.Nat.{ℕ, _≤_, _<_}
-use mathlib.Core.Path.{_≡_}
-use mathlib.Core.Logic.{_⊎_, _↔_}
-use mathlib.Core.List.{List, List·Memᴰ}
-use lib.ListN.{length}
-use Rattle·model.specs.Limits.{maxDepth}
-use Rattle·model.specs.Blocks.{Link, blocksOf}
-use Rattle·model.specs.Verdicts.{refusal}
-use Rattle·model.specs.Unfolding.{showLinks}
-use Rattle·model.specs.declared.RowAnswer.{RowAnswer}
-use Rattle·model.specs.declared.RowAnswer.the-variants.{Row, Refused}
-use Rattle·shows.specs.Copies.{number, show-copy, Steps}
-use Rattle·demands·specs.specs.Buffers.{Leaves}
-use Rattle·demands·specs.specs.Acceptance.{nthRow, IsRow, column, Links, Below}
-use Rattle·demands·specs.specs.Lists.{LinkLeads}
-use Rattle·demands·specs.specs.Copies.{blockAtPath, copyAt}
+use Rattle.std.specs.Prelude.{ℕ, ◌≤◌, ◌<◌, ◌≡◌, ◌⊎◌, ◌↔◌, length}
+use mathlib.Core.List.{List, Memᴰ}
+use Rattle.model.specs.Limits.{max_depth}
+use Rattle.model.specs.Blocks.{Link, blocks_of}
+use Rattle.model.specs.Verdicts.{refusal}
+use Rattle.model.specs.Unfolding.{show_links}
+use Rattle.model.specs.declared.RowAnswer.{RowAnswer}
+use Rattle.model.specs.declared.RowAnswer.TheVariants.{Row, Refused}
+use Rattle.shows.specs.Copies.{number, show_copy, Steps}
+use Rattle.demands.specs.Buffers.{Leaves}
+use Rattle.demands.specs.Acceptance.{nth_row, IsRow, column, Links, Below}
+use Rattle.demands.specs.Lists.{LinkLeads}
+use Rattle.demands.specs.Copies.{block_at_path, copy_at}
 
 -- "The row given must stand in the unfolded show as a link from s to t": a row, and the path of the copy that it stands in.
 pub record StandsAs (xs : List ℕ) (s t : ℕ) (path : List ℕ) (row : ℕ) : Type 0 where
   -- Each step of the path is a use, and the row is a link row of the block that the path leads to;
-  pub steps : Steps (show-copy (blocksOf xs)) path
+  pub steps : Steps (show_copy (blocks_of xs)) path
   pub is : IsRow xs row
-  pub links : Links (nthRow xs row)
-  pub block : nthRow xs row .block ≡ blockAtPath xs path
+  pub links : Links (nth_row xs row)
+  pub block : (nth_row xs row).block ≡ block_at_path xs path
   -- the cues a and b that the row names have the numbers s and t in the copy there.
-  pub from : number (copyAt xs path) (column (nthRow xs row) 1) ≡ s
-  pub to : number (copyAt xs path) (column (nthRow xs row) 2) ≡ t
+  pub from : number (copy_at xs path) (column (nth_row xs row) 1) ≡ s
+  pub to : number (copy_at xs path) (column (nth_row xs row) 2) ≡ t
 
 -- Which of two wins.
 
@@ -40,7 +37,7 @@ DepthWins a b = a < b
 pub data Wins (path : List ℕ) (row : ℕ) (way : List ℕ) (other : ℕ) : Type 0 where
   by-depth : DepthWins (length path) (length way) → Wins path row way other
   by-step : length path ≡ length way → Below path way → Wins path row way other
-  by-row : path ≡ way → row < other → Wins path row way other
+  by_row : path ≡ way → row < other → Wins path row way other
 
 -- What is answered.
 
@@ -53,9 +50,9 @@ pub record IsGiven (xs : List ℕ) (s t : ℕ) (lent : List ℕ) (row depth : �
   pub path : List ℕ
   pub long : length path ≡ depth
   pub leaves : Leaves path lent after
-  pub deep : length path ≤ maxDepth
+  pub deep : length path ≤ max_depth
   pub stands : StandsAs xs s t path row
-  pub shown : List·Memᴰ (link s t (nthRow xs row .label)) (showLinks (blocksOf xs))
+  pub shown : Memᴰ (link s t (nth_row xs row).label) (show_links (blocks_of xs))
   pub wins : (way : List ℕ) (other : ℕ) → StandsAs xs s t way other → ((way ≡ path) × (other ≡ row)) ⊎ Wins path row way other
   pub unbeaten : (way : List ℕ) (other : ℕ) → StandsAs xs s t way other → Wins way other path row → ⊥
 
@@ -63,8 +60,8 @@ pub record IsGiven (xs : List ℕ) (s t : ℕ) (lent : List ℕ) (row depth : �
 pub record IsRowBehind (xs : List ℕ) (s t : ℕ) (lent : List ℕ) (r : RowAnswer) (after : List ℕ) : Type 0 where
   -- What stands as a link from s to t is what the unfolded show has, label by label.
   pub stand : (label : ℕ)
-      → List·Memᴰ (link s t label) (showLinks (blocksOf xs))
-      ↔ ((path : List ℕ) × (row : ℕ) × StandsAs xs s t path row × (nthRow xs row .label ≡ label))
+      → Memᴰ (link s t label) (show_links (blocks_of xs))
+      ↔ ((path : List ℕ) × (row : ℕ) × StandsAs xs s t path row × ((nth_row xs row).label ≡ label))
   -- A row is given exactly if there is such a link, and then it is the one that wins.
   pub exactly : ((row depth : ℕ) × (r ≡ Row row depth)) ↔ LinkLeads xs s t
   pub given : (row depth : ℕ) → r ≡ Row row depth → IsGiven xs s t lent row depth after

@@ -1,8 +1,12 @@
 // Prints the table of the blocks that come with the desk, line by line as in a show file. It is no show by itself: its last block has joins.
-use plain_runs::DESK_BYTES;
+#![tactic(auto)]
 
-fn main() {
+use plain_runs::DESK_BYTES;
+use std::io;
+use std::io::Write;
+
+fn main(rt: HostRuntime) -> io::Result<()> {
     let mut out = [0u8; DESK_BYTES];
     plain_runs::generate(&mut out);
-    io::write_all(1, &out);
+    rt.stdout().write_all(&out)
 }

@@ -6,41 +6,30 @@
 //
 // Others call `summarise`, which fills the work area with the summaries of all blocks, `fewest`,
 // which answers the question, and `common`, which says how far two places have the same rows.
-use blocks::Place;
-use blocks::wide;
-use estimates::ESTIMATES;
-use estimates::NO_CHAIN;
-use estimates::clear;
-use estimates::gather;
-use estimates::put;
-use estimates::put_met;
-use model::limits::MAX_BLOCKS;
-use model::limits::SUMMARY_SIZE;
-use model::limits::SUMMARY_WIDTH;
-use model::limits::WORK_SIZE;
-use relax::clear_block;
-use relax::from_cue;
-use relax::settle;
-ghost use mathlib.Core.Path.{_≡_};
-ghost use Prim.Native.Nat.{_+_, _*_, _≤_, _<_};
-ghost use mathlib.Core.List.{_++_};
-ghost use lib.ListN.{length, take, drop, replicate};
-ghost use Rattle·model.specs.Limits.{noChain, maxDepth, workSize, summarySize, summaryWidth};
-ghost use Rattle·model.specs.Blocks.{joinsOf, blocksOf, count};
-ghost use Rattle·model.specs.Unfolding.{showLinks};
-ghost use Rattle·model.specs.Chains.{fewest};
-ghost use Rattle·model.specs.Summaries.{summaryOf, summaries, workAfter};
-ghost use Rattle·distances.specs.Walks.{each-one};
-ghost use Rattle·distances.specs.Tells.{summariesTo, distance};
-ghost use Rattle·blocks.specs.Loaded.{Loaded, IsBlock};
-ghost use Rattle·blocks.specs.Places.{blockOn, UsesTo, Found};
-ghost use Rattle·searches.specs.Starts.{Started, Merged, estimatesSize};
-ghost use Rattle·searches.specs.Edges.{cueCount, SpreadIn};
-ghost use Rattle·searches.specs.Joins.{JoinsAt, RowKept, JoinsKept};
-ghost use Rattle·searches.specs.Parts.{partOf};
-ghost use Rattle·distance·specs.specs.Summaries.{RowsFilled, Below, PartFilled, HasSummaries, MaySearch};
-ghost use Rattle·copies.specs.ByRows.{copyOn};
-ghost use Rattle·searches.specs.Copies.{FromKept, FromAbove, TellsWhole, keptSize, Risen, Source, Common, Sunk};
+#![tactic(auto)]
+
+ghost use Rattle.std.specs.Prelude.{◌≡◌, ◌+◌, ◌*◌, ◌≤◌, ◌<◌, ◌++◌, length, take, drop, replicate};
+ghost use Rattle.model.specs.Limits.{no_chain, max_depth, work_size, summary_size, summary_width};
+ghost use Rattle.model.specs.Blocks.{joins_of, blocks_of, count};
+ghost use Rattle.model.specs.Unfolding.{show_links};
+ghost use Rattle.model.specs.Chains.{fewest};
+ghost use Rattle.model.specs.Summaries.{summary_of, summaries, work_after};
+ghost use Rattle.distances.specs.Walks.{each-one};
+ghost use Rattle.distances.specs.Tells.{summaries_to, distance};
+ghost use Rattle.blocks.specs.Loaded.{Loaded, IsBlock};
+ghost use Rattle.blocks.specs.Places.{block_on, UsesTo, Found};
+ghost use Rattle.searches.specs.Starts.{Started, Merged, estimates_size};
+ghost use Rattle.searches.specs.Edges.{cue_count, SpreadIn};
+ghost use Rattle.searches.specs.Joins.{JoinsAt, RowKept, JoinsKept};
+ghost use Rattle.searches.specs.Parts.{part_of};
+ghost use Rattle.distance.specs.Summaries.{RowsFilled, Below, PartFilled, HasSummaries, MaySearch};
+ghost use Rattle.copies.specs.ByRows.{copy_on};
+ghost use Rattle.searches.specs.Copies.{FromKept, FromAbove, TellsWhole, kept_size, Risen, Source, Common, Sunk};
+
+use blocks::{Place, wide};
+use estimates::{ESTIMATES, NO_CHAIN, clear, gather, put, put_met};
+use model::limits::{MAX_BLOCKS, SUMMARY_SIZE, SUMMARY_WIDTH, WORK_SIZE};
+use relax::{clear_block, from_cue, settle};
 
 // Estimates kept on the way up: eight for each level.
 const KEPT: usize = SUMMARY_WIDTH * MAX_BLOCKS as usize;
@@ -49,8 +38,8 @@ const KEPT: usize = SUMMARY_WIDTH * MAX_BLOCKS as usize;
 
 // Row i of some numbers, eight to a row: the m estimates from cue p on.
 fn keep_row(v: &mut [u32], i: usize, d: &[u32], p: usize, m: usize)
-    requires { ⌜ (summaryWidth * i + m ≤ length (now v)) × (p + m ≤ length (now d)) ⌝ }
-    ensures { λ _. ⌜ RowKept (now (v .entry)) i (now (d .entry)) p m (now (v .exit)) ⌝ }
+    requires { (summary_width * i + m ≤ length v.old) × (p + m ≤ length d.now) }
+    ensures { RowKept v.old i d.now p m v.new }
 {
     let mut j = 0;
     while j < m {
@@ -61,7 +50,7 @@ fn keep_row(v: &mut [u32], i: usize, d: &[u32], p: usize, m: usize)
 
 // One number in the whole of a part of the work area.
 fn fill(part: &mut [u32], x: u32)
-    ensures { λ _. ⌜ now (part .exit) ≡ replicate (length (now (part .entry))) x ⌝ }
+    ensures { part.new ≡ replicate (length part.old) x }
 {
     let mut i = 0;
     while i < part.len() {
@@ -79,10 +68,10 @@ fn summarise_join(
     d: &mut [u32],
     work: &mut [u32],
 )
-    requires { ⌜ Loaded (now xs) (now t) × IsBlock (now xs) k × (i < joinsOf (blocksOf (now xs)) k) × (length (now d) ≡ estimatesSize)
-        × (summarySize * k + summarySize ≤ length (now work)) × Below (blocksOf (now xs)) k (now work)
-        × RowsFilled (blocksOf (now xs)) k i (partOf (now work) k) ⌝ }
-    ensures { λ _. ⌜ PartFilled (blocksOf (now (xs .entry))) k (i + 1) (now (work .entry)) (now (work .exit)) ⌝ }
+    requires { Loaded xs.now t.now × IsBlock xs.now k × (i < joins_of (blocks_of xs.now) k) × (length d.old ≡ estimates_size)
+        × (summary_size * k + summary_size ≤ length work.old) × Below (blocks_of xs.now) k work.old
+        × RowsFilled (blocks_of xs.now) k i (part_of work.old k) }
+    ensures { PartFilled (blocks_of xs.now) k (i + 1) work.old work.new }
 {
     let first = wide(blocks::own(xs, t, k)) + 1;
     let m = blocks::joins(xs, t, k);
@@ -94,10 +83,10 @@ fn summarise_join(
 
 // The summary of block k, behind those of the lower blocks.
 fn summarise_block(xs: &[u32], t: &[u32; blocks::INDEX], k: usize, d: &mut [u32], work: &mut [u32])
-    requires { ⌜ Loaded (now xs) (now t) × IsBlock (now xs) k × (length (now d) ≡ estimatesSize)
-        × (summarySize * k + summarySize ≤ length (now work)) × Below (blocksOf (now xs)) k (now work) ⌝ }
-    ensures { λ _. ⌜ now (work .exit) ≡ take (summarySize * k) (now (work .entry)) ++ (summaryOf (blocksOf (now (xs .entry))) k ++ drop
-        (summarySize * k + summarySize) (now (work .entry))) ⌝ }
+    requires { Loaded xs.now t.now × IsBlock xs.now k × (length d.old ≡ estimates_size)
+        × (summary_size * k + summary_size ≤ length work.old) × Below (blocks_of xs.now) k work.old }
+    ensures { work.new ≡ take (summary_size * k) work.old ++ (summary_of (blocks_of xs.now) k ++ drop
+        (summary_size * k + summary_size) work.old) }
 {
     let a = SUMMARY_SIZE * k;
     let e = a + SUMMARY_SIZE;
@@ -112,9 +101,8 @@ fn summarise_block(xs: &[u32], t: &[u32; blocks::INDEX], k: usize, d: &mut [u32]
 
 // The summaries of every block.
 fn summarise_blocks(xs: &[u32], t: &[u32; blocks::INDEX], blocks: usize, work: &mut [u32])
-    requires { ⌜ Loaded (now xs) (now t) × (blocks ≡ length (blocksOf (now xs))) × (workSize ≤ length (now work)) ⌝ }
-    ensures { λ _. ⌜ now (work .exit) ≡ summariesTo (blocksOf (now (xs .entry))) blocks ++ drop (summarySize * blocks) (now
-        (work .entry)) ⌝ }
+    requires { Loaded xs.now t.now × (blocks ≡ length (blocks_of xs.now)) × (work_size ≤ length work.old) }
+    ensures { work.new ≡ summaries_to (blocks_of xs.now) blocks ++ drop (summary_size * blocks) work.old }
 {
     let mut d = [0u32; ESTIMATES];
     let mut k = 0;
@@ -126,8 +114,8 @@ fn summarise_blocks(xs: &[u32], t: &[u32; blocks::INDEX], blocks: usize, work: &
 
 // The work area: the summaries of every block, then zeros up to its 16,384 numbers.
 pub fn summarise(xs: &[u32], t: &[u32; blocks::INDEX], work: &mut [u32])
-    requires { ⌜ Loaded (now xs) (now t) × (workSize ≤ length (now work)) ⌝ }
-    ensures { λ _. ⌜ now (work .exit) ≡ workAfter (blocksOf (now (xs .entry))) (now (work .entry)) ⌝ }
+    requires { Loaded xs.now t.now × (work_size ≤ length work.old) }
+    ensures { work.new ≡ work_after (blocks_of xs.now) work.old }
 {
     let blocks = blocks::last(xs, t) + 1;
     summarise_blocks(xs, t, blocks, work);
@@ -139,9 +127,9 @@ pub fn summarise(xs: &[u32], t: &[u32; blocks::INDEX], work: &mut [u32])
 
 // The estimates at the joins of block k, kept for level l.
 fn keep_joins(xs: &[u32], t: &[u32; blocks::INDEX], k: usize, l: usize, d: &[u32], kept: &mut [u32])
-    requires { ⌜ Loaded (now xs) (now t) × IsBlock (now xs) k × (l ≤ maxDepth) × (length (now d) ≡ estimatesSize)
-        × (length (now kept) ≡ keptSize) ⌝ }
-    ensures { λ _. ⌜ JoinsKept (blocksOf (now (xs .entry))) k (now (kept .entry)) l (now (d .entry)) (now (kept .exit)) ⌝ }
+    requires { Loaded xs.now t.now × IsBlock xs.now k × (l ≤ max_depth) × (length d.now ≡ estimates_size)
+        × (length kept.old ≡ kept_size) }
+    ensures { JoinsKept (blocks_of xs.now) k kept.old l d.now kept.new }
 {
     let own = wide(blocks::own(xs, t, k));
     let m = blocks::joins(xs, t, k);
@@ -157,9 +145,9 @@ fn put_kept(
     kept: &[u32],
     d: &mut [u32],
 )
-    requires { ⌜ Loaded (now xs) (now t) × UsesTo (now xs) (now rows) (l + 1) × (l < maxDepth) × (length (now kept) ≡ keptSize)
-        × (length (now d) ≡ estimatesSize) ⌝ }
-    ensures { λ _. ⌜ Merged (FromKept (now (xs .entry)) (now (rows .entry)) l (now (kept .entry))) (now (d .entry)) (now (d .exit)) ⌝ }
+    requires { Loaded xs.now t.now × UsesTo xs.now rows.now (l + 1) × (l < max_depth) × (length kept.now ≡ kept_size)
+        × (length d.old ≡ estimates_size) }
+    ensures { Merged (FromKept xs.now rows.now l kept.now) d.old d.new }
 {
     let r = wide(rows[l]);
     let m = blocks::joins(xs, t, blocks::used(xs, r));
@@ -176,11 +164,11 @@ fn rise_one(
     kept: &mut [u32],
     d: &mut [u32],
 )
-    requires { ⌜ HasSummaries (now xs) (now t) (now work) × UsesTo (now xs) (now rows) (l + 1) × (l < maxDepth)
-        × (length (now kept) ≡ keptSize) × (length (now d) ≡ estimatesSize) ⌝ }
-    ensures { λ _. ⌜ SpreadIn noChain each-one (blocksOf (now (xs .entry))) (now (work .entry)) (blockOn (now (xs .entry)) (now (rows .entry)) l)
-        (FromKept (now (xs .entry)) (now (rows .entry)) l (now (kept .entry))) (now (d .exit))
-        × JoinsKept (blocksOf (now (xs .entry))) (blockOn (now (xs .entry)) (now (rows .entry)) l) (now (kept .entry)) l (now (d .exit)) (now (kept .exit)) ⌝ }
+    requires { HasSummaries xs.now t.now work.now × UsesTo xs.now rows.now (l + 1) × (l < max_depth)
+        × (length kept.old ≡ kept_size) × (length d.old ≡ estimates_size) }
+    ensures { SpreadIn no_chain each-one (blocks_of xs.now) work.now (block_on xs.now rows.now l)
+        (FromKept xs.now rows.now l kept.old) d.new
+        × JoinsKept (blocks_of xs.now) (block_on xs.now rows.now l) kept.old l d.new kept.new }
 {
     let k = blocks::block_on(xs, t, rows, l);
     clear_block(xs, t, k, d);
@@ -200,8 +188,8 @@ fn climb(
     kept: &mut [u32],
     d: &mut [u32],
 )
-    requires { ⌜ MaySearch (now xs) (now t) (now work) (now rows) from (now d) × (length (now kept) ≡ keptSize) ⌝ }
-    ensures { λ _. ⌜ Risen noChain each-one (now (xs .entry)) (now (t .entry)) (now (rows .entry)) from 0 (now (kept .exit)) (now (d .exit)) ⌝ }
+    requires { MaySearch xs.now t.now work.now rows.now from d.old × (length kept.old ≡ kept_size) }
+    ensures { Risen no_chain each-one xs.now t.now rows.now from 0 kept.new d.new }
 {
     from_cue(xs, t, work, from.block, wide(from.own), d);
     keep_joins(xs, t, from.block, from.depth, d, kept);
@@ -216,8 +204,8 @@ fn climb(
 
 // Estimates to begin with at m cues from p on.
 fn put_joins(p: usize, e: &[u32], m: usize, d: &mut [u32])
-    requires { ⌜ (p + m ≤ length (now d)) × (m ≤ length (now e)) ⌝ }
-    ensures { λ _. ⌜ Merged (JoinsAt p (now (e .entry)) m) (now (d .entry)) (now (d .exit)) ⌝ }
+    requires { (p + m ≤ length d.old) × (m ≤ length e.now) }
+    ensures { Merged (JoinsAt p e.now m) d.old d.new }
 {
     let mut i = 0;
     while i < m {
@@ -229,9 +217,9 @@ fn put_joins(p: usize, e: &[u32], m: usize, d: &mut [u32])
 // From the estimates at level l to those that the block at level l + 1 begins with: its joins have
 // what the cues that they meet have.
 fn enter(xs: &[u32], t: &[u32; blocks::INDEX], rows: &[u32], l: usize, d: &mut [u32])
-    requires { ⌜ Loaded (now xs) (now t) × UsesTo (now xs) (now rows) (l + 1) × (length (now d) ≡ estimatesSize) ⌝ }
-    ensures { λ _. ⌜ Started noChain (cueCount (blocksOf (now (xs .entry))) (blockOn (now (xs .entry)) (now (rows .entry)) (l + 1)))
-        (FromAbove (now (xs .entry)) (now (rows .entry)) l (now (d .entry))) (now (d .exit)) ⌝ }
+    requires { Loaded xs.now t.now × UsesTo xs.now rows.now (l + 1) × (length d.old ≡ estimates_size) }
+    ensures { Started no_chain (cue_count (blocks_of xs.now) (block_on xs.now rows.now (l + 1)))
+        (FromAbove xs.now rows.now l d.old) d.new }
 {
     let r = wide(rows[l]);
     let k = blocks::used(xs, r);
@@ -254,9 +242,9 @@ fn put_source(
     kept: &[u32],
     d: &mut [u32],
 )
-    requires { ⌜ Loaded (now xs) (now t) × Found (now xs) (now t) (now rows) from × (l ≤ from .depth) × (length (now kept) ≡ keptSize)
-        × (length (now d) ≡ estimatesSize) ⌝ }
-    ensures { λ _. ⌜ Merged (Source (now (xs .entry)) (now (rows .entry)) from l (now (kept .entry))) (now (d .entry)) (now (d .exit)) ⌝ }
+    requires { Loaded xs.now t.now × Found xs.now t.now rows.now from × (l ≤ from.depth) × (length kept.now ≡ kept_size)
+        × (length d.old ≡ estimates_size) }
+    ensures { Merged (Source xs.now rows.now from l kept.now) d.old d.new }
 {
     if l < from.depth {
         put_kept(xs, t, rows, l, kept, d);
@@ -277,10 +265,10 @@ fn sink_shared(
     kept: &[u32],
     d: &mut [u32],
 )
-    requires { ⌜ MaySearch (now xs) (now t) (now work) (now rows) from (now d) × (shared ≤ from .depth) × (length (now kept) ≡ keptSize)
-        × Risen noChain each-one (now xs) (now t) (now rows) from 0 (now kept) (now d) ⌝ }
-    ensures { λ _. ⌜ TellsWhole noChain each-one (now (xs .entry)) (copyOn (now (xs .entry)) (now (t .entry)) (now (rows .entry)) shared) (from .cue)
-        (now (d .exit)) ⌝ }
+    requires { MaySearch xs.now t.now work.now rows.now from d.old × (shared ≤ from.depth) × (length kept.now ≡ kept_size)
+        × Risen no_chain each-one xs.now t.now rows.now from 0 kept.now d.old }
+    ensures { TellsWhole no_chain each-one xs.now (copy_on xs.now t.now rows.now shared) from.cue
+        d.new }
 {
     let mut l = 0;
     while l < shared {
@@ -302,8 +290,8 @@ fn sink_alone(
     level: usize,
     d: &mut [u32],
 )
-    requires { ⌜ MaySearch (now xs) (now t) (now work) (now rows) to (now d) × (level ≤ to .depth) ⌝ }
-    ensures { λ _. ⌜ Sunk noChain each-one (now (xs .entry)) (now (t .entry)) (now (rows .entry)) level (to .depth) (now (d .entry)) (now (d .exit)) ⌝ }
+    requires { MaySearch xs.now t.now work.now rows.now to d.old × (level ≤ to.depth) }
+    ensures { Sunk no_chain each-one xs.now t.now rows.now level to.depth d.old d.new }
 {
     let mut l = level;
     while l < to.depth {
@@ -317,8 +305,8 @@ fn sink_alone(
 
 // How many rows two places have in common: so many levels below the show do they share a copy.
 pub fn common(a: &[u32], n: usize, b: &[u32], m: usize) -> usize
-    requires { ⌜ (n ≤ length (now a)) × (m ≤ length (now b)) ⌝ }
-    ensures { λ r. ⌜ Common (now (a .entry)) n (now (b .entry)) m r ⌝ }
+    requires { (n ≤ length a.now) × (m ≤ length b.now) }
+    ensures { Common a.now n b.now m result }
 {
     let mut i = 0;
     while i < n {
@@ -344,9 +332,9 @@ pub fn fewest(
     down: &[u32],
     work: &[u32],
 ) -> u32
-    requires { ⌜ Loaded (now xs) (now t) × Found (now xs) (now t) (now up) from × Found (now xs) (now t) (now down) to
-        × (take (summarySize * length (blocksOf (now xs))) (now work) ≡ summaries (blocksOf (now xs))) ⌝ }
-    ensures { λ r. ⌜ fewest (showLinks (blocksOf (now (xs .entry)))) (count (blocksOf (now (xs .entry)))) (from .cue) (to .cue) ≡ distance r ⌝ }
+    requires { Loaded xs.now t.now × Found xs.now t.now up.now from × Found xs.now t.now down.now to
+        × (take (summary_size * length (blocks_of xs.now)) work.now ≡ summaries (blocks_of xs.now)) }
+    ensures { fewest (show_links (blocks_of xs.now)) (count (blocks_of xs.now)) from.cue to.cue ≡ distance result }
 {
     let mut kept = [0u32; KEPT];
     let mut d = [0u32; ESTIMATES];

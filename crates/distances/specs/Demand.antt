@@ -1,17 +1,15 @@
 -- Demand 3: what a chain is, and what the fewest answer and the summaries promise, in the words of document 01.
-use Prim.Native.Nat.{ℕ, suc, _+_, _≤_, _<_}
-use mathlib.Core.Path.{_≡_}
-use mathlib.Core.Logic.{_⊎_, _≢_}
-use mathlib.Core.List.{List, List·Memᴰ}
-use Rattle·model.specs.Blocks.{Link}
-use Rattle·model.specs.Chains.{Distance, Far, Unreachable}
+use Rattle.std.specs.Prelude.{ℕ, suc, ◌+◌, ◌≤◌, ◌<◌, ◌≡◌, ◌⊎◌, ◌≢◌}
+use mathlib.Core.List.{List, Memᴰ}
+use Rattle.model.specs.Blocks.{Link}
+use Rattle.model.specs.Chains.{Distance, Far, Unreachable}
 
 -- Chain E t s n is a chain from s to t that has n of the links E. "A chain from s to t in an unfolding is a list of its links: the
 -- first starts at s, each next one where the one before ended, and the last ends at t. Its length is how many links the list has. The
 -- empty list is a chain from each cue to itself, and never from one cue to a different one."
 pub data Chain (E : List Link) (t : ℕ) : ℕ → ℕ → Type 0 where
   here : Chain E t t 0
-  link : {n : ℕ} (l : Link) → List·Memᴰ l E → Chain E t (l .to) n → Chain E t (l .from) (suc n)
+  link : {n : ℕ} (l : Link) → Memᴰ l E → Chain E t l.to n → Chain E t l.from (suc n)
 
 -- No chain of these links leads from s to t.
 abbrev pub NoChain : List Link → ℕ → ℕ → Type 0

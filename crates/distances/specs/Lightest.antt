@@ -1,10 +1,8 @@
 -- The least of the numbers that have a property, and the least weight of a walk: a number, or none.
-use Prim.Native.Nat.{ℕ, _≤_}
-use mathlib.Core.Path.{_≡_}
-use mathlib.Core.List.{List}
-use Rattle·model.specs.Blocks.{Link}
-use Rattle·model.specs.Chains.{Distance, Far}
-use Rattle·distances·specs.specs.Walks.{Walk, Price, Linked}
+use Rattle.std.specs.Prelude.{ℕ, ◌≤◌, ◌≡◌, List}
+use Rattle.model.specs.Blocks.{Link}
+use Rattle.model.specs.Chains.{Distance, Far}
+use Rattle.distances.specs.Walks.{Walk, Price, Linked}
 
 -- d is the least number with a property, or none where no number has it.
 pub record LeastOf (P : ℕ → Type 0) (d : Distance) : Type 0 where

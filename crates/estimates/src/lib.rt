@@ -4,16 +4,14 @@
 //
 // Of one estimate: `improve`, `put`. Of the cues that a use's row names: `put_met`, `gather`. Of
 // all of them: `clear`. And `either`, of two tests.
-use model::limits::MAX_JOINS;
-use model::limits::MAX_OWN;
-ghost use mathlib.Core.Path.{_≡_};
-ghost use Prim.Native.Nat.{_+_, _≤_, _<_};
-ghost use mathlib.Core.Logic.{_⊎_};
-ghost use mathlib.Core.Bool.{true, false};
-ghost use lib.ListN.{length};
-ghost use Rattle·model.specs.Limits.{noChain};
-ghost use Rattle·searches.specs.Rounds.{orb, One, Round, Fell};
-ghost use Rattle·searches.specs.Starts.{Nowhere, Cell, Meets, MetAt, Started, Merged, Gathered};
+#![tactic(auto)]
+
+ghost use Rattle.std.specs.Prelude.{◌≡◌, ◌+◌, ◌≤◌, ◌<◌, ◌⊎◌, true, false, length};
+ghost use Rattle.model.specs.Limits.{no_chain};
+ghost use Rattle.searches.specs.Rounds.{orb, One, Round, Fell};
+ghost use Rattle.searches.specs.Starts.{Nowhere, Cell, Meets, MetAt, Started, Merged, Gathered};
+
+use model::limits::{MAX_JOINS, MAX_OWN};
 
 // No estimate, and no chain between two joins.
 pub const NO_CHAIN: u32 = model::limits::NO_CHAIN;
@@ -23,14 +21,14 @@ pub const ESTIMATES: usize = (MAX_OWN + MAX_JOINS + 1) as usize;
 
 // Either of two tests.
 pub fn either(a: bool, b: bool) -> bool
-    ensures { λ r. ⌜ r ≡ orb a b ⌝ }
+    ensures { result ≡ orb a b }
 {
     if a { true } else { b }
 }
 
 // A number, wide enough for sums.
 fn wide(x: u32) -> u64
-    ensures { λ r. ⌜ (r ≡ x) × (r ≤ noChain) ⌝ }
+    ensures { (result ≡ x) × (result ≤ no_chain) }
 {
     x as u64
 }
@@ -38,8 +36,8 @@ fn wide(x: u32) -> u64
 // The lesser of a sum and an estimate. This and the test that follows are apart from the store, so
 // that the compiler needs no branch for them: which estimates fall is not foreseeable.
 fn lesser(z: u64, y: u64) -> u32
-    requires { ⌜ y ≤ noChain ⌝ }
-    ensures { λ r. ⌜ ((z < y) × (r ≡ z)) ⊎ ((y ≤ z) × (r ≡ y)) ⌝ }
+    requires { y ≤ no_chain }
+    ensures { ((z < y) × (result ≡ z)) ⊎ ((y ≤ z) × (result ≡ y)) }
 {
     if z < y {
         return z as u32;
@@ -49,7 +47,7 @@ fn lesser(z: u64, y: u64) -> u32
 
 // The sum is less than the estimate.
 fn falls(z: u64, y: u64) -> bool
-    ensures { λ r. ⌜ ((z < y) × (r ≡ true)) ⊎ ((y ≤ z) × (r ≡ false)) ⌝ }
+    ensures { ((z < y) × (result ≡ true)) ⊎ ((y ≤ z) × (result ≡ false)) }
 {
     if z < y {
         return true;
@@ -59,8 +57,8 @@ fn falls(z: u64, y: u64) -> bool
 
 // One edge.
 pub fn improve(d: &mut [u32], u: usize, v: usize, w: u32) -> bool
-    requires { ⌜ (u < length (now d)) × (v < length (now d)) ⌝ }
-    ensures { λ r. ⌜ Round (One u v w) (now (d .entry)) r (now (d .exit)) ⌝ }
+    requires { (u < length d.old) × (v < length d.old) }
+    ensures { Round (One u v w) d.old result d.new }
 {
     let x = wide(d[u]);
     let y = wide(d[v]);
@@ -72,8 +70,8 @@ pub fn improve(d: &mut [u32], u: usize, v: usize, w: u32) -> bool
 
 // An estimate to begin with, where it is less than the one there: says whether it is.
 pub fn put(d: &mut [u32], v: usize, y: u32) -> bool
-    requires { ⌜ v < length (now d) ⌝ }
-    ensures { λ r. ⌜ Merged (Cell v y) (now (d .entry)) (now (d .exit)) × Fell (now (d .entry)) r (now (d .exit)) ⌝ }
+    requires { v < length d.old }
+    ensures { Merged (Cell v y) d.old d.new × Fell d.old result d.new }
 {
     if y < d[v] {
         d[v] = y;
@@ -85,9 +83,9 @@ pub fn put(d: &mut [u32], v: usize, y: u32) -> bool
 // Estimates to begin with at the first m cues that row r names, from place q of a list on: says
 // whether any is less than the one there.
 pub fn put_met(xs: &[u32], r: usize, kept: &[u32], q: usize, m: usize, d: &mut [u32]) -> bool
-    requires { ⌜ Meets (now xs) r m (length (now d)) × (q + m ≤ length (now kept)) ⌝ }
-    ensures { λ c. ⌜ Merged (MetAt (now (xs .entry)) r (now (kept .entry)) q m) (now (d .entry)) (now (d .exit))
-        × Fell (now (d .entry)) c (now (d .exit)) ⌝ }
+    requires { Meets xs.now r m (length d.old) × (q + m ≤ length kept.now) }
+    ensures { Merged (MetAt xs.now r kept.now q m) d.old d.new
+        × Fell d.old result d.new }
 {
     let mut fell = false;
     let mut i = 0;
@@ -101,8 +99,8 @@ pub fn put_met(xs: &[u32], r: usize, kept: &[u32], q: usize, m: usize, d: &mut [
 
 // The estimates of the first m cues that row r names, into the first m of e.
 pub fn gather(xs: &[u32], r: usize, d: &[u32], m: usize, e: &mut [u32])
-    requires { ⌜ Meets (now xs) r m (length (now d)) × (m ≤ length (now e)) ⌝ }
-    ensures { λ _. ⌜ Gathered (now (xs .entry)) r (now (d .entry)) m (now (e .entry)) (now (e .exit)) ⌝ }
+    requires { Meets xs.now r m (length d.now) × (m ≤ length e.old) }
+    ensures { Gathered xs.now r d.now m e.old e.new }
 {
     let mut i = 0;
     while i < m {
@@ -113,8 +111,8 @@ pub fn gather(xs: &[u32], r: usize, d: &[u32], m: usize, e: &mut [u32])
 
 // No estimate yet at the cues up to n.
 pub fn clear(d: &mut [u32], n: usize)
-    requires { ⌜ n < length (now d) ⌝ }
-    ensures { λ _. ⌜ Started noChain n Nowhere (now (d .exit)) ⌝ }
+    requires { n < length d.old }
+    ensures { Started no_chain n Nowhere d.new }
 {
     let mut c = 0;
     while c <= n {

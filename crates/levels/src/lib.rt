@@ -2,26 +2,17 @@
 // one block after another, without unfolding.
 //
 // `levels` makes the table for the blocks below one; `wins` says which of two levels is better.
-use blocks::INDEX;
-use blocks::JOINS;
-use blocks::column;
-use blocks::from;
-use blocks::joins;
-use blocks::link_rows;
-use blocks::own;
-use blocks::to;
-use blocks::use_rows;
-use blocks::used;
-use blocks::wide;
+#![tactic(auto)]
+
+ghost use Rattle.std.specs.Prelude.{◌≡◌, ◌+◌, ◌<◌, replicate};
+ghost use Rattle.model.specs.Limits.{max_joins};
+ghost use Rattle.model.specs.Behind.{depth_wins};
+ghost use Rattle.blocks.specs.Loaded.{Loaded, IsBlock};
+ghost use Rattle.levels.specs.Levels.{better_level, table_size, level_at};
+ghost use Rattle.levels.specs.Tables.{Levels, Fresh, Changed, put_level, HasPairs, Unlinked, used_joins, MayLift, links_put, uses_lift, use_lift, join_lift, pair_lift};
+
+use blocks::{INDEX, JOINS, column, from, joins, link_rows, own, to, use_rows, used, wide};
 use model::limits::MAX_BLOCKS;
-ghost use mathlib.Core.Path.{_≡_};
-ghost use Prim.Native.Nat.{_+_, _<_};
-ghost use lib.ListN.{replicate};
-ghost use Rattle·model.specs.Limits.{maxJoins};
-ghost use Rattle·model.specs.Behind.{depthWins};
-ghost use Rattle·blocks.specs.Loaded.{Loaded, IsBlock};
-ghost use Rattle·levels·specs.specs.Levels.{betterLevel, tableSize, levelAt};
-ghost use Rattle·levels·specs.specs.Tables.{Levels, Fresh, Changed, putLevel, HasPairs, Unlinked, usedJoins, MayLift, linksPut, usesLift, useLift, joinLift, pairLift};
 
 // A level for each two joins of a block, and of all blocks.
 pub const PAIRS: usize = JOINS * JOINS;
@@ -30,14 +21,14 @@ pub const TABLE: usize = PAIRS * MAX_BLOCKS as usize;
 
 // Level a wins over level b: the shorter way does.
 pub fn wins(a: u8, b: u8) -> bool
-    ensures { λ r. ⌜ r ≡ depthWins a b ⌝ }
+    ensures { result ≡ depth_wins a b }
 {
     a < b
 }
 
 // The better of two levels, of which 0 is none.
 fn better_level(a: u8, b: u8) -> u8
-    ensures { λ r. ⌜ r ≡ betterLevel a b ⌝ }
+    ensures { result ≡ better_level a b }
 {
     if b == 0 {
         return a;
@@ -53,16 +44,16 @@ fn better_level(a: u8, b: u8) -> u8
 
 // The level from join i to join j of block k.
 pub fn level_at(m: &[u8], k: usize, i: usize, j: usize) -> u8
-    requires { ⌜ HasPairs (now m) k × (i < maxJoins) × (j < maxJoins) ⌝ }
-    ensures { λ n. ⌜ n ≡ levelAt (now (m .entry)) k i j ⌝ }
+    requires { HasPairs m.now k × (i < max_joins) × (j < max_joins) }
+    ensures { result ≡ level_at m.now k i j }
 {
     m[PAIRS * k + JOINS * i + j]
 }
 
 // Puts in level n from cue a to cue b of block k, which has own own cues, if both are joins.
 fn put(m: &mut [u8], k: usize, own: u32, a: u32, b: u32, n: u8)
-    requires { ⌜ HasPairs (now m) k ⌝ }
-    ensures { λ _. ⌜ Changed k own (putLevel a b n) (now (m .entry)) (now (m .exit)) ⌝ }
+    requires { HasPairs m.old k }
+    ensures { Changed k own (put_level a b n) m.old m.new }
 {
     if a <= own {
         return;
@@ -85,8 +76,8 @@ fn put(m: &mut [u8], k: usize, own: u32, a: u32, b: u32, n: u8)
 
 // Puts in the links of a block.
 fn put_links(xs: &[u32], t: &[u32; INDEX], m: &mut [u8], k: usize, own: u32)
-    requires { ⌜ Loaded (now xs) (now t) × IsBlock (now xs) k × HasPairs (now m) k ⌝ }
-    ensures { λ _. ⌜ Changed k own (linksPut (now (xs .entry)) k) (now (m .entry)) (now (m .exit)) ⌝ }
+    requires { Loaded xs.now t.now × IsBlock xs.now k × HasPairs m.old k }
+    ensures { Changed k own (links_put xs.now k) m.old m.new }
 {
     let rows = link_rows(xs, t, k);
     let mut r = rows.first;
@@ -98,8 +89,8 @@ fn put_links(xs: &[u32], t: &[u32; INDEX], m: &mut [u8], k: usize, own: u32)
 
 // Lifts the level from join i to join j of a use's block through the use of row r.
 fn lift_pair(xs: &[u32], m: &mut [u8], k: usize, own: u32, r: usize, i: usize, j: usize)
-    requires { ⌜ MayLift (now xs) (now m) k r × (i < usedJoins (now xs) r) × (j < usedJoins (now xs) r) ⌝ }
-    ensures { λ _. ⌜ Changed k own (pairLift (now (xs .entry)) (now (m .entry)) r i j) (now (m .entry)) (now (m .exit)) ⌝ }
+    requires { MayLift xs.now m.old k r × (i < used_joins xs.now r) × (j < used_joins xs.now r) }
+    ensures { Changed k own (pair_lift xs.now m.old r i j) m.old m.new }
 {
     let n = level_at(m, used(xs, r), i, j);
     if 0 < n {
@@ -109,8 +100,8 @@ fn lift_pair(xs: &[u32], m: &mut [u8], k: usize, own: u32, r: usize, i: usize, j
 
 // No link leads from join i of block k to another. Most joins have none, so their levels are looked at as a whole first.
 fn unlinked(m: &[u8], k: usize, i: usize) -> bool
-    requires { ⌜ HasPairs (now m) k × (i < maxJoins) ⌝ }
-    ensures { λ r. ⌜ Unlinked (now (m .entry)) k i r ⌝ }
+    requires { HasPairs m.now k × (i < max_joins) }
+    ensures { Unlinked m.now k i result }
 {
     let at = PAIRS * k + JOINS * i;
     let mut all = 0;
@@ -124,8 +115,8 @@ fn unlinked(m: &[u8], k: usize, i: usize) -> bool
 
 // Lifts the levels from join i.
 fn lift_join(xs: &[u32], m: &mut [u8], k: usize, own: u32, r: usize, joins: usize, i: usize)
-    requires { ⌜ MayLift (now xs) (now m) k r × (joins ≡ usedJoins (now xs) r) × (i < joins) ⌝ }
-    ensures { λ _. ⌜ Changed k own (joinLift (now (xs .entry)) (now (m .entry)) r i) (now (m .entry)) (now (m .exit)) ⌝ }
+    requires { MayLift xs.now m.old k r × (joins ≡ used_joins xs.now r) × (i < joins) }
+    ensures { Changed k own (join_lift xs.now m.old r i) m.old m.new }
 {
     if unlinked(m, used(xs, r), i) {
         return;
@@ -142,8 +133,8 @@ fn lift_join(xs: &[u32], m: &mut [u8], k: usize, own: u32, r: usize, joins: usiz
 
 // Lifts the levels of the block that the use of row r names.
 fn lift_use(xs: &[u32], t: &[u32; INDEX], m: &mut [u8], k: usize, own: u32, r: usize)
-    requires { ⌜ Loaded (now xs) (now t) × MayLift (now xs) (now m) k r ⌝ }
-    ensures { λ _. ⌜ Changed k own (useLift (now (xs .entry)) (now (m .entry)) r) (now (m .entry)) (now (m .exit)) ⌝ }
+    requires { Loaded xs.now t.now × MayLift xs.now m.old k r }
+    ensures { Changed k own (use_lift xs.now m.old r) m.old m.new }
 {
     let joins = joins(xs, t, used(xs, r));
     let mut i = 0;
@@ -155,8 +146,8 @@ fn lift_use(xs: &[u32], t: &[u32; INDEX], m: &mut [u8], k: usize, own: u32, r: u
 
 // Lifts the levels of the blocks that block k uses.
 fn lift_uses(xs: &[u32], t: &[u32; INDEX], m: &mut [u8], k: usize, own: u32)
-    requires { ⌜ Loaded (now xs) (now t) × IsBlock (now xs) k × Levels (now xs) (now m) k ⌝ }
-    ensures { λ _. ⌜ Changed k own (usesLift (now (xs .entry)) (now (m .entry)) k) (now (m .entry)) (now (m .exit)) ⌝ }
+    requires { Loaded xs.now t.now × IsBlock xs.now k × Levels xs.now m.old k }
+    ensures { Changed k own (uses_lift xs.now m.old k) m.old m.new }
 {
     let rows = use_rows(xs, t, k);
     let mut r = rows.first;
@@ -168,8 +159,8 @@ fn lift_uses(xs: &[u32], t: &[u32; INDEX], m: &mut [u8], k: usize, own: u32)
 
 // Makes the levels of block k, where those of the blocks below it are made.
 fn make(xs: &[u32], t: &[u32; INDEX], m: &mut [u8], k: usize)
-    requires { ⌜ Loaded (now xs) (now t) × IsBlock (now xs) k × Levels (now xs) (now m) k × Fresh (now m) k ⌝ }
-    ensures { λ _. ⌜ Levels (now (xs .entry)) (now (m .exit)) (k + 1) × Fresh (now (m .exit)) (k + 1) ⌝ }
+    requires { Loaded xs.now t.now × IsBlock xs.now k × Levels xs.now m.old k × Fresh m.old k }
+    ensures { Levels xs.now m.new (k + 1) × Fresh m.new (k + 1) }
 {
     let own = own(xs, t, k);
     put_links(xs, t, m, k, own);
@@ -178,8 +169,8 @@ fn make(xs: &[u32], t: &[u32; INDEX], m: &mut [u8], k: usize)
 
 // Makes the levels of the blocks below end, in a table without any.
 pub fn levels(xs: &[u32], t: &[u32; INDEX], m: &mut [u8], end: usize)
-    requires { ⌜ Loaded (now xs) (now t) × IsBlock (now xs) end × (now m ≡ replicate tableSize 0) ⌝ }
-    ensures { λ _. ⌜ Levels (now (xs .entry)) (now (m .exit)) end ⌝ }
+    requires { Loaded xs.now t.now × IsBlock xs.now end × (m.old ≡ replicate table_size 0) }
+    ensures { Levels xs.now m.new end }
 {
     let mut k = 0;
     while k < end {

@@ -1,15 +1,11 @@
 -- Reading lines as the code does it: at a place of the text. proofs/ ties it to the lines of crates/model.
-use Prim.Native.Nat.{ℕ}
-use mathlib.Core.Path.{_≡_}
-use mathlib.Core.Bool.{Bool, false}
-use mathlib.Core.List.{List, [], _∷_, _++_}
-use lib.ListN.{length, take}
-use Rattle·model.specs.Choice.{ifLt}
-use Rattle·model.specs.Verdicts.{same}
-use Rattle·values.specs.Fields.{valueAt}
-use Rattle·values.specs.declared.Field.the-variants.{Value, Bad}
-use Rattle·lines·specs.specs.declared.Line.{Line}
-use Rattle·lines·specs.specs.declared.Line.the-variants.{Next, Malformed}
+use Rattle.std.specs.Prelude.{ℕ, ◌≡◌, Bool, false, List, [], ◌∷◌, ◌++◌, length, take}
+use Rattle.model.specs.Choice.{if_lt}
+use Rattle.model.specs.Verdicts.{same}
+use Rattle.values.specs.Fields.{value_at}
+use Rattle.values.specs.declared.Field.TheVariants.{Value, Bad}
+use Rattle.lines.specs.declared.Line.{Line}
+use Rattle.lines.specs.declared.Line.TheVariants.{Next, Malformed}
 
 -- What stands at a place: values and the place behind them, or no such values.
 pub data ValueFound : Type 0 where
@@ -21,9 +17,9 @@ behind vs (Values ws next) = Values (vs ++ ws) next
 behind vs Broken = Broken
 
 -- A value for each of some ends.
-unfoldable pub lineAt : List ℕ → List ℕ → ℕ → ValueFound
-lineAt [] f at = Values [] at
-lineAt (e ∷ es) f at = elim (valueAt f e at) [ Value v next ↦ behind (v ∷ []) (lineAt es f next) | Bad ↦ Broken ]
+unfoldable pub line_at : List ℕ → List ℕ → ℕ → ValueFound
+line_at [] f at = Values [] at
+line_at (e ∷ es) f at = elim (value_at f e at) [ Value v next ↦ behind (v ∷ []) (line_at es f next) | Bad ↦ Broken ]
 
 -- What a line's reader answers, and leaves in the row.
 unfoldable pub LineSays : ValueFound → Line → List ℕ → Type 0
@@ -31,5 +27,5 @@ LineSays (Values vs next) l row = (l ≡ Next next) × (row ≡ vs)
 LineSays Broken l row = l ≡ Malformed
 
 -- A text starts with a line of names.
-unfoldable pub startsWith : List ℕ → List ℕ → Bool
-startsWith names f = ifLt (length f) (length names) false (same (take (length names) f) names)
+unfoldable pub starts_with : List ℕ → List ℕ → Bool
+starts_with names f = if_lt (length f) (length names) false (same (take (length names) f) names)

@@ -1,15 +1,16 @@
 // Lines of values at a place of a text, and the line of names that a text starts with. Every kind of file has them so: how many values a line has, the
 // lent row says, and its names are lent too. Others call line_at and starts; small has line_at for small files.
+#![tactic(auto)]
+
 pub mod small;
 
+ghost use Rattle.std.specs.Prelude.{◌≡◌, ◌≤◌, ◌<◌, length, take, get_or};
+ghost use Rattle.model.specs.Text.{line_feed};
+ghost use Rattle.model.specs.Verdicts.{same};
+ghost use Rattle.shows.specs.Files.{ends_of};
+ghost use Rattle.lines.specs.Scanning.{line_at, LineSays, starts_with};
+
 use values::Field;
-ghost use mathlib.Core.Path.{_≡_};
-ghost use Prim.Native.Nat.{_≤_, _<_};
-ghost use lib.ListN.{length, take, getD};
-ghost use Rattle·model.specs.Text.{lineFeed};
-ghost use Rattle·model.specs.Verdicts.{same};
-ghost use Rattle·shows.specs.Files.{endsOf};
-ghost use Rattle·lines·specs.specs.Scanning.{lineAt, LineSays, startsWith};
 
 // The byte behind a line's last value, and behind the others.
 pub const LINE_FEED: u8 = 10;
@@ -17,6 +18,7 @@ pub const LINE_FEED: u8 = 10;
 pub const COMMA: u8 = 44;
 
 // A line of values: the place behind it.
+#[derive(Drop)]
 pub enum Line {
     Next(usize),
     Malformed,
@@ -24,8 +26,8 @@ pub enum Line {
 
 // The byte behind value c of a line of n values.
 fn end_of(c: usize, n: usize) -> u8
-    requires { ⌜ c < n ⌝ }
-    ensures { λ r. ⌜ r ≡ getD (endsOf n) c lineFeed ⌝ }
+    requires { c < n }
+    ensures { result ≡ get_or (ends_of n) c line_feed }
 {
     if c + 1 == n {
         return LINE_FEED;
@@ -36,7 +38,7 @@ fn end_of(c: usize, n: usize) -> u8
 // The line at a place: its values to a row, as many as the row has places. One function calls it, the show reader's, and the compiler puts it there: called
 // from a second one it would be a call for each line.
 pub fn line_at(text: &[u8], from: usize, row: &mut [u32]) -> Line
-    ensures { λ r. ⌜ LineSays (lineAt (endsOf (length (now (row .entry)))) (now (text .entry)) from) r (now (row .exit)) ⌝ }
+    ensures { LineSays (line_at (ends_of (length row.old)) text.now from) result row.new }
 {
     let n = row.len();
     let mut at = from;
@@ -54,8 +56,8 @@ pub fn line_at(text: &[u8], from: usize, row: &mut [u32]) -> Line
 
 // Two lists agree in their first n bytes.
 fn same_to(a: &[u8], b: &[u8], n: usize) -> bool
-    requires { ⌜ (n ≤ length (now a)) × (n ≤ length (now b)) ⌝ }
-    ensures { λ r. ⌜ r ≡ same (take n (now (a .entry))) (take n (now (b .entry))) ⌝ }
+    requires { (n ≤ length a.now) × (n ≤ length b.now) }
+    ensures { result ≡ same (take n a.now) (take n b.now) }
 {
     let mut i = 0;
     while i < n {
@@ -69,7 +71,7 @@ fn same_to(a: &[u8], b: &[u8], n: usize) -> bool
 
 // The text starts with a line of names.
 pub fn starts(text: &[u8], names: &[u8]) -> bool
-    ensures { λ r. ⌜ r ≡ startsWith (now (names .entry)) (now (text .entry)) ⌝ }
+    ensures { result ≡ starts_with names.now text.now }
 {
     let n = names.len();
     if text.len() < n {

@@ -1,24 +1,21 @@
 -- The linked cues that the joins of a copy meet, in rising order.
-use Prim.Native.Nat.{ℕ, _+_, _-_, _≤_, _<_}
-use mathlib.Core.Path.{_≡_}
-use mathlib.Core.List.{List, _++_}
-use lib.ListN.{length, getD}
-use Rattle·model.specs.Choice.{ifLt, ifEq}
-use Rattle·model.specs.Blocks.{Link}
-use Rattle·neighbours.specs.declared.Ask.{Ask}
-use Rattle·neighbours.specs.Picks.{Picked, wanted}
-use Rattle·lists·specs.specs.Pages.{Gives}
+use Rattle.std.specs.Prelude.{ℕ, ◌+◌, ◌-◌, ◌≤◌, ◌<◌, ◌≡◌, List, ◌++◌, length, get_or}
+use Rattle.model.specs.Choice.{if_lt, if_eq}
+use Rattle.model.specs.Blocks.{Link}
+use Rattle.neighbours.specs.declared.Ask.{Ask}
+use Rattle.neighbours.specs.Picks.{Picked, wanted}
+use Rattle.lists.specs.Pages.{Gives}
 
 -- The lesser of x and y, where y counts only if it is marked and above last, and x is 0 for none.
 unfoldable pub lesser : ℕ → ℕ → ℕ → ℕ → ℕ
-lesser flag y last x = ifEq flag 1 (ifLt last y (ifEq x 0 y (ifLt y x y x)) x) x
+lesser flag y last x = if_eq flag 1 (if_lt last y (if_eq x 0 y (if_lt y x y x)) x) x
 
 -- Join j is marked and meets u.
 pub record Met (s : List ℕ) (joins : ℕ) (met : List ℕ) (u : ℕ) : Type 0 where
   pub j : ℕ
   pub within : j < joins
-  pub flag : getD s j 0 ≡ 1
-  pub meets : getD met j 0 ≡ u
+  pub flag : get_or s j 0 ≡ 1
+  pub meets : get_or met j 0 ≡ u
 
 -- x is the least cue above last that a marked join meets, or 0 if there is none.
 pub record Next (s : List ℕ) (joins : ℕ) (met : List ℕ) (last x : ℕ) : Type 0 where
@@ -36,17 +33,17 @@ pub record MeetsJust (q : Ask) (E : List Link) (v base : ℕ) (s : List ℕ) (jo
 -- After some of them were given: what was given, and what is left.
 pub record Some (q : Ask) (E : List Link) (v base last : ℕ) (page : List ℕ) (w : ℕ) (after : List ℕ) (g : ℕ) : Type 0 where
   pub done : List ℕ
-  pub gives : Gives (q .room) page w done after g
+  pub gives : Gives q.room page w done after g
   pub left : wanted q E v 0 base ≡ done ++ wanted q E v last (base - last)
 
 pub record JoinsGoing (q : Ask) (s : List ℕ) (joins : ℕ) (met : List ℕ) (last : ℕ) (page : List ℕ) (w : ℕ) (after : List ℕ) (g : ℕ) : Type 0 where
   pub long : length after ≡ length page
-  pub bound : g ≤ q .room + 1
-  pub high : q .after ≤ last
+  pub bound : g ≤ q.room + 1
+  pub high : q.after ≤ last
   pub some : (E : List Link) (v base : ℕ) → MeetsJust q E v base s joins met → Some q E v base last page w after g
 
 -- After all of them.
 pub record JoinsDone (q : Ask) (s : List ℕ) (joins : ℕ) (met : List ℕ) (page : List ℕ) (w : ℕ) (after : List ℕ) (g : ℕ) : Type 0 where
   pub long : length after ≡ length page
-  pub bound : g ≤ q .room + 1
-  pub all : (E : List Link) (v base : ℕ) → MeetsJust q E v base s joins met → Gives (q .room) page w (wanted q E v 0 base) after g
+  pub bound : g ≤ q.room + 1
+  pub all : (E : List Link) (v base : ℕ) → MeetsJust q E v base s joins met → Gives q.room page w (wanted q E v 0 base) after g

@@ -1,16 +1,13 @@
 -- A page while it is being filled: what it holds, and how many cues it was given. Once a cue finds
 -- no room, the number stays one above the room.
-use Prim.Native.Nat.{ℕ, _+_, _≤_}
-use mathlib.Core.Path.{_≡_}
-use mathlib.Core.List.{List, [], _∷_}
-use lib.ListN.{length, set}
-use Rattle·model.specs.Choice.{ifLt}
-use Rattle·model.specs.Limits.{maxTotal}
-use Rattle·neighbours.specs.declared.Ask.{Ask}
+use Rattle.std.specs.Prelude.{ℕ, ◌+◌, ◌≤◌, ◌≡◌, List, [], ◌∷◌, length, set}
+use Rattle.model.specs.Choice.{if_lt}
+use Rattle.model.specs.Limits.{max_total}
+use Rattle.neighbours.specs.declared.Ask.{Ask}
 
 -- The page has the room that may be written, and w says how many cues it was given.
 abbrev pub HasRoom : Ask → List ℕ → ℕ → Type 0
-HasRoom q page w = (q .room ≤ length page) × (q .room ≤ maxTotal) × (w ≤ q .room + 1)
+HasRoom q page w = (q.room ≤ length page) × (q.room ≤ max_total) × (w ≤ q.room + 1)
 
 pub record Filled : Type 0 where
   pub page : List ℕ
@@ -19,9 +16,9 @@ pub record Filled : Type 0 where
 -- One cue more, and some.
 unfoldable pub put : ℕ → Filled → ℕ → Filled
 put room s u =
-    ifLt (s .given) room
-    (record { page = set (s .page) (s .given) u; given = s .given + 1 })
-    (record { page = s .page; given = room + 1 })
+    if_lt s.given room
+    (record { page = set s.page s.given u; given = s.given + 1 })
+    (record { page = s.page; given = room + 1 })
 
 unfoldable pub puts : ℕ → Filled → List ℕ → Filled
 puts room s [] = s

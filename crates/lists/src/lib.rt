@@ -5,44 +5,26 @@
 // labels lo to hi lead to. Both go down to the copy that owns the cue, mark which of its cues are
 // linked to it, and walk the copies inside in the order of their numbers; records of `neighbours` say
 // which of them have a cue to give.
-use blocks::INDEX;
-use blocks::JOINS;
-use blocks::Place;
-use blocks::join_at;
-use blocks::joins;
-use blocks::own;
-use blocks::size_of;
-use blocks::use_rows;
-use blocks::used;
-use blocks::wide;
-use copies::Frame;
-use copies::descend;
-use model::limits::MAX_BLOCKS;
-use model::limits::MAX_LABEL;
-use model::limits::MAX_TOTAL;
-use neighbours::Ask;
-use neighbours::BITS;
-use neighbours::BLOCK;
-use neighbours::INSIDE;
-use neighbours::RECORD;
-use neighbours::bit;
-use neighbours::marks_of;
-ghost use mathlib.Core.Path.{_≡_};
-ghost use mathlib.Core.List.{[], _∷_};
-ghost use Prim.Native.Nat.{_+_, _*_, _-_, _≤_, _<_, _/_, min};
-ghost use lib.ListN.{length};
-ghost use Rattle·model.specs.Limits.{maxJoins, maxOwn, maxTotal};
-ghost use Rattle·model.specs.Unfolding.{showLinks};
-ghost use Rattle·model.specs.Blocks.{ownOf, count, blocksOf};
-ghost use Rattle·blocks.specs.Loaded.{Loaded, UseRow};
-ghost use Rattle·blocks.specs.Places.{Found};
-ghost use Rattle·neighbours.specs.Picks.{wanted};
-ghost use Rattle·neighbours.specs.Near.{KnownOwn, Table, RecordsReady};
-ghost use Rattle·neighbours.specs.Records.{bitsAt, HasRecord, HasBlock};
-ghost use Rattle·lists·specs.specs.Pages.{HasRoom, Gives};
-ghost use Rattle·lists·specs.specs.Walks.{stepList, ownList, MayVisit, MayEnter, Walked, UsesWalked, Entered, Door};
-ghost use Rattle·lists·specs.specs.Joins.{lesser, Next, JoinsDone};
-ghost use Rattle·lists·specs.specs.Answer.{lowBlocks, linkedCues, labelledCues, IsListed, MayAnswer, Answered};
+#![tactic(auto)]
+
+ghost use Rattle.std.specs.Prelude.{◌≡◌, [], ◌∷◌, ◌+◌, ◌*◌, ◌-◌, ◌≤◌, ◌<◌, ◌/◌, min, length};
+ghost use Rattle.model.specs.Limits.{max_joins, max_own, max_total};
+ghost use Rattle.model.specs.Unfolding.{show_links};
+ghost use Rattle.model.specs.Blocks.{own_of, count, blocks_of};
+ghost use Rattle.blocks.specs.Loaded.{Loaded, UseRow};
+ghost use Rattle.blocks.specs.Places.{Found};
+ghost use Rattle.neighbours.specs.Picks.{wanted};
+ghost use Rattle.neighbours.specs.Near.{KnownOwn, Table, RecordsReady};
+ghost use Rattle.neighbours.specs.Records.{bits_at, HasRecord, HasBlock};
+ghost use Rattle.lists.specs.Pages.{HasRoom, Gives};
+ghost use Rattle.lists.specs.Walks.{step_list, own_list, MayVisit, MayEnter, Walked, UsesWalked, Entered, Door};
+ghost use Rattle.lists.specs.Joins.{lesser, Next, JoinsDone};
+ghost use Rattle.lists.specs.Answer.{low_blocks, linked_cues, labelled_cues, IsListed, MayAnswer, Answered};
+
+use blocks::{INDEX, JOINS, Place, join_at, joins, own, size_of, use_rows, used, wide};
+use copies::{Frame, descend};
+use model::limits::{MAX_BLOCKS, MAX_LABEL, MAX_TOTAL};
+use neighbours::{Ask, BITS, BLOCK, INSIDE, RECORD, bit, marks_of};
 
 // A table of the records of all 128 blocks, and a short one of the blocks below LOW.
 const TABLE: usize = BLOCK * MAX_BLOCKS as usize;
@@ -55,6 +37,7 @@ const LOW_TABLE: usize = BLOCK * LOW;
 const MAX_TOTAL_64: usize = MAX_TOTAL as usize;
 
 // How many cues were written, and whether there is a further one.
+#[derive(Clone, Copy)]
 pub struct Listed {
     pub written: u32,
     pub more: bool,
@@ -62,6 +45,7 @@ pub struct Listed {
 
 // A copy that the walk comes to, whatever its joins meet: its block, the number that its own cues
 // follow, and the cue of it whose links are listed.
+#[derive(Clone, Copy)]
 pub struct Visit {
     pub block: usize,
     pub base: u32,
@@ -70,6 +54,7 @@ pub struct Visit {
 
 // The copy inside such a one that the use of a row makes: the block that has the use, the row, the
 // number that the cues of the copy follow, and the cue of the block whose links are listed.
+#[derive(Clone, Copy)]
 pub struct Inner {
     pub block: usize,
     pub row: usize,
@@ -81,8 +66,8 @@ pub struct Inner {
 
 // One cue more for the page.
 fn give(room: usize, page: &mut [u32], w: usize, u: u32) -> usize
-    requires { ⌜ (room ≤ length (now page)) × (room ≤ maxTotal) ⌝ }
-    ensures { λ g. ⌜ Gives room (now (page .entry)) w (u ∷ []) (now (page .exit)) g ⌝ }
+    requires { (room ≤ length page.old) × (room ≤ max_total) }
+    ensures { Gives room page.old w (u ∷ []) page.new result }
 {
     if w < room {
         page[w] = u;
@@ -93,8 +78,8 @@ fn give(room: usize, page: &mut [u32], w: usize, u: u32) -> usize
 
 // The same for a cue that is marked and high enough.
 fn give_if(q: Ask, page: &mut [u32], w: usize, flag: u8, u: u32) -> usize
-    requires { ⌜ HasRoom q (now page) w ⌝ }
-    ensures { λ g. ⌜ Gives (q .room) (now (page .entry)) w (stepList q flag u) (now (page .exit)) g ⌝ }
+    requires { HasRoom q page.old w }
+    ensures { Gives q.room page.old w (step_list q flag u) page.new result }
 {
     if flag == 1 {
         if q.after < u {
@@ -109,8 +94,8 @@ fn give_if(q: Ask, page: &mut [u32], w: usize, flag: u8, u: u32) -> usize
 
 // The first cue behind the byte that has the bit of cue d, among own own cues.
 fn next_byte(d: usize, own: usize) -> usize
-    requires { ⌜ (1 ≤ d) × (d ≤ own) × (own ≤ maxOwn) ⌝ }
-    ensures { λ r. ⌜ (d < r) × (r ≤ own + 1) × (r ≤ 8 * ((d - 1) / 8) + 9) ⌝ }
+    requires { (1 ≤ d) × (d ≤ own) × (own ≤ max_own) }
+    ensures { (d < result) × (result ≤ own + 1) × (result ≤ 8 * ((d - 1) / 8) + 9) }
 {
     let e = 8 * ((d - 1) / 8) + 9;
     if own < e {
@@ -121,8 +106,8 @@ fn next_byte(d: usize, own: usize) -> usize
 
 // The same for the own cues of a copy whose bits are set in the record from `at` on.
 fn give_own(q: Ask, s: &[u8], at: usize, own: usize, base: u32, page: &mut [u32], w: usize) -> usize
-    requires { ⌜ HasRecord (now s) at × (own ≤ maxOwn) × (base + own ≤ maxTotal) × HasRoom q (now page) w ⌝ }
-    ensures { λ g. ⌜ Gives (q .room) (now (page .entry)) w (ownList q (now (s .entry)) (at + bitsAt) base own) (now (page .exit)) g ⌝ }
+    requires { HasRecord s.now at × (own ≤ max_own) × (base + own ≤ max_total) × HasRoom q page.old w }
+    ensures { Gives q.room page.old w (own_list q s.now (at + bits_at) base own) page.new result }
 {
     let mut d = 1;
     let mut g = w;
@@ -152,8 +137,8 @@ fn give_block(
     page: &mut [u32],
     w: usize,
 ) -> usize
-    requires { ⌜ Loaded (now xs) (now t) × KnownOwn q (blocksOf (now xs)) (now m) at (y .block) (y .cue) × HasRecord (now m) at × MayVisit q (now xs) y (now page) w ⌝ }
-    ensures { λ g. ⌜ Walked q (now (xs .entry)) y (y .base) (now (page .entry)) w (ownOf (blocksOf (now (xs .entry))) (y .block)) (now (page .exit)) g ⌝ }
+    requires { Loaded xs.now t.now × KnownOwn q (blocks_of xs.now) m.now at y.block y.cue × HasRecord m.now at × MayVisit q xs.now y page.old w }
+    ensures { Walked q xs.now y y.base page.old w (own_of (blocks_of xs.now) y.block) page.new result }
 {
     let own = own(xs, t, y.block);
     give_own(q, m, at, wide(own), y.base, page, w)
@@ -163,8 +148,8 @@ fn give_block(
 
 // The join of the used block from which the walk goes on in the copy of a use, or 8.
 fn door(xs: &[u32], t: &[u32; INDEX], q: Ask, m: &[u8], y: Inner, w: usize) -> usize
-    requires { ⌜ Loaded (now xs) (now t) × UseRow (now xs) (y .block) (y .row) × HasBlock (now m) (y .block) × RecordsReady q (blocksOf (now xs)) (now m) (y .block) (y .cue) × MayEnter q (now xs) y w ⌝ }
-    ensures { λ i. ⌜ Door q (now (xs .entry)) y w i ⌝ }
+    requires { Loaded xs.now t.now × UseRow xs.now y.block y.row × HasBlock m.now y.block × RecordsReady q (blocks_of xs.now) m.now y.block y.cue × MayEnter q xs.now y w }
+    ensures { Door q xs.now y w result }
 {
     let room = q.room;
     if room < w {
@@ -188,6 +173,7 @@ fn door(xs: &[u32], t: &[u32; INDEX], q: Ask, m: &[u8], y: Inner, w: usize) -> u
 }
 
 // Gives the page the cues that the cue is linked to in the copies of a copy's uses.
+#[cycle(enter_walk)]
 fn walk(
     xs: &[u32],
     t: &[u32; INDEX],
@@ -197,8 +183,8 @@ fn walk(
     page: &mut [u32],
     w: usize,
 ) -> usize
-    requires { ⌜ Loaded (now xs) (now t) × RecordsReady q (blocksOf (now xs)) (now m) (y .block) (y .cue) × HasBlock (now m) (y .block) × MayVisit q (now xs) y (now page) w ⌝ }
-    ensures { λ g. ⌜ UsesWalked q (now (xs .entry)) y (now (page .entry)) w (now (page .exit)) g ⌝ }
+    requires { Loaded xs.now t.now × RecordsReady q (blocks_of xs.now) m.now y.block y.cue × HasBlock m.now y.block × MayVisit q xs.now y page.old w }
+    ensures { UsesWalked q xs.now y page.old w page.new result }
 {
     let mut g = w;
     let rows = use_rows(xs, t, y.block);
@@ -219,6 +205,7 @@ fn walk(
 }
 
 // Gives the page the cues inside the copy of a use: the own ones, then those of its uses.
+#[cycle(enter_walk)]
 fn enter(
     xs: &[u32],
     t: &[u32; INDEX],
@@ -228,8 +215,8 @@ fn enter(
     page: &mut [u32],
     w: usize,
 ) -> usize
-    requires { ⌜ Loaded (now xs) (now t) × UseRow (now xs) (y .block) (y .row) × HasBlock (now m) (y .block) × RecordsReady q (blocksOf (now xs)) (now m) (y .block) (y .cue) × MayEnter q (now xs) y w × (q .room ≤ length (now page)) ⌝ }
-    ensures { λ g. ⌜ Entered q (now (xs .entry)) y (now (page .entry)) w (now (page .exit)) g ⌝ }
+    requires { Loaded xs.now t.now × UseRow xs.now y.block y.row × HasBlock m.now y.block × RecordsReady q (blocks_of xs.now) m.now y.block y.cue × MayEnter q xs.now y w × (q.room ≤ length page.old) }
+    ensures { Entered q xs.now y page.old w page.new result }
 {
     let i = door(xs, t, q, m, y, w);
     if i == JOINS {
@@ -254,7 +241,7 @@ fn enter(
 
 // The lesser of x and y, where y counts only if it is marked and above last, and x is 0 for none.
 fn lesser_of(flag: u8, y: u32, last: u32, x: u32) -> u32
-    ensures { λ r. ⌜ r ≡ lesser flag y last x ⌝ }
+    ensures { result ≡ lesser flag y last x }
 {
     if flag == 1 {
         if last < y {
@@ -271,8 +258,8 @@ fn lesser_of(flag: u8, y: u32, last: u32, x: u32) -> u32
 
 // The least cue above last that a marked join meets, and 0 if there is none.
 fn next_join(s: &[u8; RECORD], joins: usize, met: [u32; JOINS], last: u32) -> u32
-    requires { ⌜ joins ≤ maxJoins ⌝ }
-    ensures { λ x. ⌜ Next (now (s .entry)) joins met last x ⌝ }
+    requires { joins ≤ max_joins }
+    ensures { Next s.now joins met last result }
 {
     let mut x = 0;
     let mut j = 0;
@@ -287,8 +274,8 @@ fn next_join(s: &[u8; RECORD], joins: usize, met: [u32; JOINS], last: u32) -> u3
 
 // Gives the page the cues that the marked joins meet, in rising order.
 fn give_joins(q: Ask, s: &[u8; RECORD], joins: usize, met: [u32; JOINS], page: &mut [u32]) -> usize
-    requires { ⌜ (joins ≤ maxJoins) × HasRoom q (now page) 0 ⌝ }
-    ensures { λ g. ⌜ JoinsDone q (now (s .entry)) joins met (now (page .entry)) 0 (now (page .exit)) g ⌝ }
+    requires { (joins ≤ max_joins) × HasRoom q page.old 0 }
+    ensures { JoinsDone q s.now joins met page.old 0 page.new result }
 {
     let mut g = 0;
     let mut last = q.after;
@@ -315,8 +302,8 @@ fn answer_by(
     page: &mut [u32],
     m: &mut [u8],
 ) -> usize
-    requires { ⌜ Loaded (now xs) (now t) × MayAnswer q (now xs) z c (now page) × HasBlock (now m) (z .block) × Table q (blocksOf (now xs)) (now m) ⌝ }
-    ensures { λ g. ⌜ Answered q (now (xs .entry)) z c (now (page .entry)) (now (page .exit)) g ⌝ }
+    requires { Loaded xs.now t.now × MayAnswer q xs.now z c page.old × HasBlock m.old z.block × Table q (blocks_of xs.now) m.old }
+    ensures { Answered q xs.now z c page.old page.new result }
 {
     let k = z.block;
     let met = z.met;
@@ -335,24 +322,24 @@ fn answer_by(
 
 // The same in a low block, for which a short table is enough, and in any.
 fn answer_low(xs: &[u32], t: &[u32; INDEX], q: Ask, z: Frame, c: u32, page: &mut [u32]) -> usize
-    requires { ⌜ Loaded (now xs) (now t) × MayAnswer q (now xs) z c (now page) × (z .block < lowBlocks) ⌝ }
-    ensures { λ g. ⌜ Answered q (now (xs .entry)) z c (now (page .entry)) (now (page .exit)) g ⌝ }
+    requires { Loaded xs.now t.now × MayAnswer q xs.now z c page.old × (z.block < low_blocks) }
+    ensures { Answered q xs.now z c page.old page.new result }
 {
     let mut m: [u8; LOW_TABLE] = [0; LOW_TABLE];
     answer_by(xs, t, q, z, c, page, &mut m)
 }
 
 fn answer_any(xs: &[u32], t: &[u32; INDEX], q: Ask, z: Frame, c: u32, page: &mut [u32]) -> usize
-    requires { ⌜ Loaded (now xs) (now t) × MayAnswer q (now xs) z c (now page) ⌝ }
-    ensures { λ g. ⌜ Answered q (now (xs .entry)) z c (now (page .entry)) (now (page .exit)) g ⌝ }
+    requires { Loaded xs.now t.now × MayAnswer q xs.now z c page.old }
+    ensures { Answered q xs.now z c page.old page.new result }
 {
     let mut m: [u8; TABLE] = [0; TABLE];
     answer_by(xs, t, q, z, c, page, &mut m)
 }
 
 fn answer_from(xs: &[u32], t: &[u32; INDEX], q: Ask, z: Frame, c: u32, page: &mut [u32]) -> usize
-    requires { ⌜ Loaded (now xs) (now t) × MayAnswer q (now xs) z c (now page) ⌝ }
-    ensures { λ g. ⌜ Answered q (now (xs .entry)) z c (now (page .entry)) (now (page .exit)) g ⌝ }
+    requires { Loaded xs.now t.now × MayAnswer q xs.now z c page.old }
+    ensures { Answered q xs.now z c page.old page.new result }
 {
     let k = z.block;
     if k < LOW {
@@ -363,7 +350,7 @@ fn answer_from(xs: &[u32], t: &[u32; INDEX], q: Ask, z: Frame, c: u32, page: &mu
 
 // As many cues as are ever written: there are not more in a show.
 fn room_of(size: usize) -> usize
-    ensures { λ r. ⌜ r ≡ min size maxTotal ⌝ }
+    ensures { result ≡ min size max_total }
 {
     if MAX_TOTAL_64 < size {
         return MAX_TOTAL_64;
@@ -380,8 +367,8 @@ fn list_by(
     rows: &[u32],
     page: &mut [u32],
 ) -> Listed
-    requires { ⌜ Loaded (now xs) (now t) × Found (now xs) (now t) (now rows) place × (q .room ≡ min (length (now page)) maxTotal) ⌝ }
-    ensures { λ r. ⌜ IsListed (wanted q (showLinks (blocksOf (now (xs .entry)))) (place .cue) 0 (count (blocksOf (now (xs .entry))))) (now (page .entry)) (now (page .exit)) r ⌝ }
+    requires { Loaded xs.now t.now × Found xs.now t.now rows.now place × (q.room ≡ min (length page.old) max_total) }
+    ensures { IsListed (wanted q (show_links (blocks_of xs.now)) place.cue 0 (count (blocks_of xs.now))) page.old page.new result }
 {
     let room = q.room;
     let z = descend(xs, t, place, rows);
@@ -409,8 +396,8 @@ pub fn list(
     n: u32,
     page: &mut [u32],
 ) -> Listed
-    requires { ⌜ Loaded (now xs) (now t) × Found (now xs) (now t) (now rows) place ⌝ }
-    ensures { λ r. ⌜ IsListed (linkedCues inward (blocksOf (now (xs .entry))) (place .cue) n) (now (page .entry)) (now (page .exit)) r ⌝ }
+    requires { Loaded xs.now t.now × Found xs.now t.now rows.now place }
+    ensures { IsListed (linked_cues inward (blocks_of xs.now) place.cue n) page.old page.new result }
 {
     let room = room_of(page.len());
     let q = Ask {
@@ -433,8 +420,8 @@ pub fn list_labels(
     rows: &[u32],
     page: &mut [u32],
 ) -> Listed
-    requires { ⌜ Loaded (now xs) (now t) × Found (now xs) (now t) (now rows) place ⌝ }
-    ensures { λ r. ⌜ IsListed (labelledCues lo hi (blocksOf (now (xs .entry))) (place .cue)) (now (page .entry)) (now (page .exit)) r ⌝ }
+    requires { Loaded xs.now t.now × Found xs.now t.now rows.now place }
+    ensures { IsListed (labelled_cues lo hi (blocks_of xs.now) place.cue) page.old page.new result }
 {
     let room = room_of(page.len());
     let q = Ask {

@@ -1,41 +1,41 @@
 -- What comes of a file that was loaded: an answer for its rows, or its refusal.
-use Prim.Native.Nat.{ℕ, _-_, _≤_}
+use Prim.Native.Nat.{ℕ, ◌-◌, ◌≤◌}
 use native.Mathlib.Omega.{arith}
-use mathlib.Core.Path.{_≡_, sym, _∙_, ap}
+use mathlib.Core.Path.{◌≡◌, sym, ◌∙◌, ap}
 use mathlib.Core.List.{List}
 use lib.ListN.{length, take, drop, length-take}
-use Rattle·model.specs.Questions.{onAccepted}
-use Rattle·model.specs.declared.Refusal.{Refusal}
-use Rattle·model.specs.declared.Verdict.{Verdict}
-use Rattle·shows.proofs.Outcomes.{on-yes, on-no}
-use Rattle·blocks.specs.Loaded.{Loaded}
-use Rattle·loading·specs.specs.Loads.{HasLoaded, Loads}
-use Rattle·loading·specs.specs.declared.Loading.{Loading}
-use Rattle·loading·specs.specs.declared.Loading.the-variants.{Ready, Refused as Unloaded}
+use Rattle.model.specs.Questions.{on_accepted}
+use Rattle.model.specs.declared.Refusal.{Refusal}
+use Rattle.model.specs.declared.Verdict.{Verdict}
+use Rattle.shows.proofs.Outcomes.{on-yes, on-no}
+use Rattle.blocks.specs.Loaded.{Loaded}
+use Rattle.loading.specs.Loads.{HasLoaded, Loads}
+use Rattle.loading.specs.declared.Loading.{Loading}
+use Rattle.loading.specs.declared.Loading.TheVariants.{Ready, Refused as Unloaded}
 
 module _ (v : Verdict) (xs ys t : List ℕ) (r : Loading) (l : Loads v xs r ys t) where
   -- Its n numbers, as the code lends them.
   module _ (n : ℕ) (e : r ≡ Ready n) where
-    rows-are : HasLoaded v xs n ys t
+    rows_are : HasLoaded v xs n ys t
     unfolding Loads
-    rows-are = rw e at l
+    rows_are = rw e at l
 
     -- There is room for them, and they are a loaded show.
     pub rows-room : n ≤ length ys
-    rows-room = let h = rows-are in omega (arith, h .size, length-take (length xs) ys, ap length (h .first))
+    rows-room = let h = rows_are in omega (arith, h.size, length-take (length xs) ys, ap length h.first)
 
     part-is : take (n - 0) (drop 0 ys) ≡ xs
-    part-is = let h = rows-are in let k : n - 0 ≡ length xs = omega (arith, h .size) in rw k (h .first)
+    part-is = let h = rows_are in let k : n - 0 ≡ length xs = omega (arith, h.size) in rw k h.first
 
     pub part-loaded : Loaded (take (n - 0) (drop 0 ys)) t
-    part-loaded = rw part-is (rows-are .loaded)
+    part-loaded = rw part-is rows_are.loaded
 
     -- What is answered for the part is answered for the file.
     pub loaded-yes : {A : Type 0} (refuse : Refusal → A) (answer : List ℕ → A) (o : A) → o ≡ answer (take (n - 0) (drop 0 ys))
-        → o ≡ onAccepted v refuse (answer xs)
-    loaded-yes refuse answer o h = h ∙ ap answer part-is ∙ sym (on-yes v refuse (answer xs) (rows-are .accepted))
+        → o ≡ on_accepted v refuse (answer xs)
+    loaded-yes refuse answer o h = h ∙ ap answer part-is ∙ sym (on-yes v refuse (answer xs) rows_are.accepted)
 
   -- A refusal is the file's.
-  pub loaded-no : {A : Type 0} (refuse : Refusal → A) (answer o : A) (f : Refusal) → r ≡ Unloaded f → o ≡ refuse f → o ≡ onAccepted v refuse answer
+  pub loaded-no : {A : Type 0} (refuse : Refusal → A) (answer o : A) (f : Refusal) → r ≡ Unloaded f → o ≡ refuse f → o ≡ on_accepted v refuse answer
   unfolding Loads
   loaded-no refuse answer o f e h = h ∙ sym (on-no v refuse answer f (rw e at l))

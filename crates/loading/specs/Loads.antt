@@ -1,15 +1,12 @@
 -- What loading a file promises.
-use Prim.Native.Nat.{ℕ}
-use mathlib.Core.Path.{_≡_}
-use mathlib.Core.List.{List}
-use lib.ListN.{length, take}
-use Rattle·model.specs.Desk.{withDesk, checkOwn}
-use Rattle·model.specs.declared.Verdict.{Verdict}
-use Rattle·model.specs.declared.Verdict.the-variants.{Accepted, Refused as Unaccepted}
-use Rattle·desk.specs.Own.{ownNumbers}
-use Rattle·blocks.specs.Loaded.{Loaded}
-use Rattle·loading·specs.specs.declared.Loading.{Loading}
-use Rattle·loading·specs.specs.declared.Loading.the-variants.{Ready, Refused}
+use Rattle.std.specs.Prelude.{ℕ, ◌≡◌, List, length, take}
+use Rattle.model.specs.Desk.{with_desk, check_own}
+use Rattle.model.specs.declared.Verdict.{Verdict}
+use Rattle.model.specs.declared.Verdict.TheVariants.{Accepted, Refused as Unaccepted}
+use Rattle.desk.specs.Own.{own_numbers}
+use Rattle.blocks.specs.Loaded.{Loaded}
+use Rattle.loading.specs.declared.Loading.{Loading}
+use Rattle.loading.specs.declared.Loading.TheVariants.{Ready, Refused}
 
 -- The verdict v is that a file is accepted; its rows xs, n numbers, stand first in the lent numbers ys, and t is the index of their blocks.
 pub record HasLoaded (v : Verdict) (xs : List ℕ) (n : ℕ) (ys t : List ℕ) : Type 0 where
@@ -25,5 +22,5 @@ Loads v xs (Refused f) ys t = v ≡ Unaccepted f
 
 -- Numbers that begin with the built-in table, and behind it are not too few and not too many.
 pub record BehindTable (ys : List ℕ) : Type 0 where
-  pub all : ys ≡ withDesk (ownNumbers ys)
-  pub own : checkOwn (ownNumbers ys) ≡ Accepted
+  pub all : ys ≡ with_desk (own_numbers ys)
+  pub own : check_own (own_numbers ys) ≡ Accepted

@@ -1,28 +1,26 @@
 // The one loading step of a file: its lines are read to rows, the rows checked, and the index of their blocks made, all once. Others call `load`, and
 // `load_desk` for the second way of reading. (Rows that are lent are loaded by `verdicts::check`.)
+#![tactic(auto)]
+
+ghost use Rattle.std.specs.Prelude.{◌≡◌, ◌*◌, ◌≤◌, ◌<◌, length, replicate};
+ghost use Rattle.model.specs.Limits.{row_size, max_rows, desk_rows};
+ghost use Rattle.model.specs.Verdicts.{verdict, read_file, by_line, in_lines, numbers_of, file_verdict};
+ghost use Rattle.model.specs.Desk.{with_desk, desk_verdict, by_own_line, in_own_lines, desk_file_verdict};
+ghost use Rattle.verdicts.specs.Index.{index_size};
+ghost use Rattle.codec.specs.Parsing.{Parses};
+ghost use Rattle.desk.specs.Own.{own_numbers};
+ghost use Rattle.loading.specs.Loads.{Loads, BehindTable};
+
 use blocks::INDEX;
 use codec::Parsed;
-use model::Refusal;
-use model::Verdict;
-use model::limits::DESK_ROWS;
-use model::limits::DESK_SIZE;
-use model::limits::MAX_ROWS;
-use model::limits::ROW_SIZE;
-ghost use mathlib.Core.Path.{_≡_};
-ghost use Prim.Native.Nat.{_*_, _≤_, _<_};
-ghost use lib.ListN.{length, replicate};
-ghost use Rattle·model.specs.Limits.{rowSize, maxRows, deskRows};
-ghost use Rattle·model.specs.Verdicts.{verdict, readFile, byLine, inLines, numbersOf, fileVerdict};
-ghost use Rattle·model.specs.Desk.{withDesk, deskVerdict, byOwnLine, inOwnLines, deskFileVerdict};
-ghost use Rattle·verdicts.specs.Index.{indexSize};
-ghost use Rattle·codec.specs.Parsing.{Parses};
-ghost use Rattle·desk.specs.Own.{ownNumbers};
-ghost use Rattle·loading·specs.specs.Loads.{Loads, BehindTable};
+use model::limits::{DESK_ROWS, DESK_SIZE, MAX_ROWS, ROW_SIZE};
+use model::{Refusal, Verdict};
 
 // The rows of the built-in table, in 32 bits.
 const DESK_ROWS_32: u32 = DESK_ROWS as u32;
 
 // What a file comes to: so many numbers, the rows of a loaded show, or the refusal.
+#[derive(Drop)]
 pub enum Loading {
     Ready(usize),
     Refused(Refusal),
@@ -30,8 +28,8 @@ pub enum Loading {
 
 // The refusal of a row, by its line in the file.
 fn by_line(refusal: Refusal) -> Refusal
-    requires { ⌜ refusal .place ≤ maxRows ⌝ }
-    ensures { λ r. ⌜ r ≡ byLine refusal ⌝ }
+    requires { refusal.place ≤ max_rows }
+    ensures { result ≡ by_line refusal }
 {
     if refusal.number < 5 {
         return refusal;
@@ -44,8 +42,8 @@ fn by_line(refusal: Refusal) -> Refusal
 
 // The refusal of a row of all, by its line in a file whose rows stand behind the built-in table.
 fn by_own_line(refusal: Refusal) -> Refusal
-    requires { ⌜ (refusal .place ≤ maxRows) × (5 ≤ refusal .number → deskRows < refusal .place) ⌝ }
-    ensures { λ r. ⌜ r ≡ byOwnLine refusal ⌝ }
+    requires { (refusal.place ≤ max_rows) × (5 ≤ refusal.number → desk_rows < refusal.place) }
+    ensures { result ≡ by_own_line refusal }
 {
     if refusal.number < 5 {
         return refusal;
@@ -58,15 +56,15 @@ fn by_own_line(refusal: Refusal) -> Refusal
 
 // A file that is refused with this number and place.
 fn refuse(number: u32, place: u32) -> Loading
-    ensures { λ r. ⌜ r ≡ Loading.Refused (record { number = number; place = place }) ⌝ }
+    ensures { result ≡ Loading.Refused (record { number = number; place = place }) }
 {
     Loading::Refused(Refusal { number, place })
 }
 
 // The rows of a file, checked.
 fn load_rows(numbers: &[u32], table: &mut [u32; INDEX]) -> Loading
-    requires { ⌜ now table ≡ replicate indexSize 0 ⌝ }
-    ensures { λ r. ⌜ Loads (inLines (verdict (now (numbers .entry)))) (now (numbers .entry)) r (now (numbers .entry)) (now (table .exit)) ⌝ }
+    requires { table.old ≡ replicate index_size 0 }
+    ensures { Loads (in_lines (verdict numbers.now)) numbers.now result numbers.now table.new }
 {
     match verdicts::check(numbers, table) {
         Verdict::Accepted => Loading::Ready(numbers.len()),
@@ -76,9 +74,8 @@ fn load_rows(numbers: &[u32], table: &mut [u32; INDEX]) -> Loading
 
 // The rows of a file behind those of the built-in table, checked with it.
 fn load_desk_rows(numbers: &[u32], table: &mut [u32; INDEX]) -> Loading
-    requires { ⌜ BehindTable (now numbers) × (now table ≡ replicate indexSize 0) ⌝ }
-    ensures { λ r. ⌜ Loads (inOwnLines (deskVerdict (ownNumbers (now (numbers .entry))))) (now (numbers .entry)) r (now (numbers .entry)) (now
-        (table .exit)) ⌝ }
+    requires { BehindTable numbers.now × (table.old ≡ replicate index_size 0) }
+    ensures { Loads (in_own_lines (desk_verdict (own_numbers numbers.now))) numbers.now result numbers.now table.new }
 {
     let opens = desk::opens_first(numbers);
     if !opens {
@@ -92,8 +89,8 @@ fn load_desk_rows(numbers: &[u32], table: &mut [u32; INDEX]) -> Loading
 
 // Loads a file: its rows go to the beginning of the lent numbers, and their index to an empty table. What a refused file leaves in the two is left open.
 pub fn load(file: &[u8], numbers: &mut [u32], table: &mut [u32; INDEX]) -> Loading
-    requires { ⌜ (maxRows * rowSize ≤ length (now numbers)) × (now table ≡ replicate indexSize 0) ⌝ }
-    ensures { λ r. ⌜ Loads (fileVerdict (now (file .entry))) (numbersOf (readFile (now (file .entry)))) r (now (numbers .exit)) (now (table .exit)) ⌝ }
+    requires { (max_rows * row_size ≤ length numbers.old) × (table.old ≡ replicate index_size 0) }
+    ensures { Loads (file_verdict file.now) (numbers_of (read_file file.now)) result numbers.new table.new }
 {
     match codec::parse(file, numbers) {
         Parsed::Refused(refusal) => Loading::Refused(refusal),
@@ -109,17 +106,16 @@ pub fn load(file: &[u8], numbers: &mut [u32], table: &mut [u32; INDEX]) -> Loadi
 
 // A file's own numbers, read to where they belong: behind the place of the built-in table.
 fn parse_own(file: &[u8], numbers: &mut [u32]) -> Parsed
-    requires { ⌜ deskRows * rowSize ≤ length (now numbers) ⌝ }
-    ensures { λ p. ⌜ Parses (readFile (now (file .entry))) p (ownNumbers (now (numbers .entry))) (ownNumbers (now (numbers .exit))) ⌝ }
+    requires { desk_rows * row_size ≤ length numbers.old }
+    ensures { Parses (read_file file.now) result (own_numbers numbers.old) (own_numbers numbers.new) }
 {
     codec::parse(file, &mut numbers[DESK_SIZE..])
 }
 
 // Loads a file the second way: the rows that come with the desk before its own.
 pub fn load_desk(file: &[u8], numbers: &mut [u32], table: &mut [u32; INDEX]) -> Loading
-    requires { ⌜ (maxRows * rowSize ≤ length (now numbers)) × (now table ≡ replicate indexSize 0) ⌝ }
-    ensures { λ r. ⌜ Loads (deskFileVerdict (now (file .entry))) (withDesk (numbersOf (readFile (now (file .entry))))) r (now (numbers .exit)) (now
-        (table .exit)) ⌝ }
+    requires { (max_rows * row_size ≤ length numbers.old) × (table.old ≡ replicate index_size 0) }
+    ensures { Loads (desk_file_verdict file.now) (with_desk (numbers_of (read_file file.now))) result numbers.new table.new }
 {
     match parse_own(file, numbers) {
         Parsed::Refused(refusal) => Loading::Refused(refusal),

@@ -1,29 +1,29 @@
 -- The starred cases hold, by computation: every definition that they lean on is unfolded.
 use mathlib.Core.Path.{refl}
-use mathlib.Core.List.{flatMap}
-use Rattle·model·specs.specs.Choice.{ifLt, ifEq, ifTrue}
-use Rattle·model·specs.specs.Values.{isDigit, run, afterRun, decimal, isValue, digitAt, digits}
-use Rattle·model·specs.specs.Text.{names, ends, valueThen, endedBy, valuesOf, intoFirst, linesOf, lineText}
-use Rattle·model·specs.specs.Rows.{cell, rowAt, rowsFrom, rowCount, rowsOf, rowValues, rowLines, fileText}
-use Rattle·model·specs.specs.Rules.{start, cuesIn, mayOpen, goesOn, mayFollow, columnsUsed, named, every, isCue, isZero, labelFits, ownFits, inRange, differs, distinct, isBelow, linkKey, useKey, inOrder, fault, after}
-use Rattle·model·specs.specs.Blocks.{noBlock, blockAt, joinsOf, ownOf, addLink, addUse, addRow, addRows, blocksOf, sumOver, total, lastBlock, count}
-use Rattle·model·specs.specs.Verdicts.{refusal, refused, andThen, checkLength, checkRows, openingRows, checkBlocks, mayStand, totalFits, verdict, rowThen, readLines, same, readAll, readFile, byLine, inLines, numbersOf, readVerdict, fileVerdict}
-use Rattle·model·specs.specs.Unfolding.{cueAt, renamed, usesLinks, links, showLinks}
-use Rattle·model·specs.specs.Paths.{ownNumber, usesNumber, copyNumber, numberIn, nowhere, stepThen, usesPlace, placeIn}
-use Rattle·model·specs.specs.Lists.{isLinked, range, keep, cuesAfter, isOut, isInto, overwrite}
-use Rattle·model·specs.specs.Behind.{stepInto, tracedInto, rowsTraced, usesTraced, traced, openingRow, showTraced, origins, depthWins, stepsWin, better, winner, best, behind}
-use Rattle·model·specs.specs.Chains.{followed, isIn, successors, searchFrom, fewest}
-use Rattle·model·specs.specs.Summaries.{blockLinks, orNone, summaryBy, summaryOfBy, summariesBy, workBy}
-use Rattle·model·specs.specs.Tables.{lineThen, tableLines, tableAll, tableRead}
-use Rattle·model·specs.specs.Waits.{waitNames, waitEnds, isOutside, firstOutside, firstNotAbove, waitsWith, noWaits, waitsOr, waitsIn, waitFile}
-use Rattle·model·specs.specs.Quickest.{quicker, withWait, quickestOver, quickestWithin, quickest}
-use Rattle·model·specs.specs.Answers.{returned, given, flag, halves}
-use Rattle·model·specs.specs.Questions.{refuse, answer, onAccepted, withRoom, withCue, readInto, readAsked, writeInto, writeAsked, countAsked, located, locateIn, locateAsked, numbered, showNumber, numberAsked, listed, listIn, outAsked, inAsked, rowFound, rowIn, rowAsked, distanceValues, fewestIn, fewestAsked, sumValues, cleared, quickestUnder, quickestIn, quickestAsked}
-use Rattle·model·specs.specs.Printed.{isTriple, triplesOf, triples, numberText, valuesText, linksTitle, showText, printed}
-use Rattle·model·specs.specs.Starred.{Starred}
+use mathlib.Core.List.{flat_map}
+use Rattle.model.specs.Choice.{if_lt, if_eq, if_true}
+use Rattle.model.specs.Values.{is_digit, run, after_run, decimal, is_value, digit_at, digits}
+use Rattle.model.specs.Text.{names, ends, value_then, ended_by, values_of, into_first, lines_of, line_text}
+use Rattle.model.specs.Rows.{cell, row_at, rows_from, row_count, rows_of, row_values, row_lines, file_text}
+use Rattle.model.specs.Rules.{start, cues_in, may_open, goes_on, may_follow, columns_used, named, every, is_cue, is_zero, label_fits, own_fits, in_range, differs, distinct, is_below, link_key, use_key, in_order, fault, after}
+use Rattle.model.specs.Blocks.{no_block, block_at, joins_of, own_of, add_link, add_use, add_row, add_rows, blocks_of, sum_over, total, last_block, count}
+use Rattle.model.specs.Verdicts.{refusal, refused, and_then, check_length, check_rows, opening_rows, check_blocks, may_stand, total_fits, verdict, row_then, read_lines, same, read_all, read_file, by_line, in_lines, numbers_of, read_verdict, file_verdict}
+use Rattle.model.specs.Unfolding.{cue_at, renamed, uses_links, links, show_links}
+use Rattle.model.specs.Paths.{own_number, uses_number, copy_number, number_in, nowhere, step_then, uses_place, place_in}
+use Rattle.model.specs.Lists.{is_linked, range, keep, cues_after, is_out, is_into, overwrite}
+use Rattle.model.specs.Behind.{step_into, traced_into, rows_traced, uses_traced, traced, opening_row, show_traced, origins, depth_wins, steps_win, better, winner, best, behind}
+use Rattle.model.specs.Chains.{followed, is_in, successors, search_from, fewest}
+use Rattle.model.specs.Summaries.{block_links, or_none, summary_by, summary_of_by, summaries_by, work_by}
+use Rattle.model.specs.Tables.{line_then, table_lines, table_all, table_read}
+use Rattle.model.specs.Waits.{wait_names, wait_ends, is_outside, first_outside, first_not_above, waits_with, no_waits, waits_or, waits_in, wait_file}
+use Rattle.model.specs.Quickest.{quicker, with_wait, quickest_over, quickest_within, quickest}
+use Rattle.model.specs.Answers.{returned, given, flag, halves}
+use Rattle.model.specs.Questions.{refuse, answer, on_accepted, with_room, with_cue, read_into, read_asked, write_into, write_asked, count_asked, located, locate_in, locate_asked, numbered, show_number, number_asked, listed, list_in, out_asked, in_asked, row_found, row_in, row_asked, distance_values, fewest_in, fewest_asked, sum_values, cleared, quickest_under, quickest_in, quickest_asked}
+use Rattle.model.specs.Printed.{is_triple, triples_of, triples, number_text, values_text, links_title, show_text, printed}
+use Rattle.model.specs.Starred.{Starred}
 
 pub starred : Starred
-unfolding flatMap ifLt ifEq ifTrue names ends isDigit run afterRun decimal isValue valueThen endedBy valuesOf intoFirst linesOf digitAt digits lineText cell rowAt rowsFrom rowCount rowsOf rowValues rowLines fileText start cuesIn mayOpen goesOn mayFollow columnsUsed named every isCue isZero labelFits ownFits inRange differs distinct isBelow linkKey useKey inOrder fault after noBlock blockAt joinsOf ownOf addLink addUse addRow addRows blocksOf sumOver total lastBlock count refusal refused andThen checkLength checkRows openingRows checkBlocks mayStand totalFits verdict rowThen readLines same readAll readFile byLine inLines numbersOf readVerdict fileVerdict cueAt renamed usesLinks links showLinks ownNumber usesNumber copyNumber numberIn nowhere stepThen usesPlace placeIn isLinked range keep cuesAfter isOut isInto overwrite followed isIn successors searchFrom fewest blockLinks orNone summaryBy summaryOfBy summariesBy workBy returned given flag refuse answer onAccepted withRoom withCue readInto readAsked writeInto writeAsked countAsked located locateIn locateAsked numbered showNumber numberAsked listed listIn outAsked inAsked stepInto tracedInto rowsTraced usesTraced traced openingRow showTraced origins depthWins stepsWin better winner best behind rowFound rowIn rowAsked distanceValues fewestIn fewestAsked lineThen tableLines tableAll tableRead waitNames waitEnds isOutside firstOutside firstNotAbove waitsWith noWaits waitsOr waitsIn waitFile quicker withWait quickestOver quickestWithin quickest halves sumValues cleared quickestUnder quickestIn quickestAsked isTriple triplesOf triples numberText valuesText linksTitle showText printed
+unfolding flat_map if_lt if_eq if_true names ends is_digit run after_run decimal is_value value_then ended_by values_of into_first lines_of digit_at digits line_text cell row_at rows_from row_count rows_of row_values row_lines file_text start cues_in may_open goes_on may_follow columns_used named every is_cue is_zero label_fits own_fits in_range differs distinct is_below link_key use_key in_order fault after no_block block_at joins_of own_of add_link add_use add_row add_rows blocks_of sum_over total last_block count refusal refused and_then check_length check_rows opening_rows check_blocks may_stand total_fits verdict row_then read_lines same read_all read_file by_line in_lines numbers_of read_verdict file_verdict cue_at renamed uses_links links show_links own_number uses_number copy_number number_in nowhere step_then uses_place place_in is_linked range keep cues_after is_out is_into overwrite followed is_in successors search_from fewest block_links or_none summary_by summary_of_by summaries_by work_by returned given flag refuse answer on_accepted with_room with_cue read_into read_asked write_into write_asked count_asked located locate_in locate_asked numbered show_number number_asked listed list_in out_asked in_asked step_into traced_into rows_traced uses_traced traced opening_row show_traced origins depth_wins steps_win better winner best behind row_found row_in row_asked distance_values fewest_in fewest_asked line_then table_lines table_all table_read wait_names wait_ends is_outside first_outside first_not_above waits_with no_waits waits_or waits_in wait_file quicker with_wait quickest_over quickest_within quickest halves sum_values cleared quickest_under quickest_in quickest_asked is_triple triples_of triples number_text values_text links_title show_text printed
 starred =
     record {
       total-0 = refl;
@@ -33,85 +33,85 @@ starred =
       cue-5 = refl;
       cue-3 = refl;
       cue-1 = refl;
-      fewest-1-2 = refl;
-      fewest-2-1 = refl;
-      fewest-1-1 = refl;
-      fewest-4-3 = refl;
-      out-4-0 = refl;
-      out-4-2 = refl;
+      fewest-1_2 = refl;
+      fewest-2_1 = refl;
+      fewest-1_1 = refl;
+      fewest-4_3 = refl;
+      out_4_0 = refl;
+      out_4_2 = refl;
       single = refl;
       empty = refl;
       path-5 = refl;
       path-3 = refl;
       path-1 = refl;
-      no-path = refl;
+      no_path = refl;
       cue-6 = refl;
       cue-0 = refl;
-      in-3-0 = refl;
-      in-3-none = refl;
-      follow-ons = refl;
+      in_3_0 = refl;
+      in_3_none = refl;
+      follow_ons = refl;
       shown = refl;
       print = refl;
       read = refl;
       write = refl;
       largest = refl;
-      too-large = refl;
+      too_large = refl;
       all-zeros = refl;
-      all-zeros-number = refl;
-      leading-zeros = refl;
-      leading-zeros-number = refl;
-      six-digits = refl;
-      six-digits-too-large = refl;
+      all-zeros_number = refl;
+      leading_zeros = refl;
+      leading-zeros_number = refl;
+      six_digits = refl;
+      six_digits_too_large = refl;
       sign = refl;
-      no-digit = refl;
+      no_digit = refl;
       read-padded = refl;
       write-unpadded = refl;
       read-unpadded = refl;
-      row-2-1 = refl;
-      row-4-2 = refl;
-      row-3-4 = refl;
-      row-5-3 = refl;
-      row-1-5 = refl;
-      row-1-2 = refl;
-      row-1-1 = refl;
-      row-6-1 = refl;
+      row-2_1 = refl;
+      row-4_2 = refl;
+      row-3_4 = refl;
+      row-5_3 = refl;
+      row-1_5 = refl;
+      row-1_2 = refl;
+      row-1_1 = refl;
+      row-6_1 = refl;
       row-short = refl;
-      noted-2-1 = refl;
-      noted-4-3 = refl;
-      noted-1-2 = refl;
-      noted-out = refl;
-      noted-in = refl;
-      noted-row = refl;
-      noted-print = refl;
-      quickest-1-2 = refl;
-      quickest-2-2 = refl;
-      quickest-3-2 = refl;
-      quickest-4-2 = refl;
-      quickest-5-2 = refl;
-      quickest-1-3 = refl;
-      quickest-2-3 = refl;
-      quickest-3-3 = refl;
-      quickest-4-3 = refl;
-      quickest-5-3 = refl;
-      unlined-1-2 = refl;
-      unlined-2-1 = refl;
-      unlined-4-3 = refl;
-      no-waits-1-2 = refl;
-      no-waits-2-1 = refl;
-      no-waits-4-3 = refl;
-      long-waits-1-2 = refl;
-      long-waits-2-1 = refl;
-      long-waits-4-3 = refl;
-      noted-quickest-1-2 = refl;
-      noted-quickest-2-1 = refl;
-      noted-quickest-4-3 = refl;
-      noted-quickest-3-3 = refl;
-      detour-1-2 = refl;
-      cut-line = refl;
-      outside-range = refl;
+      noted_2_1 = refl;
+      noted_4_3 = refl;
+      noted_1_2 = refl;
+      noted_out = refl;
+      noted_in = refl;
+      noted_row = refl;
+      noted_print = refl;
+      quickest-1_2 = refl;
+      quickest-2_2 = refl;
+      quickest-3_2 = refl;
+      quickest-4_2 = refl;
+      quickest-5_2 = refl;
+      quickest-1_3 = refl;
+      quickest-2_3 = refl;
+      quickest-3_3 = refl;
+      quickest-4_3 = refl;
+      quickest-5_3 = refl;
+      unlined-1_2 = refl;
+      unlined-2_1 = refl;
+      unlined-4_3 = refl;
+      no_waits_1_2 = refl;
+      no_waits_2_1 = refl;
+      no_waits_4_3 = refl;
+      long-waits_1_2 = refl;
+      long-waits_2_1 = refl;
+      long-waits_4_3 = refl;
+      noted_quickest_1_2 = refl;
+      noted_quickest_2_1 = refl;
+      noted_quickest_4_3 = refl;
+      noted_quickest_3_3 = refl;
+      detour-1_2 = refl;
+      cut_line = refl;
+      outside_range = refl;
       not-above = refl;
-      cut-line-1-1 = refl;
-      cut-line-6-1 = refl;
-      no-names = refl;
+      cut_line_1_1 = refl;
+      cut_line_6_1 = refl;
+      no_names = refl;
       short-work = refl;
     }

@@ -2,13 +2,9 @@
 -- In the field's terms a show is a straight-line hyperedge replacement grammar: a block is a rule, its joins are the external
 -- nodes of the rule's right-hand side and its own cues the internal ones, a link is a terminal edge and a use is a nonterminal edge.
 -- The last block is the start graph.
-use Prim.Native.Nat.{ℕ, _+_, _-_}
-use mathlib.Core.Bool.{true, false}
-use mathlib.Core.List.{List, [], _∷_, _++_}
-use lib.ListN.{length, getD, take}
-use lib.Dec.{eqb}
-use Rattle·model·specs.specs.Choice.{ifEq}
-use Rattle·model·specs.specs.Rows.{Row, rowsOf}
+use Rattle.std.specs.Prelude.{ℕ, ◌+◌, ◌-◌, true, false, List, [], ◌∷◌, ◌++◌, length, get_or, take, eqb}
+use Rattle.model.specs.Choice.{if_eq}
+use Rattle.model.specs.Rows.{Row, rows_of}
 
 -- "Kind 1 is a link (a follow-on): label 1 to 255, from cue a to cue b".
 pub record Link : Type 0 where
@@ -30,57 +26,57 @@ pub record Block : Type 0 where
 
 -- A show is its blocks, the last one first, so that what a block means follows from the blocks behind it in the list.
 -- Block k of a list is the one with k blocks behind it.
-unfoldable pub noBlock : Block
-noBlock = record { joins = 0; own = 0; links = []; uses = [] }
+unfoldable pub no_block : Block
+no_block = record { joins = 0; own = 0; links = []; uses = [] }
 
-unfoldable pub blockAt : List Block → ℕ → Block
-blockAt [] k = noBlock
-blockAt (b ∷ earlier) k = elim (eqb k (length earlier)) [ true ↦ b | false ↦ blockAt earlier k ]
+unfoldable pub block_at : List Block → ℕ → Block
+block_at [] k = no_block
+block_at (b ∷ earlier) k = elim (eqb k (length earlier)) [ true ↦ b | false ↦ block_at earlier k ]
 
-unfoldable pub joinsOf : List Block → ℕ → ℕ
-joinsOf bs k = blockAt bs k .joins
+unfoldable pub joins_of : List Block → ℕ → ℕ
+joins_of bs k = (block_at bs k).joins
 
-unfoldable pub ownOf : List Block → ℕ → ℕ
-ownOf bs k = blockAt bs k .own
+unfoldable pub own_of : List Block → ℕ → ℕ
+own_of bs k = (block_at bs k).own
 
 -- What a row adds: a block, or a link or a use of the current block.
-unfoldable pub addLink : Link → List Block → List Block
-addLink l [] = []
-addLink l (b ∷ bs) = record { joins = b .joins; own = b .own; links = b .links ++ (l ∷ []); uses = b .uses } ∷ bs
+unfoldable pub add_link : Link → List Block → List Block
+add_link l [] = []
+add_link l (b ∷ bs) = record { joins = b.joins; own = b.own; links = b.links ++ (l ∷ []); uses = b.uses } ∷ bs
 
-unfoldable pub addUse : Use → List Block → List Block
-addUse u [] = []
-addUse u (b ∷ bs) = record { joins = b .joins; own = b .own; links = b .links; uses = b .uses ++ (u ∷ []) } ∷ bs
+unfoldable pub add_use : Use → List Block → List Block
+add_use u [] = []
+add_use u (b ∷ bs) = record { joins = b.joins; own = b.own; links = b.links; uses = b.uses ++ (u ∷ []) } ∷ bs
 
-unfoldable pub addRow : List Block → Row → List Block
-addRow bs w =
-    ifEq (w .kind) 0
-    (record { joins = w .label; own = getD (w .columns) 0 0; links = []; uses = [] } ∷ bs)
-    (ifEq (w .kind) 1
-    (addLink (record { from = getD (w .columns) 0 0; to = getD (w .columns) 1 0; label = w .label }) bs)
-    (addUse (record { block = w .label; at = take (joinsOf bs (w .label)) (w .columns) }) bs))
+unfoldable pub add_row : List Block → Row → List Block
+add_row bs w =
+    if_eq w.kind 0
+    (record { joins = w.label; own = get_or w.columns 0 0; links = []; uses = [] } ∷ bs)
+    (if_eq w.kind 1
+    (add_link (record { from = get_or w.columns 0 0; to = get_or w.columns 1 0; label = w.label }) bs)
+    (add_use (record { block = w.label; at = take (joins_of bs w.label) w.columns }) bs))
 
-unfoldable pub addRows : List Block → List Row → List Block
-addRows bs [] = bs
-addRows bs (w ∷ ws) = addRows (addRow bs w) ws
+unfoldable pub add_rows : List Block → List Row → List Block
+add_rows bs [] = bs
+add_rows bs (w ∷ ws) = add_rows (add_row bs w) ws
 
 -- The blocks of lent rows.
-unfoldable pub blocksOf : List ℕ → List Block
-blocksOf xs = addRows [] (rowsOf xs)
+unfoldable pub blocks_of : List ℕ → List Block
+blocks_of xs = add_rows [] (rows_of xs)
 
 -- "Total of a block: own cues plus the totals of its uses, each use counted."
-unfoldable pub sumOver : (ℕ → ℕ) → List Use → ℕ
-sumOver f [] = 0
-sumOver f (u ∷ us) = f (u .block) + sumOver f us
+unfoldable pub sum_over : (ℕ → ℕ) → List Use → ℕ
+sum_over f [] = 0
+sum_over f (u ∷ us) = f u.block + sum_over f us
 
 unfoldable pub total : List Block → ℕ → ℕ
 total [] k = 0
 total (b ∷ earlier) k =
-    elim (eqb k (length earlier)) [ true ↦ b .own + sumOver (total earlier) (b .uses) | false ↦ total earlier k ]
+    elim (eqb k (length earlier)) [ true ↦ b.own + sum_over (total earlier) b.uses | false ↦ total earlier k ]
 
 -- "The last block is the show"; "Count: the total of the show."
-unfoldable pub lastBlock : List Block → ℕ
-lastBlock bs = length bs - 1
+unfoldable pub last_block : List Block → ℕ
+last_block bs = length bs - 1
 
 unfoldable pub count : List Block → ℕ
-count bs = total bs (lastBlock bs)
+count bs = total bs (last_block bs)

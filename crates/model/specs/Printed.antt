@@ -1,66 +1,64 @@
 -- What the unfolding program prints. Document 01, "The ring show": "The unfolding program reads a show from standard input and prints
 -- its links (cue, cue, label), each triple once, rising."
-use Prim.Native.Nat.{ℕ, zero, suc, _+_, _/_, _%_}
-use mathlib.Core.Bool.{Bool, true, false}
-use mathlib.Core.List.{List, [], _∷_, _++_, map, flatMap}
-use lib.Dec.{ltb}
-use Rattle·model·specs.specs.Choice.{ifLt, ifEq}
-use Rattle·model·specs.specs.Limits.{maxLabel, printedCues}
-use Rattle·model·specs.specs.Values.{digitZero}
-use Rattle·model·specs.specs.Text.{comma, lineFeed}
-use Rattle·model·specs.specs.Blocks.{Link, Block, blocksOf, count}
-use Rattle·model·specs.specs.Verdicts.{readFile, numbersOf, fileVerdict}
-use Rattle·model·specs.specs.Unfolding.{showLinks}
-use Rattle·model·specs.specs.Lists.{range, keep}
-use Rattle·model·specs.specs.Questions.{onAccepted}
-use Rattle·model·specs.specs.declared.Refusal.{Refusal}
+use Rattle.std.specs.Prelude.{ℕ, zero, suc, ◌+◌, ◌/◌, ◌%◌, Bool, true, false, ltb}
+use mathlib.Core.List.{List, [], ◌∷◌, ◌++◌, map, flat_map}
+use Rattle.model.specs.Choice.{if_lt, if_eq}
+use Rattle.model.specs.Limits.{max_label, printed_cues}
+use Rattle.model.specs.Values.{digit_zero}
+use Rattle.model.specs.Text.{comma, line_feed}
+use Rattle.model.specs.Blocks.{Link, Block, blocks_of, count}
+use Rattle.model.specs.Verdicts.{read_file, numbers_of, file_verdict}
+use Rattle.model.specs.Unfolding.{show_links}
+use Rattle.model.specs.Lists.{range, keep}
+use Rattle.model.specs.Questions.{on_accepted}
+use Rattle.model.specs.declared.Refusal.{Refusal}
 
 -- Some link is the triple (u, v, label).
-unfoldable pub isTriple : List Link → ℕ → ℕ → ℕ → Bool
-isTriple [] u v label = false
-isTriple (l ∷ E) u v label =
-    ifEq (l .from) u (ifEq (l .to) v (ifEq (l .label) label true (isTriple E u v label)) (isTriple E u v label)) (isTriple E u v label)
+unfoldable pub is_triple : List Link → ℕ → ℕ → ℕ → Bool
+is_triple [] u v label = false
+is_triple (l ∷ E) u v label =
+    if_eq l.from u (if_eq l.to v (if_eq l.label label true (is_triple E u v label)) (is_triple E u v label)) (is_triple E u v label)
 
 -- The triples of the show, each once, rising by cue, cue and label.
-unfoldable pub triplesOf : List Link → ℕ → ℕ → List Link
-triplesOf E u v = map (λ label. record { from = u; to = v; label = label }) (keep (isTriple E u v) (range 1 maxLabel))
+unfoldable pub triples_of : List Link → ℕ → ℕ → List Link
+triples_of E u v = map (λ label. record { from = u; to = v; label = label }) (keep (is_triple E u v) (range 1 max_label))
 
 unfoldable pub triples : List Block → List Link
 triples bs =
-    flatMap (λ u. flatMap (λ v. triplesOf (showLinks bs) u v) (range 1 (count bs))) (range 1 (count bs))
+    flat_map (λ u. flat_map (λ v. triples_of (show_links bs) u v) (range 1 (count bs))) (range 1 (count bs))
 
 -- A number in base ten, of at most so many digits.
-unfoldable pub numberText : ℕ → ℕ → List ℕ
-numberText zero n = []
-numberText (suc more) n = elim (ltb n 10) [ true ↦ (digitZero + n) ∷ [] | false ↦ numberText more (n / 10) ++ ((digitZero + n % 10) ∷ []) ]
+unfoldable pub number_text : ℕ → ℕ → List ℕ
+number_text zero n = []
+number_text (suc more) n = elim (ltb n 10) [ true ↦ (digit_zero + n) ∷ [] | false ↦ number_text more (n / 10) ++ ((digit_zero + n % 10) ∷ []) ]
 
 -- A line of some values with commas between.
-unfoldable pub valuesText : List ℕ → List ℕ
-valuesText [] = lineFeed ∷ []
-valuesText (n ∷ []) = numberText 10 n ++ (lineFeed ∷ [])
-valuesText (n ∷ m ∷ ns) = numberText 10 n ++ (comma ∷ valuesText (m ∷ ns))
+unfoldable pub values_text : List ℕ → List ℕ
+values_text [] = line_feed ∷ []
+values_text (n ∷ []) = number_text 10 n ++ (line_feed ∷ [])
+values_text (n ∷ m ∷ ns) = number_text 10 n ++ (comma ∷ values_text (m ∷ ns))
 
 -- The lines `from,to,label`, `cues` and `refusal,place`.
-unfoldable pub linksTitle : List ℕ
-linksTitle = 102 ∷ 114 ∷ 111 ∷ 109 ∷ comma ∷ 116 ∷ 111 ∷ comma ∷ 108 ∷ 97 ∷ 98 ∷ 101 ∷ 108 ∷ lineFeed ∷ []
+unfoldable pub links_title : List ℕ
+links_title = 102 ∷ 114 ∷ 111 ∷ 109 ∷ comma ∷ 116 ∷ 111 ∷ comma ∷ 108 ∷ 97 ∷ 98 ∷ 101 ∷ 108 ∷ line_feed ∷ []
 
-unfoldable pub cuesTitle : List ℕ
-cuesTitle = 99 ∷ 117 ∷ 101 ∷ 115 ∷ lineFeed ∷ []
+unfoldable pub cues_title : List ℕ
+cues_title = 99 ∷ 117 ∷ 101 ∷ 115 ∷ line_feed ∷ []
 
-unfoldable pub refusalTitle : List ℕ
-refusalTitle = 114 ∷ 101 ∷ 102 ∷ 117 ∷ 115 ∷ 97 ∷ 108 ∷ comma ∷ 112 ∷ 108 ∷ 97 ∷ 99 ∷ 101 ∷ lineFeed ∷ []
+unfoldable pub refusal_title : List ℕ
+refusal_title = 114 ∷ 101 ∷ 102 ∷ 117 ∷ 115 ∷ 97 ∷ 108 ∷ comma ∷ 112 ∷ 108 ∷ 97 ∷ 99 ∷ 101 ∷ line_feed ∷ []
 
 -- "for a refusal, the line `refusal,place` and a line of the two values with a comma between".
-unfoldable pub refusalText : Refusal → List ℕ
-refusalText r = refusalTitle ++ valuesText (r .number ∷ r .place ∷ [])
+unfoldable pub refusal_text : Refusal → List ℕ
+refusal_text r = refusal_title ++ values_text (r.number ∷ r.place ∷ [])
 
 -- "Over 1,000 cues it prints `cues` and the count on two lines".
-unfoldable pub showText : List Block → List ℕ
-showText bs =
-    ifLt printedCues (count bs)
-    (cuesTitle ++ valuesText (count bs ∷ []))
-    (linksTitle ++ flatMap (λ l. valuesText (l .from ∷ l .to ∷ l .label ∷ [])) (triples bs))
+unfoldable pub show_text : List Block → List ℕ
+show_text bs =
+    if_lt printed_cues (count bs)
+    (cues_title ++ values_text (count bs ∷ []))
+    (links_title ++ flat_map (λ l. values_text (l.from ∷ l.to ∷ l.label ∷ [])) (triples bs))
 
 -- All that is printed for the bytes of a file.
 unfoldable pub printed : List ℕ → List ℕ
-printed file = onAccepted (fileVerdict file) refusalText (showText (blocksOf (numbersOf (readFile file))))
+printed file = on_accepted (file_verdict file) refusal_text (show_text (blocks_of (numbers_of (read_file file))))

@@ -1,30 +1,26 @@
 -- The questions. For each, from what is lent: what is returned, and what the lent list that it writes holds afterwards, refused calls
 -- included. Document 01, "Questions" and "Refusals by number". An entry point's promise is an equation with the definition here; what
 -- its answer says in 01's numbers stands in Answers.antt. Whatever a question is lent only to read stays as it was.
-use Prim.Native.Nat.{ℕ, min}
-use mathlib.Core.Bool.{Bool}
-use mathlib.Core.List.{List, [], _∷_}
-use lib.ListN.{length, take, replicate}
-use lib.Dec.{ltb}
-use Rattle·model·specs.specs.Choice.{ifLt, ifEq, ifTrue}
-use Rattle·model·specs.specs.Limits.{maxDepth, workSize}
-use Rattle·model·specs.specs.Rows.{rowCount, rowsOf, fileText}
-use Rattle·model·specs.specs.Rules.{isCue}
-use Rattle·model·specs.specs.Blocks.{Block, blocksOf, lastBlock, count}
-use Rattle·model·specs.specs.Verdicts.{refusal, verdict, readFile, numbersOf, fileVerdict}
-use Rattle·model·specs.specs.Desk.{withDesk, deskFileVerdict}
-use Rattle·model·specs.specs.Unfolding.{showLinks}
-use Rattle·model·specs.specs.Paths.{Place, numberIn, placeIn}
-use Rattle·model·specs.specs.Lists.{cuesAfter, isOut, isInto, overwrite}
-use Rattle·model·specs.specs.Behind.{Behind, Stands, Missing, behind}
-use Rattle·model·specs.specs.Chains.{Distance, Far, Unreachable, fewest}
-use Rattle·model·specs.specs.Summaries.{workAfter}
-use Rattle·model·specs.specs.Waits.{WaitFile, WaitTable, Unfit, waitFile}
-use Rattle·model·specs.specs.Quickest.{quickest}
-use Rattle·model·specs.specs.Answers.{Returned, returned, given, flag, halves}
-use Rattle·model·specs.specs.declared.Refusal.{Refusal}
-use Rattle·model·specs.specs.declared.Verdict.{Verdict}
-use Rattle·model·specs.specs.declared.Verdict.the-variants.{Accepted, Refused}
+use Rattle.std.specs.Prelude.{ℕ, min, Bool, List, [], ◌∷◌, length, take, replicate, ltb}
+use Rattle.model.specs.Choice.{if_lt, if_eq, if_true}
+use Rattle.model.specs.Limits.{max_depth, work_size}
+use Rattle.model.specs.Rows.{row_count, rows_of, file_text}
+use Rattle.model.specs.Rules.{is_cue}
+use Rattle.model.specs.Blocks.{Block, blocks_of, last_block, count}
+use Rattle.model.specs.Verdicts.{refusal, verdict, read_file, numbers_of, file_verdict}
+use Rattle.model.specs.Desk.{with_desk, desk_file_verdict}
+use Rattle.model.specs.Unfolding.{show_links}
+use Rattle.model.specs.Paths.{Place, number_in, place_in}
+use Rattle.model.specs.Lists.{cues_after, is_out, is_into, overwrite}
+use Rattle.model.specs.Behind.{Behind, Stands, Missing, behind}
+use Rattle.model.specs.Chains.{Distance, Far, Unreachable, fewest}
+use Rattle.model.specs.Summaries.{work_after}
+use Rattle.model.specs.Waits.{WaitFile, WaitTable, Unfit, wait_file}
+use Rattle.model.specs.Quickest.{quickest}
+use Rattle.model.specs.Answers.{Returned, returned, given, flag, halves}
+use Rattle.model.specs.declared.Refusal.{Refusal}
+use Rattle.model.specs.declared.Verdict.{Verdict}
+use Rattle.model.specs.declared.Verdict.TheVariants.{Accepted, Refused}
 
 -- What is returned, and the final contents of the lent list that the question writes.
 pub record Outcome : Type 0 where
@@ -43,63 +39,63 @@ unfoldable pub answer : List ℕ → List ℕ → Outcome
 answer values after = record { answer = given values; after = after }
 
 -- "Each but reading takes lent rows and checks them before it answers."
-unfoldable pub onAccepted : {A : Type 0} → Verdict → (Refusal → A) → A → A
-onAccepted Accepted refuse answer = answer
-onAccepted (Refused r) refuse answer = refuse r
+unfoldable pub on_accepted : {A : Type 0} → Verdict → (Refusal → A) → A → A
+on_accepted Accepted refuse answer = answer
+on_accepted (Refused r) refuse answer = refuse r
 
 -- 11: "lent output, path list or work area too short".
-unfoldable pub withRoom : ℕ → List ℕ → Outcome → Outcome
-withRoom need lent o = ifLt (length lent) need (refuse (refusal 11 0) lent) o
+unfoldable pub with_room : ℕ → List ℕ → Outcome → Outcome
+with_room need lent o = if_lt (length lent) need (refuse (refusal 11 0) lent) o
 
 -- 12: "cue number 0 or above the count".
-unfoldable pub withCue : List Block → ℕ → List ℕ → Outcome → Outcome
-withCue bs n lent o = ifTrue (isCue (count bs) n) o (refuse (refusal 12 0) lent)
+unfoldable pub with_cue : List Block → ℕ → List ℕ → Outcome → Outcome
+with_cue bs n lent o = if_true (is_cue (count bs) n) o (refuse (refusal 12 0) lent)
 
 -- "Read a file to rows, giving rows, blocks and cues".
-unfoldable pub readInto : List ℕ → List ℕ → Outcome
-readInto xs out =
-    withRoom (length xs) out
-    (answer (rowCount xs ∷ length (blocksOf xs) ∷ count (blocksOf xs) ∷ []) (overwrite xs out))
+unfoldable pub read_into : List ℕ → List ℕ → Outcome
+read_into xs out =
+    with_room (length xs) out
+    (answer (row_count xs ∷ length (blocks_of xs) ∷ count (blocks_of xs) ∷ []) (overwrite xs out))
 
-unfoldable pub readAsked : List ℕ → List ℕ → Outcome
-readAsked file out = onAccepted (fileVerdict file) (λ r. refuse r out) (readInto (numbersOf (readFile file)) out)
+unfoldable pub read_asked : List ℕ → List ℕ → Outcome
+read_asked file out = on_accepted (file_verdict file) (λ r. refuse r out) (read_into (numbers_of (read_file file)) out)
 
 -- 02, Paper 4: "A second way of reading puts these rows before the file's"; "The limits on rows and blocks count them, and so do the rows and blocks
 -- given".
-unfoldable pub deskReadAsked : List ℕ → List ℕ → Outcome
-deskReadAsked file out =
-    onAccepted (deskFileVerdict file) (λ r. refuse r out) (readInto (withDesk (numbersOf (readFile file))) out)
+unfoldable pub desk_read_asked : List ℕ → List ℕ → Outcome
+desk_read_asked file out =
+    on_accepted (desk_file_verdict file) (λ r. refuse r out) (read_into (with_desk (numbers_of (read_file file))) out)
 
 -- "write rows as a file, giving its length".
-unfoldable pub writeInto : List ℕ → List ℕ → Outcome
-writeInto text out = withRoom (length text) out (answer (length text ∷ []) (overwrite text out))
+unfoldable pub write_into : List ℕ → List ℕ → Outcome
+write_into text out = with_room (length text) out (answer (length text ∷ []) (overwrite text out))
 
-unfoldable pub writeAsked : List ℕ → List ℕ → Outcome
-writeAsked xs out = onAccepted (verdict xs) (λ r. refuse r out) (writeInto (fileText (rowsOf xs)) out)
+unfoldable pub write_asked : List ℕ → List ℕ → Outcome
+write_asked xs out = on_accepted (verdict xs) (λ r. refuse r out) (write_into (file_text (rows_of xs)) out)
 
 -- "Count: the total of the show."
-unfoldable pub countAsked : List ℕ → Returned
-countAsked xs = onAccepted (verdict xs) (λ r. returned r) (given (count (blocksOf xs) ∷ []))
+unfoldable pub count_asked : List ℕ → Returned
+count_asked xs = on_accepted (verdict xs) (λ r. returned r) (given (count (blocks_of xs) ∷ []))
 
 -- "Locate n: depth, block and own cue; the path goes to the first depth numbers of a lent list of at least 127, the rest unchanged."
 unfoldable pub located : Place → List ℕ → Outcome
-located q path = answer (length (q .path) ∷ q .block ∷ q .own ∷ []) (overwrite (q .path) path)
+located q path = answer (length q.path ∷ q.block ∷ q.own ∷ []) (overwrite q.path path)
 
-unfoldable pub locateIn : List Block → ℕ → List ℕ → Outcome
-locateIn bs n path = withRoom maxDepth path (withCue bs n path (located (placeIn bs (lastBlock bs) n) path))
+unfoldable pub locate_in : List Block → ℕ → List ℕ → Outcome
+locate_in bs n path = with_room max_depth path (with_cue bs n path (located (place_in bs (last_block bs) n) path))
 
-unfoldable pub locateAsked : List ℕ → ℕ → List ℕ → Outcome
-locateAsked xs n path = onAccepted (verdict xs) (λ r. refuse r path) (locateIn (blocksOf xs) n path)
+unfoldable pub locate_asked : List ℕ → ℕ → List ℕ → Outcome
+locate_asked xs n path = on_accepted (verdict xs) (λ r. refuse r path) (locate_in (blocks_of xs) n path)
 
 -- "Number of a path and an own cue: the number." 13: "path over 127 long, a step that isn't a use, or not an own cue": there it is 0.
 unfoldable pub numbered : ℕ → Returned
-numbered n = ifEq n 0 (returned (refusal 13 0)) (given (n ∷ []))
+numbered n = if_eq n 0 (returned (refusal 13 0)) (given (n ∷ []))
 
-unfoldable pub showNumber : List Block → List ℕ → ℕ → ℕ
-showNumber bs path c = ifLt maxDepth (length path) 0 (numberIn bs (lastBlock bs) 0 path c)
+unfoldable pub show_number : List Block → List ℕ → ℕ → ℕ
+show_number bs path c = if_lt max_depth (length path) 0 (number_in bs (last_block bs) 0 path c)
 
-unfoldable pub numberAsked : List ℕ → List ℕ → ℕ → Returned
-numberAsked xs path c = onAccepted (verdict xs) (λ r. returned r) (numbered (showNumber (blocksOf xs) path c))
+unfoldable pub number_asked : List ℕ → List ℕ → ℕ → Returned
+number_asked xs path c = on_accepted (verdict xs) (λ r. returned r) (numbered (show_number (blocks_of xs) path c))
 
 -- "as many as fit, the rest unchanged; how many were written; "more" exactly if a further one exists".
 unfoldable pub listed : List ℕ → List ℕ → Outcome
@@ -107,62 +103,62 @@ listed cues page =
     answer (min (length page) (length cues) ∷ flag (ltb (length page) (length cues)) ∷ []) (overwrite (take (length page) cues) page)
 
 -- "List out, or in, of cue v after n". No page is too short.
-unfoldable pub listIn : List Block → (ℕ → Bool) → ℕ → ℕ → List ℕ → Outcome
-listIn bs linked v n page = withCue bs v page (listed (cuesAfter linked (count bs) n) page)
+unfoldable pub list_in : List Block → (ℕ → Bool) → ℕ → ℕ → List ℕ → Outcome
+list_in bs linked v n page = with_cue bs v page (listed (cues_after linked (count bs) n) page)
 
-unfoldable pub outAsked : List ℕ → ℕ → ℕ → List ℕ → Outcome
-outAsked xs v n page =
-    onAccepted (verdict xs) (λ r. refuse r page) (listIn (blocksOf xs) (isOut (showLinks (blocksOf xs)) v) v n page)
+unfoldable pub out_asked : List ℕ → ℕ → ℕ → List ℕ → Outcome
+out_asked xs v n page =
+    on_accepted (verdict xs) (λ r. refuse r page) (list_in (blocks_of xs) (is_out (show_links (blocks_of xs)) v) v n page)
 
-unfoldable pub inAsked : List ℕ → ℕ → ℕ → List ℕ → Outcome
-inAsked xs v n page =
-    onAccepted (verdict xs) (λ r. refuse r page) (listIn (blocksOf xs) (isInto (showLinks (blocksOf xs)) v) v n page)
+unfoldable pub in_asked : List ℕ → ℕ → ℕ → List ℕ → Outcome
+in_asked xs v n page =
+    on_accepted (verdict xs) (λ r. refuse r page) (list_in (blocks_of xs) (is_into (show_links (blocks_of xs)) v) v n page)
 
 -- 02, Paper 2: "For s and t, give the number of one link row, and the depth and path of the copy it stands in, the path into a path list as
 -- for locating"; "14, place 0, where no link from s to t exists, after 12". s is checked before t.
-unfoldable pub rowFound : Behind → List ℕ → Outcome
-rowFound (Stands o) path = answer (o .row ∷ length (o .path) ∷ []) (overwrite (o .path) path)
-rowFound Missing path = refuse (refusal 14 0) path
+unfoldable pub row_found : Behind → List ℕ → Outcome
+row_found (Stands o) path = answer (o.row ∷ length o.path ∷ []) (overwrite o.path path)
+row_found Missing path = refuse (refusal 14 0) path
 
-unfoldable pub rowIn : List ℕ → ℕ → ℕ → List ℕ → Outcome
-rowIn xs s t path =
-    withRoom maxDepth path (withCue (blocksOf xs) s path (withCue (blocksOf xs) t path (rowFound (behind xs s t) path)))
+unfoldable pub row_in : List ℕ → ℕ → ℕ → List ℕ → Outcome
+row_in xs s t path =
+    with_room max_depth path (with_cue (blocks_of xs) s path (with_cue (blocks_of xs) t path (row_found (behind xs s t) path)))
 
-unfoldable pub rowAsked : List ℕ → ℕ → ℕ → List ℕ → Outcome
-rowAsked xs s t path = onAccepted (verdict xs) (λ r. refuse r path) (rowIn xs s t path)
+unfoldable pub row_asked : List ℕ → ℕ → ℕ → List ℕ → Outcome
+row_asked xs s t path = on_accepted (verdict xs) (λ r. refuse r path) (row_in xs s t path)
 
 -- "Fewest from s to t: a number, or none": whether there is one, and the number, 0 where there is none. s is checked before t.
-unfoldable pub distanceValues : Distance → List ℕ
-distanceValues (Far n) = 1 ∷ n ∷ []
-distanceValues Unreachable = 0 ∷ 0 ∷ []
+unfoldable pub distance_values : Distance → List ℕ
+distance_values (Far n) = 1 ∷ n ∷ []
+distance_values Unreachable = 0 ∷ 0 ∷ []
 
-unfoldable pub fewestIn : List Block → ℕ → ℕ → List ℕ → Outcome
-fewestIn bs s t work =
-    withRoom workSize work
-    (withCue bs s work
-    (withCue bs t work
-    (answer (distanceValues (fewest (showLinks bs) (count bs) s t)) (workAfter bs work))))
+unfoldable pub fewest_in : List Block → ℕ → ℕ → List ℕ → Outcome
+fewest_in bs s t work =
+    with_room work_size work
+    (with_cue bs s work
+    (with_cue bs t work
+    (answer (distance_values (fewest (show_links bs) (count bs) s t)) (work_after bs work))))
 
-unfoldable pub fewestAsked : List ℕ → ℕ → ℕ → List ℕ → Outcome
-fewestAsked xs s t work = onAccepted (verdict xs) (λ r. refuse r work) (fewestIn (blocksOf xs) s t work)
+unfoldable pub fewest_asked : List ℕ → ℕ → ℕ → List ℕ → Outcome
+fewest_asked xs s t work = on_accepted (verdict xs) (λ r. refuse r work) (fewest_in (blocks_of xs) s t work)
 
 -- 02, Paper 5, "The quickest answer": whether there is one, and the sum, 0 where there is none.
-unfoldable pub sumValues : Distance → List ℕ
-sumValues (Far n) = 1 ∷ halves n
-sumValues Unreachable = 0 ∷ halves 0
+unfoldable pub sum_values : Distance → List ℕ
+sum_values (Far n) = 1 ∷ halves n
+sum_values Unreachable = 0 ∷ halves 0
 
 -- "an answer leaves the first 16,384 at 0 and the rest unchanged".
 unfoldable pub cleared : List ℕ → List ℕ
-cleared work = overwrite (replicate workSize 0) work
+cleared work = overwrite (replicate work_size 0) work
 
 -- 15, 16 and 17 "all after 12". s is checked before t.
-unfoldable pub quickestUnder : WaitFile → List Block → ℕ → ℕ → List ℕ → Outcome
-quickestUnder (WaitTable waits) bs s t work = answer (sumValues (quickest waits (showLinks bs) (count bs) s t)) (cleared work)
-quickestUnder (Unfit number line) bs s t work = refuse (refusal number line) work
+unfoldable pub quickest_under : WaitFile → List Block → ℕ → ℕ → List ℕ → Outcome
+quickest_under (WaitTable waits) bs s t work = answer (sum_values (quickest waits (show_links bs) (count bs) s t)) (cleared work)
+quickest_under (Unfit number line) bs s t work = refuse (refusal number line) work
 
-unfoldable pub quickestIn : List Block → ℕ → ℕ → List ℕ → List ℕ → Outcome
-quickestIn bs s t file work =
-    withRoom workSize work (withCue bs s work (withCue bs t work (quickestUnder (waitFile file) bs s t work)))
+unfoldable pub quickest_in : List Block → ℕ → ℕ → List ℕ → List ℕ → Outcome
+quickest_in bs s t file work =
+    with_room work_size work (with_cue bs s work (with_cue bs t work (quickest_under (wait_file file) bs s t work)))
 
-unfoldable pub quickestAsked : List ℕ → ℕ → ℕ → List ℕ → List ℕ → Outcome
-quickestAsked xs s t file work = onAccepted (verdict xs) (λ r. refuse r work) (quickestIn (blocksOf xs) s t file work)
+unfoldable pub quickest_asked : List ℕ → ℕ → ℕ → List ℕ → List ℕ → Outcome
+quickest_asked xs s t file work = on_accepted (verdict xs) (λ r. refuse r work) (quickest_in (blocks_of xs) s t file work)

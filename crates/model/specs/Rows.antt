@@ -1,9 +1,7 @@
 -- Rows out of lent memory. Document 01: "A line of values is a row: eleven 32-bit unsigned numbers in lent memory."
-use Prim.Native.Nat.{ℕ, zero, suc, _+_, _*_, _/_}
-use mathlib.Core.List.{List, [], _∷_, _++_}
-use lib.ListN.{length, getD}
-use Rattle·model·specs.specs.Limits.{rowSize}
-use Rattle·model·specs.specs.Text.{names, ends, lineText}
+use Rattle.std.specs.Prelude.{ℕ, zero, suc, ◌+◌, ◌*◌, ◌/◌, List, [], ◌∷◌, ◌++◌, length, get_or}
+use Rattle.model.specs.Limits.{row_size}
+use Rattle.model.specs.Text.{names, ends, line_text}
 
 -- A row: its values in the order of the line of names, of which a to h are the columns.
 pub record Row : Type 0 where
@@ -14,10 +12,10 @@ pub record Row : Type 0 where
 
 -- Value c of row r, both counted from 0.
 unfoldable pub cell : List ℕ → ℕ → ℕ → ℕ
-cell xs r c = getD xs (r * rowSize + c) 0
+cell xs r c = get_or xs (r * row_size + c) 0
 
-unfoldable pub rowAt : List ℕ → ℕ → Row
-rowAt xs r =
+unfoldable pub row_at : List ℕ → ℕ → Row
+row_at xs r =
     record {
       block = cell xs r 0;
       kind = cell xs r 1;
@@ -27,25 +25,25 @@ rowAt xs r =
     }
 
 -- The n rows from row r on.
-unfoldable pub rowsFrom : List ℕ → ℕ → ℕ → List Row
-rowsFrom xs r zero = []
-rowsFrom xs r (suc n) = rowAt xs r ∷ rowsFrom xs (r + 1) n
+unfoldable pub rows_from : List ℕ → ℕ → ℕ → List Row
+rows_from xs r zero = []
+rows_from xs r (suc n) = row_at xs r ∷ rows_from xs (r + 1) n
 
 -- How many rows are lent, and which.
-unfoldable pub rowCount : List ℕ → ℕ
-rowCount xs = length xs / rowSize
+unfoldable pub row_count : List ℕ → ℕ
+row_count xs = length xs / row_size
 
-unfoldable pub rowsOf : List ℕ → List Row
-rowsOf xs = rowsFrom xs 0 (rowCount xs)
+unfoldable pub rows_of : List ℕ → List Row
+rows_of xs = rows_from xs 0 (row_count xs)
 
 -- A row's values from left to right.
-unfoldable pub rowValues : Row → List ℕ
-rowValues w = w .block ∷ w .kind ∷ w .label ∷ w .columns
+unfoldable pub row_values : Row → List ℕ
+row_values w = w.block ∷ w.kind ∷ w.label ∷ w.columns
 
 -- "A line of names, then lines of values in that order": the file of some rows.
-unfoldable pub rowLines : List Row → List ℕ
-rowLines [] = []
-rowLines (w ∷ ws) = lineText ends (rowValues w) ++ rowLines ws
+unfoldable pub row_lines : List Row → List ℕ
+row_lines [] = []
+row_lines (w ∷ ws) = line_text ends (row_values w) ++ row_lines ws
 
-unfoldable pub fileText : List Row → List ℕ
-fileText ws = names ++ rowLines ws
+unfoldable pub file_text : List Row → List ℕ
+file_text ws = names ++ row_lines ws

@@ -1,11 +1,8 @@
 -- Checks 5 to 8 of one row. Document 01, "The show file" and "Refusals by number".
-use Prim.Native.Nat.{ℕ, _+_, _-_}
-use mathlib.Core.Bool.{Bool, true, false, not}
-use mathlib.Core.List.{List, [], _∷_, _++_}
-use lib.ListN.{length, getD, take, drop}
-use Rattle·model·specs.specs.Choice.{ifLt, ifEq, ifTrue}
-use Rattle·model·specs.specs.Limits.{maxJoins, maxOwn, maxLabel, maxBlocks}
-use Rattle·model·specs.specs.Rows.{Row}
+use Rattle.std.specs.Prelude.{ℕ, ◌+◌, ◌-◌, Bool, true, false, not, List, [], ◌∷◌, ◌++◌, length, get_or, take, drop}
+use Rattle.model.specs.Choice.{if_lt, if_eq, if_true}
+use Rattle.model.specs.Limits.{max_joins, max_own, max_label, max_blocks}
+use Rattle.model.specs.Rows.{Row}
 
 -- What the checks of a row know of the rows before it: the joins of each block opened so far, in order; the own cues of the last of
 -- these blocks, the current one; and the row just before.
@@ -19,103 +16,103 @@ unfoldable pub start : Seen
 start = record { joins = []; own = 0; before = record { block = 0; kind = 0; label = 0; columns = [] } }
 
 -- "cues 1 to own are its own; own + 1 to own + joins are its joins": how many cues the current block has.
-unfoldable pub cuesIn : Seen → ℕ
-cuesIn s = s .own + getD (s .joins) (length (s .joins) - 1) 0
+unfoldable pub cues_in : Seen → ℕ
+cues_in s = s.own + get_or s.joins (length s.joins - 1) 0
 
 -- "Blocks run 0, 1, 2 and on without a gap, at most 128."
-unfoldable pub mayOpen : Seen → Row → Bool
-mayOpen s w = ifEq (w .block) (length (s .joins)) (ifLt (length (s .joins)) maxBlocks true false) false
+unfoldable pub may_open : Seen → Row → Bool
+may_open s w = if_eq w.block (length s.joins) (if_lt (length s.joins) max_blocks true false) false
 
 -- The row belongs to the current block.
-unfoldable pub goesOn : Seen → Row → Bool
-goesOn s w = ifEq (w .block + 1) (length (s .joins)) true false
+unfoldable pub goes_on : Seen → Row → Bool
+goes_on s w = if_eq (w.block + 1) (length s.joins) true false
 
 -- Check 5: "block number or kind isn't one that may follow here". "A block's rows are its opening, its links, its uses."
-unfoldable pub mayFollow : Seen → Row → Bool
-mayFollow s w =
-    ifEq (w .kind) 0 (mayOpen s w)
-    (ifEq (w .kind) 1 (ifTrue (goesOn s w) (ifLt (s .before .kind) 2 true false) false)
-    (ifEq (w .kind) 2 (goesOn s w) false))
+unfoldable pub may_follow : Seen → Row → Bool
+may_follow s w =
+    if_eq w.kind 0 (may_open s w)
+    (if_eq w.kind 1 (if_true (goes_on s w) (if_lt s.before.kind 2 true false) false)
+    (if_eq w.kind 2 (goes_on s w) false))
 
 -- How many columns carry a value: a of an opening, a and b of a link, of a use "as many as that block has joins". The others are idle.
 -- (From here on a kind is 0, 1 or 2: check 5 lets no other through.)
-unfoldable pub columnsUsed : Seen → Row → ℕ
-columnsUsed s w = ifEq (w .kind) 0 1 (ifEq (w .kind) 1 2 (getD (s .joins) (w .label) 0))
+unfoldable pub columns_used : Seen → Row → ℕ
+columns_used s w = if_eq w.kind 0 1 (if_eq w.kind 1 2 (get_or s.joins w.label 0))
 
 -- The cues that a link or a use names.
 unfoldable pub named : Seen → Row → List ℕ
-named s w = ifEq (w .kind) 0 [] (take (columnsUsed s w) (w .columns))
+named s w = if_eq w.kind 0 [] (take (columns_used s w) w.columns)
 
 -- Every number of a list passes a test.
 unfoldable pub every : (ℕ → Bool) → List ℕ → Bool
 every ok [] = true
-every ok (x ∷ xs) = ifTrue (ok x) (every ok xs) false
+every ok (x ∷ xs) = if_true (ok x) (every ok xs) false
 
 -- "links and uses name only these": c is one of a block's cues.
-unfoldable pub isCue : ℕ → ℕ → Bool
-isCue cues c = ifLt c 1 false (ifLt cues c false true)
+unfoldable pub is_cue : ℕ → ℕ → Bool
+is_cue cues c = if_lt c 1 false (if_lt cues c false true)
 
-unfoldable pub isZero : ℕ → Bool
-isZero x = ifEq x 0 true false
+unfoldable pub is_zero : ℕ → Bool
+is_zero x = if_eq x 0 true false
 
 -- The label of a row is in its range: joins of an opening, label of a link, "a lower block number than its own" of a use.
-unfoldable pub labelFits : Row → Bool
-labelFits w =
-    ifEq (w .kind) 0 (ifLt maxJoins (w .label) false true)
-    (ifEq (w .kind) 1 (ifLt (w .label) 1 false (ifLt maxLabel (w .label) false true))
-    (ifLt (w .label) (w .block) true false))
+unfoldable pub label_fits : Row → Bool
+label_fits w =
+    if_eq w.kind 0 (if_lt max_joins w.label false true)
+    (if_eq w.kind 1 (if_lt w.label 1 false (if_lt max_label w.label false true))
+    (if_lt w.label w.block true false))
 
 -- "a is its own cues (0 to 255)".
-unfoldable pub ownFits : Row → Bool
-ownFits w = ifEq (w .kind) 0 (ifLt maxOwn (getD (w .columns) 0 0) false true) true
+unfoldable pub own_fits : Row → Bool
+own_fits w = if_eq w.kind 0 (if_lt max_own (get_or w.columns 0 0) false true) true
 
 -- Check 6: "value outside its range above, or an idle column not 0".
-unfoldable pub inRange : Seen → Row → Bool
-inRange s w =
-    ifTrue (labelFits w)
-    (ifTrue (ownFits w)
-    (ifTrue (every (isCue (cuesIn s)) (named s w)) (every isZero (drop (columnsUsed s w) (w .columns))) false)
+unfoldable pub in_range : Seen → Row → Bool
+in_range s w =
+    if_true (label_fits w)
+    (if_true (own_fits w)
+    (if_true (every (is_cue (cues_in s)) (named s w)) (every is_zero (drop (columns_used s w) w.columns)) false)
     false)
     false
 
 unfoldable pub differs : ℕ → ℕ → Bool
-differs x y = ifEq x y false true
+differs x y = if_eq x y false true
 
 -- Check 7: "a cue named twice in a link or use". Condition C1 of source document 000.
 unfoldable pub distinct : List ℕ → Bool
 distinct [] = true
-distinct (x ∷ xs) = ifTrue (every (differs x) xs) (distinct xs) false
+distinct (x ∷ xs) = if_true (every (differs x) xs) (distinct xs) false
 
 -- The first list comes before the second, by the first place where they differ.
-unfoldable pub isBelow : List ℕ → List ℕ → Bool
-isBelow [] ys = false
-isBelow (x ∷ xs) [] = false
-isBelow (x ∷ xs) (y ∷ ys) = ifLt x y true (ifEq x y (isBelow xs ys) false)
+unfoldable pub is_below : List ℕ → List ℕ → Bool
+is_below [] ys = false
+is_below (x ∷ xs) [] = false
+is_below (x ∷ xs) (y ∷ ys) = if_lt x y true (if_eq x y (is_below xs ys) false)
 
 -- "Links in a block strictly rise by (a, b, label). Uses never fall by (a to h, label)".
-unfoldable pub linkKey : Row → List ℕ
-linkKey w = take 2 (w .columns) ++ (w .label ∷ [])
+unfoldable pub link_key : Row → List ℕ
+link_key w = take 2 w.columns ++ (w.label ∷ [])
 
-unfoldable pub useKey : Row → List ℕ
-useKey w = w .columns ++ (w .label ∷ [])
+unfoldable pub use_key : Row → List ℕ
+use_key w = w.columns ++ (w.label ∷ [])
 
 -- Check 8: "link or use out of order".
-unfoldable pub inOrder : Row → Row → Bool
-inOrder v w =
-    ifEq (w .kind) (v .kind)
-    (ifEq (w .kind) 1 (isBelow (linkKey v) (linkKey w)) (ifEq (w .kind) 2 (not (isBelow (useKey w) (useKey v))) true))
+unfoldable pub in_order : Row → Row → Bool
+in_order v w =
+    if_eq w.kind v.kind
+    (if_eq w.kind 1 (is_below (link_key v) (link_key w)) (if_eq w.kind 2 (not (is_below (use_key w) (use_key v))) true))
     true
 
 -- "Checks 5 to 8 run row by row, in order within a row": the refusal's number, or 0.
 unfoldable pub fault : Seen → Row → ℕ
 fault s w =
-    ifTrue (mayFollow s w)
-    (ifTrue (inRange s w) (ifTrue (distinct (named s w)) (ifTrue (inOrder (s .before) w) 0 8) 7) 6)
+    if_true (may_follow s w)
+    (if_true (in_range s w) (if_true (distinct (named s w)) (if_true (in_order s.before w) 0 8) 7) 6)
     5
 
 -- What is known after a row.
 unfoldable pub after : Seen → Row → Seen
 after s w =
-    ifEq (w .kind) 0
-    (record { joins = s .joins ++ (w .label ∷ []); own = getD (w .columns) 0 0; before = w })
-    (record { joins = s .joins; own = s .own; before = w })
+    if_eq w.kind 0
+    (record { joins = s.joins ++ (w.label ∷ []); own = get_or w.columns 0 0; before = w })
+    (record { joins = s.joins; own = s.own; before = w })

@@ -1,30 +1,27 @@
 -- A value in a text: a run of digits read to its number, and a number written as digits. Every kind of file has its values so; nothing here
 -- knows of show files. Document 02, Paper 1, in the place of document 01's "leading zero"; its "no sign, space" stands, since a run is digits.
-use Prim.Native.Nat.{ℕ, _+_, _*_, _-_, _/_, _%_}
-use mathlib.Core.Bool.{Bool, true, false}
-use mathlib.Core.List.{List, [], _∷_}
-use lib.ListN.{length}
-use Rattle·model·specs.specs.Choice.{ifLt}
-use Rattle·model·specs.specs.Limits.{maxValue, maxDigits}
+use Rattle.std.specs.Prelude.{ℕ, ◌+◌, ◌*◌, ◌-◌, ◌/◌, ◌%◌, Bool, true, false, List, [], ◌∷◌, length}
+use Rattle.model.specs.Choice.{if_lt}
+use Rattle.model.specs.Limits.{max_value, max_digits}
 
 -- The byte of the digit 0.
-abbrev pub digitZero : ℕ
-digitZero = 48
+abbrev pub digit_zero : ℕ
+digit_zero = 48
 
 -- Reading.
 
 -- A byte is a digit.
-unfoldable pub isDigit : ℕ → Bool
-isDigit b = ifLt b digitZero false (ifLt (digitZero + 9) b false true)
+unfoldable pub is_digit : ℕ → Bool
+is_digit b = if_lt b digit_zero false (if_lt (digit_zero + 9) b false true)
 
 -- The run of digits that some bytes begin with, as numbers 0 to 9, and what follows it.
 unfoldable pub run : List ℕ → List ℕ
 run [] = []
-run (b ∷ bs) = elim (isDigit b) [ true ↦ (b - digitZero) ∷ run bs | false ↦ [] ]
+run (b ∷ bs) = elim (is_digit b) [ true ↦ (b - digit_zero) ∷ run bs | false ↦ [] ]
 
-unfoldable pub afterRun : List ℕ → List ℕ
-afterRun [] = []
-afterRun (b ∷ bs) = elim (isDigit b) [ true ↦ afterRun bs | false ↦ b ∷ bs ]
+unfoldable pub after_run : List ℕ → List ℕ
+after_run [] = []
+after_run (b ∷ bs) = elim (is_digit b) [ true ↦ after_run bs | false ↦ b ∷ bs ]
 
 -- "Figures are in base ten" (01): the number that a run of digits stands for, where v is that of the digits before it.
 unfoldable pub decimal : ℕ → List ℕ → ℕ
@@ -32,20 +29,20 @@ decimal v [] = v
 decimal v (d ∷ ds) = decimal (v * 10 + d) ds
 
 -- "one to five digits, leading zeros allowed, still at most 65,535": a run of digits is a value.
-unfoldable pub isValue : List ℕ → Bool
-isValue ds =
-    ifLt (length ds) 1 false (ifLt maxDigits (length ds) false (ifLt maxValue (decimal 0 ds) false true))
+unfoldable pub is_value : List ℕ → Bool
+is_value ds =
+    if_lt (length ds) 1 false (if_lt max_digits (length ds) false (if_lt max_value (decimal 0 ds) false true))
 
 -- Writing.
 
 -- "We still write without padding": the digits of a value, as many as it needs.
-unfoldable pub digitAt : ℕ → ℕ → ℕ
-digitAt place v = digitZero + v / place % 10
+unfoldable pub digit_at : ℕ → ℕ → ℕ
+digit_at place v = digit_zero + v / place % 10
 
 unfoldable pub digits : ℕ → List ℕ
 digits v =
-    ifLt v 10 (digitAt 1 v ∷ [])
-    (ifLt v 100 (digitAt 10 v ∷ digitAt 1 v ∷ [])
-    (ifLt v 1000 (digitAt 100 v ∷ digitAt 10 v ∷ digitAt 1 v ∷ [])
-    (ifLt v 10000 (digitAt 1000 v ∷ digitAt 100 v ∷ digitAt 10 v ∷ digitAt 1 v ∷ [])
-    (digitAt 10000 v ∷ digitAt 1000 v ∷ digitAt 100 v ∷ digitAt 10 v ∷ digitAt 1 v ∷ []))))
+    if_lt v 10 (digit_at 1 v ∷ [])
+    (if_lt v 100 (digit_at 10 v ∷ digit_at 1 v ∷ [])
+    (if_lt v 1000 (digit_at 100 v ∷ digit_at 10 v ∷ digit_at 1 v ∷ [])
+    (if_lt v 10000 (digit_at 1000 v ∷ digit_at 100 v ∷ digit_at 10 v ∷ digit_at 1 v ∷ [])
+    (digit_at 10000 v ∷ digit_at 1000 v ∷ digit_at 100 v ∷ digit_at 10 v ∷ digit_at 1 v ∷ []))))

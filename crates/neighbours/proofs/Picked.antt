@@ -1,102 +1,103 @@
 -- Laws of the links that a question picks, and of the lists of the cues that they lead to.
-use Prim.Native.Nat.{ℕ, suc, _+_, _≤_, _<_}
+use Prim.Native.Nat.{ℕ, suc, ◌+◌, ◌≤◌, ◌<◌}
 use native.Mathlib.Omega.{arith}
-use native.Mathlib.Decide.{ℕ-discrete, decLt}
-use mathlib.Core.Path.{_≡_, refl, sym, _∙_, ap}
-use mathlib.Core.Logic.{_↔_, _⊎_, inl, inr}
+use native.Mathlib.Decide.{ℕ_discrete, dec_lt}
+use mathlib.Core.Path.{◌≡◌, refl, sym, ◌∙◌, ap}
+use mathlib.Core.Logic.{◌↔◌, ◌⊎◌, inl, inr}
 use mathlib.Core.Bool.{Bool, true, false, true≢false, false≢true}
-use mathlib.Core.List.{List, [], _∷_, _++_, append-nil, List·Memᴰ, List·Memᴰ·head, List·Memᴰ·tail, List·Memᴰ·cases-cons, List·Memᴰ·not-nil}
-use Rattle·model.specs.Choice.{ifLt, ifTrue}
-use Rattle·model.specs.Blocks.{Link}
-use Rattle·model.specs.Unfolding.{renamed}
-use Rattle·model.specs.Lists.{range, keep}
-use Rattle·basics.proofs.Choices.{eq-then, eq-else, true-then, true-else, lt-then, lt-else}
-use Rattle·basics.proofs.Keeping.{keep-yes, keep-append, keep-none, keep-same, range-append}
-use Rattle·neighbours·specs.specs.declared.Ask.{Ask}
-use Rattle·neighbours·specs.specs.Picks.{nearEnd, here, there, fits, picks, Picked, wants, wanted}
+use mathlib.Core.List.Memᴰ
+use mathlib.Core.List.{List, [], ◌∷◌, ◌++◌, append-nil, Memᴰ}
+use Rattle.model.specs.Choice.{if_lt, if_true}
+use Rattle.model.specs.Blocks.{Link}
+use Rattle.model.specs.Unfolding.{renamed}
+use Rattle.model.specs.Lists.{range, keep}
+use Rattle.basics.proofs.Choices.{eq_then, eq_else, true_then, true_else, lt_then, lt_else}
+use Rattle.basics.proofs.Keeping.{keep-yes, keep_append, keep-none, keep_same, range-append}
+use Rattle.neighbours.specs.declared.Ask.{Ask}
+use Rattle.neighbours.specs.Picks.{near_end, here, there, fits, picks, Picked, wants, wanted}
 
 -- The two ends of a link are its from and its to.
 module _ (q : Ask) (l : Link) (P : ℕ → Type 0) where
-  pub ends-here : P (here q l) → P (l .from) ⊎ P (l .to)
-  unfolding nearEnd ifTrue
-  ends-here = go (q .inward) refl
+  pub ends-here : P (here q l) → P l.from ⊎ P l.to
+  unfolding near_end if_true
+  ends-here = go q.inward refl
     where
-      go : (b : Bool) → q .inward ≡ b → P (here q l) → P (l .from) ⊎ P (l .to)
-      go true e h = inr (rw (e, nearEnd) at h)
-      go false e h = inl (rw (e, nearEnd) at h)
+      go : (b : Bool) → q.inward ≡ b → P (here q l) → P l.from ⊎ P l.to
+      go true e h = inr (rw (e, near_end) at h)
+      go false e h = inl (rw (e, near_end) at h)
 
-  pub ends-there : P (there q l) → P (l .from) ⊎ P (l .to)
-  unfolding nearEnd ifTrue
-  ends-there = go (q .inward) refl
+  pub ends_there : P (there q l) → P l.from ⊎ P l.to
+  unfolding near_end if_true
+  ends_there = go q.inward refl
     where
-      go : (b : Bool) → q .inward ≡ b → P (there q l) → P (l .from) ⊎ P (l .to)
-      go true e h = inl (rw (e, nearEnd) at h)
-      go false e h = inr (rw (e, nearEnd) at h)
+      go : (b : Bool) → q.inward ≡ b → P (there q l) → P l.from ⊎ P l.to
+      go true e h = inl (rw (e, near_end) at h)
+      go false e h = inr (rw (e, near_end) at h)
 
-  pub both-ends : P (l .from) × P (l .to) → P (here q l) × P (there q l)
-  unfolding nearEnd ifTrue
-  both-ends (x, y) = go (q .inward) refl
+  pub both_ends : P l.from × P l.to → P (here q l) × P (there q l)
+  unfolding near_end if_true
+  both_ends (x, y) = go q.inward refl
     where
-      go : (b : Bool) → q .inward ≡ b → P (here q l) × P (there q l)
-      go true e = rw (e, nearEnd) (y, x)
-      go false e = rw (e, nearEnd) (x, y)
+      go : (b : Bool) → q.inward ≡ b → P (here q l) × P (there q l)
+      go true e = rw (e, near_end) (y, x)
+      go false e = rw (e, near_end) (x, y)
 
 pub here-renamed : (q : Ask) (f : ℕ → ℕ) (l : Link) → here q (renamed f l) ≡ f (here q l)
-unfolding nearEnd renamed ifTrue
-here-renamed q f l = go (q .inward) refl
+unfolding near_end renamed if_true
+here-renamed q f l = go q.inward refl
   where
-    go : (b : Bool) → q .inward ≡ b → here q (renamed f l) ≡ f (here q l)
-    go true e = rw (e, nearEnd)
-    go false e = rw (e, nearEnd)
+    go : (b : Bool) → q.inward ≡ b → here q (renamed f l) ≡ f (here q l)
+    go true e = rw (e, near_end)
+    go false e = rw (e, near_end)
 
 pub there-renamed : (q : Ask) (f : ℕ → ℕ) (l : Link) → there q (renamed f l) ≡ f (there q l)
-unfolding nearEnd renamed ifTrue
-there-renamed q f l = go (q .inward) refl
+unfolding near_end renamed if_true
+there-renamed q f l = go q.inward refl
   where
-    go : (b : Bool) → q .inward ≡ b → there q (renamed f l) ≡ f (there q l)
-    go true e = rw (e, nearEnd)
-    go false e = rw (e, nearEnd)
+    go : (b : Bool) → q.inward ≡ b → there q (renamed f l) ≡ f (there q l)
+    go true e = rw (e, near_end)
+    go false e = rw (e, near_end)
 
 -- The test finds just the links that are picked.
 module _ (q : Ask) (v u : ℕ) where
-  picks-hit : (l : Link) (E : List Link) → fits q (l .label) ≡ true → here q l ≡ v → there q l ≡ u → picks q (l ∷ E) v u ≡ true
+  picks-hit : (l : Link) (E : List Link) → fits q l.label ≡ true → here q l ≡ v → there q l ≡ u → picks q (l ∷ E) v u ≡ true
   unfolding picks
-  picks-hit l E a b c = true-then (fits q (l .label)) _ _ a ∙ eq-then _ _ _ _ b ∙ eq-then _ _ _ _ c
+  picks-hit l E a b c = true_then (fits q l.label) _ _ a ∙ eq_then _ _ _ _ b ∙ eq_then _ _ _ _ c
 
-  picks-miss : (l : Link) (E : List Link) → (fits q (l .label) ≡ true → here q l ≡ v → there q l ≡ u → ⊥) → picks q (l ∷ E) v u ≡ picks q E v u
+  picks-miss : (l : Link) (E : List Link) → (fits q l.label ≡ true → here q l ≡ v → there q l ≡ u → ⊥) → picks q (l ∷ E) v u ≡ picks q E v u
   unfolding picks
-  picks-miss l E n = go (fits q (l .label)) refl (ℕ-discrete (here q l) v) (ℕ-discrete (there q l) u)
+  picks-miss l E n = go (fits q l.label) refl (ℕ_discrete (here q l) v) (ℕ_discrete (there q l) u)
     where
-      go : (t : Bool) → fits q (l .label) ≡ t → Dec (here q l ≡ v) → Dec (there q l ≡ u) → picks q (l ∷ E) v u ≡ picks q E v u
+      go : (t : Bool) → fits q l.label ≡ t → Dec (here q l ≡ v) → Dec (there q l ≡ u) → picks q (l ∷ E) v u ≡ picks q E v u
       go true a (yes b) (yes c) = absurd (n a b c)
-      go true a (yes b) (no c) = true-then (fits q (l .label)) _ _ a ∙ eq-then _ _ _ _ b ∙ eq-else _ _ _ _ c
-      go true a (no b) d = true-then (fits q (l .label)) _ _ a ∙ eq-else _ _ _ _ b
-      go false a d e = true-else (fits q (l .label)) _ _ a
+      go true a (yes b) (no c) = true_then (fits q l.label) _ _ a ∙ eq_then _ _ _ _ b ∙ eq_else _ _ _ _ c
+      go true a (no b) d = true_then (fits q l.label) _ _ a ∙ eq_else _ _ _ _ b
+      go false a d e = true_else (fits q l.label) _ _ a
 
   later : (l : Link) (E : List Link) → Picked q E v u → Picked q (l ∷ E) v u
-  later l E p = record { link = p .link; member = List·Memᴰ·tail (p .member); label = p .label; from = p .from; to = p .to }
+  later l E p = record { link = p.link; member = Memᴰ.tail p.member; label = p.label; from = p.from; to = p.to }
 
   pub picked : (E : List Link) → (picks q E v u ≡ true) ↔ Picked q E v u
   unfolding picks
-  picked [] = (λ e. absurd (false≢true e), λ p. absurd (List·Memᴰ·not-nil (p .member)))
-  picked (l ∷ E) = go (picked E) (fits q (l .label)) refl (ℕ-discrete (here q l) v) (ℕ-discrete (there q l) u)
+  picked [] = (λ e. absurd (false≢true e), λ p. absurd (Memᴰ.not-nil p.member))
+  picked (l ∷ E) = go (picked E) (fits q l.label) refl (ℕ_discrete (here q l) v) (ℕ_discrete (there q l) u)
     where
       Here : Type 0
       Here = (picks q (l ∷ E) v u ≡ true) ↔ Picked q (l ∷ E) v u
 
-      miss : (picks q E v u ≡ true) ↔ Picked q E v u → (fits q (l .label) ≡ true → here q l ≡ v → there q l ≡ u → ⊥) → Here
+      miss : (picks q E v u ≡ true) ↔ Picked q E v u → (fits q l.label ≡ true → here q l ≡ v → there q l ≡ u → ⊥) → Here
       miss below n = (
-        λ e. later l E (below .0 (sym (picks-miss l E n) ∙ e)),
-        λ p. picks-miss l E n ∙ below .1 (earlier p (List·Memᴰ·cases-cons (p .member))),
+        λ e. later l E (below.0 (sym (picks-miss l E n) ∙ e)),
+        λ p. picks-miss l E n ∙ below.1 (earlier p (Memᴰ.cases_cons p.member)),
       )
         where
-          earlier : (p : Picked q (l ∷ E) v u) → (p .link ≡ l) ⊎ List·Memᴰ (p .link) E → Picked q E v u
-          earlier p (inl e) = absurd (n (rw e at (p .label)) (rw e at (p .from)) (rw e at (p .to)))
-          earlier p (inr i) = record { link = p .link; member = i; label = p .label; from = p .from; to = p .to }
+          earlier : (p : Picked q (l ∷ E) v u) → (p.link ≡ l) ⊎ Memᴰ p.link E → Picked q E v u
+          earlier p (inl e) = absurd (n (rw e at p.label) (rw e at p.from) (rw e at p.to))
+          earlier p (inr i) = record { link = p.link; member = i; label = p.label; from = p.from; to = p.to }
 
-      go : (picks q E v u ≡ true) ↔ Picked q E v u → (t : Bool) → fits q (l .label) ≡ t → Dec (here q l ≡ v) → Dec (there q l ≡ u) → Here
+      go : (picks q E v u ≡ true) ↔ Picked q E v u → (t : Bool) → fits q l.label ≡ t → Dec (here q l ≡ v) → Dec (there q l ≡ u) → Here
       go below true a (yes b) (yes c) = (
-        λ e. record { link = l; member = List·Memᴰ·head refl; label = a; from = b; to = c },
+        λ e. record { link = l; member = Memᴰ.head refl; label = a; from = b; to = c },
         λ p. picks-hit l E a b c,
       )
       go below true a (yes b) (no c) = miss below (λ x y z. c z)
@@ -110,35 +111,35 @@ module _ (q : Ask) (v u : ℕ) where
       go : (a : Bool) → picks q E v u ≡ a → (b : Bool) → picks q F v u ≡ b → picks q E v u ≡ picks q F v u
       go true x true y = x ∙ sym y
       go false x false y = x ∙ sym y
-      go true x false y = absurd (true≢false (sym (picked F .1 (to (picked E .0 x))) ∙ y))
-      go false x true y = absurd (true≢false (sym (picked E .1 (from (picked F .0 y))) ∙ x))
+      go true x false y = absurd (true≢false (sym ((picked F).1 (to ((picked E).0 x))) ∙ y))
+      go false x true y = absurd (true≢false (sym ((picked E).1 (from ((picked F).0 y))) ∙ x))
 
   pub picks-none : (E : List Link) → (Picked q E v u → ⊥) → picks q E v u ≡ false
   picks-none E n = go (picks q E v u) refl
     where
       go : (a : Bool) → picks q E v u ≡ a → picks q E v u ≡ false
-      go true x = absurd (n (picked E .0 x))
+      go true x = absurd (n ((picked E).0 x))
       go false x = x
 
   pub wants-same : (E F : List Link) → (Picked q E v u → Picked q F v u) → (Picked q F v u → Picked q E v u) → wants q E v u ≡ wants q F v u
   unfolding wants
-  wants-same E F to from = ap (λ (t : Bool). ifLt (q .after) u t false) (picks-same E F to from)
+  wants-same E F to from = ap (λ (t : Bool). if_lt q.after u t false) (picks-same E F to from)
 
   pub wants-none : (E : List Link) → (Picked q E v u → ⊥) → wants q E v u ≡ false
   unfolding wants
-  wants-none E n = rw (picks-none E n) (same (decLt (q .after) u))
+  wants-none E n = rw (picks-none E n) (same (dec_lt q.after u))
     where
-      same : Dec (q .after < u) → ifLt (q .after) u false false ≡ false
-      same (yes h) = lt-then _ _ _ _ h
-      same (no h) = lt-else _ _ _ _ (omega arith)
+      same : Dec (q.after < u) → if_lt q.after u false false ≡ false
+      same (yes h) = lt_then _ _ _ _ h
+      same (no h) = lt_else _ _ _ _ (omega arith)
 
-  pub wants-low : (E : List Link) → u ≤ q .after → wants q E v u ≡ false
+  pub wants-low : (E : List Link) → u ≤ q.after → wants q E v u ≡ false
   unfolding wants
-  wants-low E h = lt-else _ _ _ _ h
+  wants-low E h = lt_else _ _ _ _ h
 
-  pub wants-hit : (E : List Link) → q .after < u → Picked q E v u → wants q E v u ≡ true
+  pub wants-hit : (E : List Link) → q.after < u → Picked q E v u → wants q E v u ≡ true
   unfolding wants
-  wants-hit E h p = lt-then _ _ _ _ h ∙ picked E .1 p
+  wants-hit E h p = lt_then _ _ _ _ h ∙ (picked E).1 p
 
 -- The cues asked for in two ranges that follow each other; in one where none is picked or all are
 -- too low; of links that pick alike there.
@@ -147,13 +148,13 @@ module _ (q : Ask) (v : ℕ) where
   unfolding wanted
   wanted-append E base m n =
       let e : suc base + m ≡ suc (base + m) = omega arith in
-      ap (keep (wants q E v)) (rw e at (range-append (suc base) m n)) ∙ keep-append (wants q E v) (range (suc base) m) (range (suc (base + m)) n)
+      ap (keep (wants q E v)) (rw e at (range-append (suc base) m n)) ∙ keep_append (wants q E v) (range (suc base) m) (range (suc (base + m)) n)
 
   pub wanted-none : (E : List Link) (base size : ℕ) → ((u : ℕ) → base < u → u ≤ base + size → Picked q E v u → ⊥) → wanted q E v base size ≡ []
   unfolding wanted
   wanted-none E base size n = keep-none (wants q E v) (suc base) size (λ u x y. wants-none q v u E (n u (omega arith) (omega arith)))
 
-  pub wanted-low : (E : List Link) (base size : ℕ) → base + size ≤ q .after → wanted q E v base size ≡ []
+  pub wanted-low : (E : List Link) (base size : ℕ) → base + size ≤ q.after → wanted q E v base size ≡ []
   unfolding wanted
   wanted-low E base size h = keep-none (wants q E v) (suc base) size (λ u x y. wants-low q v u E (omega arith))
 
@@ -161,14 +162,14 @@ module _ (q : Ask) (v : ℕ) where
       → ((u : ℕ) → base < u → u ≤ base + size → Picked q F v u → Picked q E v u) → wanted q E v base size ≡ wanted q F v base size
   unfolding wanted
   wanted-same E F base size to from =
-      keep-same (wants q E v) (wants q F v) (suc base) size
+      keep_same (wants q E v) (wants q F v) (suc base) size
       (λ u x y. wants-same q v u E F (to u (omega arith) (omega arith)) (from u (omega arith) (omega arith)))
 
   -- One number more.
   wanted-next : (E : List Link) (base d : ℕ) → wanted q E v base (suc d) ≡ wanted q E v base d ++ wanted q E v (base + d) 1
   wanted-next E base d = let e : d + 1 ≡ suc d = omega arith in rw e at (wanted-append E base d 1)
 
-  pub wanted-yes : (E : List Link) (base d : ℕ) → q .after < base + suc d → Picked q E v (base + suc d)
+  pub wanted-yes : (E : List Link) (base d : ℕ) → q.after < base + suc d → Picked q E v (base + suc d)
       → wanted q E v base (suc d) ≡ wanted q E v base d ++ (base + suc d) ∷ []
   unfolding wanted keep range
   wanted-yes E base d h p = wanted-next E base d ∙ ap (λ zs. wanted q E v base d ++ zs) one
@@ -186,7 +187,7 @@ module _ (q : Ask) (v : ℕ) where
       (wanted-none E (base + d) 1 (λ u x y p. n (let e : u ≡ base + suc d = omega arith in rw e at p)))
       ∙ append-nil (wanted q E v base d)
 
-  pub wanted-under : (E : List Link) (base d : ℕ) → base + suc d ≤ q .after → wanted q E v base (suc d) ≡ wanted q E v base d
+  pub wanted-under : (E : List Link) (base d : ℕ) → base + suc d ≤ q.after → wanted q E v base (suc d) ≡ wanted q E v base d
   wanted-under E base d h =
       wanted-next E base d ∙ ap (λ zs. wanted q E v base d ++ zs) (wanted-low E (base + d) 1 (omega arith)) ∙ append-nil (wanted q E v base d)
 

@@ -3,32 +3,23 @@
 //
 // `marks_of` marks the cues that a cue of a block is linked to, and makes the records that this
 // takes; `bit` is a bit of a record.
-use blocks::INDEX;
-use blocks::JOINS;
-use blocks::Rows;
-use blocks::column;
-use blocks::from;
-use blocks::join_at;
-use blocks::joins;
-use blocks::label;
-use blocks::link_rows;
-use blocks::own;
-use blocks::to;
-use blocks::use_rows;
-use blocks::used;
-use blocks::wide;
+#![tactic(auto)]
+
+ghost use Rattle.std.specs.Prelude.{◌≡◌, ◌+◌, ◌*◌, ◌-◌, ◌≤◌, ◌<◌, length, replicate};
+ghost use Rattle.model.specs.Limits.{max_joins, max_own};
+ghost use Rattle.model.specs.Rows.{row_count};
+ghost use Rattle.model.specs.Blocks.{block_at, joins_of, blocks_of};
+ghost use Rattle.verdicts.specs.Index.{links_from, link_at, use_at};
+ghost use Rattle.blocks.specs.Loaded.{Loaded, IsBlock, IsRow, UseRow};
+ghost use Rattle.neighbours.specs.Picks.{near_end, fits, IsLink, Picked};
+ghost use Rattle.neighbours.specs.Near.{IsColumn, ByRow, Copied, Settled, Table, RecordMade, UseStep, UsesStep, MarksStep};
+ghost use Rattle.neighbours.specs.Records.{record_size, HasRecord, HasBlock, bit_at, set_bit, IsCue, Added};
+
+use blocks::{
+    INDEX, JOINS, Rows, column, from, join_at, joins, label, link_rows, own, to, use_rows, used,
+    wide,
+};
 use model::limits::MAX_OWN;
-ghost use mathlib.Core.Path.{_≡_};
-ghost use Prim.Native.Nat.{_+_, _*_, _-_, _≤_, _<_};
-ghost use lib.ListN.{length, replicate};
-ghost use Rattle·model.specs.Limits.{maxJoins, maxOwn};
-ghost use Rattle·model.specs.Rows.{rowCount};
-ghost use Rattle·model.specs.Blocks.{blockAt, joinsOf, blocksOf};
-ghost use Rattle·verdicts.specs.Index.{linksFrom, linkAt, useAt};
-ghost use Rattle·blocks.specs.Loaded.{Loaded, IsBlock, IsRow, UseRow};
-ghost use Rattle·neighbours·specs.specs.Picks.{nearEnd, fits, IsLink, Picked};
-ghost use Rattle·neighbours·specs.specs.Near.{IsColumn, ByRow, Copied, Settled, Table, RecordMade, UseStep, UsesStep, MarksStep};
-ghost use Rattle·neighbours·specs.specs.Records.{recordSize, HasRecord, HasBlock, bitAt, setBit, IsCue, Added};
 
 // A record of marks: a flag for each join, then one for what is inside, then 32 bytes with a bit
 // for each own cue.
@@ -43,6 +34,7 @@ pub const BLOCK: usize = JOINS * RECORD;
 
 // What is asked for: the cues that links with labels lo to hi lead to from the cue, or inward from
 // which they lead to it, that are greater than after; and how many of them may be written.
+#[derive(Clone, Copy)]
 pub struct Ask {
     pub inward: bool,
     pub lo: u32,
@@ -52,6 +44,7 @@ pub struct Ask {
 }
 
 // A cue of a block: the block, how many own cues it has, and the cue.
+#[derive(Clone, Copy)]
 pub struct BlockCue {
     pub block: usize,
     pub own: u32,
@@ -62,7 +55,7 @@ pub struct BlockCue {
 
 // The label lies in the range that is asked for.
 fn fits_label(q: Ask, label: u32) -> bool
-    ensures { λ r. ⌜ r ≡ fits q label ⌝ }
+    ensures { result ≡ fits q label }
 {
     if label < q.lo {
         return false;
@@ -75,7 +68,7 @@ fn fits_label(q: Ask, label: u32) -> bool
 
 // Of the two ends of a link, the one at the cue that is asked about.
 fn near_end(q: Ask, from: u32, to: u32) -> u32
-    ensures { λ r. ⌜ r ≡ nearEnd q from to ⌝ }
+    ensures { result ≡ near_end q from to }
 {
     if q.inward { to } else { from }
 }
@@ -84,15 +77,15 @@ fn near_end(q: Ask, from: u32, to: u32) -> u32
 
 // Bit n of a byte, and the byte with that bit set.
 pub fn bit(b: u8, n: usize) -> u8
-    requires { ⌜ n < 8 ⌝ }
-    ensures { λ r. ⌜ r ≡ bitAt b n ⌝ }
+    requires { n < 8 }
+    ensures { result ≡ bit_at b n }
 {
     (b >> n) % 2
 }
 
 fn with_bit(b: u8, n: usize) -> u8
-    requires { ⌜ n < 8 ⌝ }
-    ensures { λ r. ⌜ r ≡ setBit b n ⌝ }
+    requires { n < 8 }
+    ensures { result ≡ set_bit b n }
 {
     b | (1 << n)
 }
@@ -100,8 +93,8 @@ fn with_bit(b: u8, n: usize) -> u8
 // Marks cue d of a block with own own cues in a record. A marked own cue also sets the flag for
 // what is inside.
 fn mark(s: &mut [u8; RECORD], own: u32, d: u32)
-    requires { ⌜ (length (now s) ≡ recordSize) × (own ≤ maxOwn) ⌝ }
-    ensures { λ _. ⌜ Added own (IsCue d) (now (s .entry)) (now (s .exit)) ⌝ }
+    requires { (length s.old ≡ record_size) × (own ≤ max_own) }
+    ensures { Added own (IsCue d) s.old s.new }
 {
     if own < d {
         let j = wide(d - own - 1);
@@ -121,8 +114,8 @@ fn mark(s: &mut [u8; RECORD], own: u32, d: u32)
 // Marks the other end of the link of row r if the question picks it and it has one end at cue c;
 // and so for some rows.
 fn mark_link(xs: &[u32], q: Ask, r: usize, own: u32, c: u32, s: &mut [u8; RECORD])
-    requires { ⌜ IsRow (now xs) r × (length (now s) ≡ recordSize) × (own ≤ maxOwn) ⌝ }
-    ensures { λ _. ⌜ Added own (IsLink q (linkAt (now (xs .entry)) r) c) (now (s .entry)) (now (s .exit)) ⌝ }
+    requires { IsRow xs.now r × (length s.old ≡ record_size) × (own ≤ max_own) }
+    ensures { Added own (IsLink q (link_at xs.now r) c) s.old s.new }
 {
     if fits_label(q, label(xs, r)) {
         let from = from(xs, r);
@@ -134,8 +127,8 @@ fn mark_link(xs: &[u32], q: Ask, r: usize, own: u32, c: u32, s: &mut [u8; RECORD
 }
 
 fn mark_links(xs: &[u32], q: Ask, rows: Rows, own: u32, c: u32, s: &mut [u8; RECORD])
-    requires { ⌜ (rows .first ≤ rows .end) × (rows .end ≤ rowCount (now xs)) × (length (now s) ≡ recordSize) × (own ≤ maxOwn) ⌝ }
-    ensures { λ _. ⌜ Added own (Picked q (linksFrom (now (xs .entry)) (rows .first) (rows .end - rows .first)) c) (now (s .entry)) (now (s .exit)) ⌝ }
+    requires { (rows.first ≤ rows.end) × (rows.end ≤ row_count xs.now) × (length s.old ≡ record_size) × (own ≤ max_own) }
+    ensures { Added own (Picked q (links_from xs.now rows.first (rows.end - rows.first)) c) s.old s.new }
 {
     let mut r = rows.first;
     while r < rows.end {
@@ -146,8 +139,8 @@ fn mark_links(xs: &[u32], q: Ask, rows: Rows, own: u32, c: u32, s: &mut [u8; REC
 
 // Marks the cue in a column of a use whose flag is set.
 fn mark_column(xs: &[u32], r: usize, j: usize, flag: u8, own: u32, s: &mut [u8; RECORD])
-    requires { ⌜ IsRow (now xs) r × (j < maxJoins) × (length (now s) ≡ recordSize) × (own ≤ maxOwn) ⌝ }
-    ensures { λ _. ⌜ Added own (IsColumn (now (xs .entry)) r j flag) (now (s .entry)) (now (s .exit)) ⌝ }
+    requires { IsRow xs.now r × (j < max_joins) × (length s.old ≡ record_size) × (own ≤ max_own) }
+    ensures { Added own (IsColumn xs.now r j flag) s.old s.new }
 {
     if flag == 1 {
         mark(s, own, column(xs, r, j));
@@ -157,8 +150,8 @@ fn mark_column(xs: &[u32], r: usize, j: usize, flag: u8, own: u32, s: &mut [u8; 
 // Marks the cues that a use meets at joins linked to one of its joins, whose flags stand in the
 // table from `at` on.
 fn mark_row(xs: &[u32], m: &[u8], r: usize, at: usize, joins: usize, own: u32, s: &mut [u8; RECORD])
-    requires { ⌜ IsRow (now xs) r × (joins ≤ maxJoins) × (at + maxJoins ≤ length (now m)) × (length (now s) ≡ recordSize) × (own ≤ maxOwn) ⌝ }
-    ensures { λ _. ⌜ Added own (ByRow (now (xs .entry)) (now (m .entry)) r at joins) (now (s .entry)) (now (s .exit)) ⌝ }
+    requires { IsRow xs.now r × (joins ≤ max_joins) × (at + max_joins ≤ length m.now) × (length s.old ≡ record_size) × (own ≤ max_own) }
+    ensures { Added own (ByRow xs.now m.now r at joins) s.old s.new }
 {
     let mut j = 0;
     while j < joins {
@@ -172,8 +165,8 @@ fn mark_row(xs: &[u32], m: &[u8], r: usize, at: usize, joins: usize, own: u32, s
 
 // Copies a record of marks into the table.
 fn copy_record(s: &[u8; RECORD], m: &mut [u8], at: usize)
-    requires { ⌜ HasRecord (now m) at × (length (now s) ≡ recordSize) ⌝ }
-    ensures { λ _. ⌜ Copied (now (s .entry)) recordSize at (now (m .entry)) (now (m .exit)) ⌝ }
+    requires { HasRecord m.old at × (length s.now ≡ record_size) }
+    ensures { Copied s.now record_size at m.old m.new }
 {
     let mut j = 0;
     while j < RECORD {
@@ -186,7 +179,7 @@ fn copy_record(s: &[u8; RECORD], m: &mut [u8], at: usize)
 // The flag for what is inside, of a record that is made: 1 if something was marked there, and 2 if
 // nothing was. 0 says that there is no record yet.
 fn settled(flag: u8) -> u8
-    ensures { λ r. ⌜ Settled flag r ⌝ }
+    ensures { Settled flag result }
 {
     if flag == 1 {
         return 1;
@@ -196,6 +189,7 @@ fn settled(flag: u8) -> u8
 
 // Marks the cues that are linked to a cue of a block inside the copy of the use of row r; and so
 // for all uses of the block.
+#[cycle(mark_use_mark_uses_marks_of_ready)]
 fn mark_use(
     xs: &[u32],
     t: &[u32; INDEX],
@@ -205,8 +199,8 @@ fn mark_use(
     r: usize,
     s: &mut [u8; RECORD],
 )
-    requires { ⌜ Loaded (now xs) (now t) × UseRow (now xs) (y .block) r × HasBlock (now m) (y .block) × (length (now s) ≡ recordSize) × (y .own ≤ maxOwn) × Table q (blocksOf (now xs)) (now m) ⌝ }
-    ensures { λ _. ⌜ UseStep q (blocksOf (now (xs .entry))) (y .own) (y .cue) (useAt (now (xs .entry)) (blocksOf (now (xs .entry))) r) (now (m .entry)) (now (s .entry)) (now (m .exit)) (now (s .exit)) ⌝ }
+    requires { Loaded xs.now t.now × UseRow xs.now y.block r × HasBlock m.old y.block × (length s.old ≡ record_size) × (y.own ≤ max_own) × Table q (blocks_of xs.now) m.old }
+    ensures { UseStep q (blocks_of xs.now) y.own y.cue (use_at xs.now (blocks_of xs.now) r) m.old s.old m.new s.new }
 {
     let j = used(xs, r);
     let joins = joins(xs, t, j);
@@ -222,9 +216,10 @@ fn mark_use(
     }
 }
 
+#[cycle(mark_use_mark_uses_marks_of_ready)]
 fn mark_uses(xs: &[u32], t: &[u32; INDEX], q: Ask, m: &mut [u8], y: BlockCue, s: &mut [u8; RECORD])
-    requires { ⌜ Loaded (now xs) (now t) × IsBlock (now xs) (y .block) × HasBlock (now m) (y .block) × (length (now s) ≡ recordSize) × (y .own ≤ maxOwn) × Table q (blocksOf (now xs)) (now m) ⌝ }
-    ensures { λ _. ⌜ UsesStep q (blocksOf (now (xs .entry))) (y .own) (y .cue) (blockAt (blocksOf (now (xs .entry))) (y .block) .uses) (now (m .entry)) (now (s .entry)) (now (m .exit)) (now (s .exit)) ⌝ }
+    requires { Loaded xs.now t.now × IsBlock xs.now y.block × HasBlock m.old y.block × (length s.old ≡ record_size) × (y.own ≤ max_own) × Table q (blocks_of xs.now) m.old }
+    ensures { UsesStep q (blocks_of xs.now) y.own y.cue (block_at (blocks_of xs.now) y.block).uses m.old s.old m.new s.new }
 {
     let rows = use_rows(xs, t, y.block);
     let mut r = rows.first;
@@ -235,6 +230,7 @@ fn mark_uses(xs: &[u32], t: &[u32; INDEX], q: Ask, m: &mut [u8], y: BlockCue, s:
 }
 
 // Marks the cues of block k that are linked to its cue c in a record without marks.
+#[cycle(mark_use_mark_uses_marks_of_ready)]
 pub fn marks_of(
     xs: &[u32],
     t: &[u32; INDEX],
@@ -244,8 +240,8 @@ pub fn marks_of(
     c: u32,
     s: &mut [u8; RECORD],
 )
-    requires { ⌜ Loaded (now xs) (now t) × IsBlock (now xs) k × HasBlock (now m) k × Table q (blocksOf (now xs)) (now m) × (now s ≡ replicate recordSize 0) ⌝ }
-    ensures { λ _. ⌜ MarksStep q (blocksOf (now (xs .entry))) k c (now (m .entry)) (now (m .exit)) (now (s .exit)) ⌝ }
+    requires { Loaded xs.now t.now × IsBlock xs.now k × HasBlock m.old k × Table q (blocks_of xs.now) m.old × (s.old ≡ replicate record_size 0) }
+    ensures { MarksStep q (blocks_of xs.now) k c m.old m.new s.new }
 {
     let own = own(xs, t, k);
     mark_links(xs, q, link_rows(xs, t, k), own, c, s);
@@ -258,9 +254,11 @@ pub fn marks_of(
 }
 
 // Makes the record of join i of block k, if it is not there yet.
+#[cycle(mark_use_mark_uses_marks_of_ready)]
+#[tactic(auto, using(crate::proofs::Tables::record_made_before))]
 fn ready(xs: &[u32], t: &[u32; INDEX], q: Ask, m: &mut [u8], k: usize, i: usize)
-    requires { ⌜ Loaded (now xs) (now t) × IsBlock (now xs) k × HasBlock (now m) k × (i < joinsOf (blocksOf (now xs)) k) × (i < maxJoins) × Table q (blocksOf (now xs)) (now m) ⌝ }
-    ensures { λ _. ⌜ RecordMade q (blocksOf (now (xs .entry))) k i (now (m .entry)) (now (m .exit)) ⌝ }
+    requires { Loaded xs.now t.now × IsBlock xs.now k × HasBlock m.old k × (i < joins_of (blocks_of xs.now) k) × (i < max_joins) × Table q (blocks_of xs.now) m.old }
+    ensures { RecordMade q (blocks_of xs.now) k i m.old m.new }
 {
     let at = BLOCK * k + RECORD * i;
     let known = m[at + INSIDE];

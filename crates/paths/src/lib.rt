@@ -3,24 +3,24 @@
 //
 // `find` gives a cue's place with the rows of the uses that lead there, `locate` with the path, `number` the number of a path and an own
 // cue.
-use blocks::INDEX;
-use blocks::Place;
-use blocks::wide;
+#![tactic(auto)]
+
+ghost use Rattle.std.specs.Prelude.{◌≡◌, ◌+◌, ◌-◌, ◌≤◌, ◌<◌, length, get_or, drop};
+ghost use Rattle.model.specs.Limits.{max_total, max_depth};
+ghost use Rattle.model.specs.Blocks.{total, blocks_of, last_block, count};
+ghost use Rattle.model.specs.Paths.{own_number, place_in};
+ghost use Rattle.model.specs.Lists.{overwrite};
+ghost use Rattle.model.specs.Questions.{show_number};
+ghost use Rattle.blocks.specs.Loaded.{Loaded};
+ghost use Rattle.blocks.specs.Places.{Takes, Found};
+ghost use Rattle.paths.specs.Locating.{uses_of, cues_of, in_copy, in_uses, MayLocate, Reached, place_of, UseFrom, Down, Positions};
+ghost use Rattle.paths.specs.Numbering.{from_copy, from_uses, MayNumber};
+
+use blocks::{INDEX, Place, wide};
 use model::limits::MAX_DEPTH;
-ghost use mathlib.Core.Path.{_≡_};
-ghost use Prim.Native.Nat.{_+_, _-_, _≤_, _<_};
-ghost use lib.ListN.{length, getD, drop};
-ghost use Rattle·model.specs.Limits.{maxTotal, maxDepth};
-ghost use Rattle·model.specs.Blocks.{total, blocksOf, lastBlock, count};
-ghost use Rattle·model.specs.Paths.{ownNumber, placeIn};
-ghost use Rattle·model.specs.Lists.{overwrite};
-ghost use Rattle·model.specs.Questions.{showNumber};
-ghost use Rattle·blocks.specs.Loaded.{Loaded};
-ghost use Rattle·blocks.specs.Places.{Takes, Found};
-ghost use Rattle·paths·specs.specs.Locating.{usesOf, cuesOf, inCopy, inUses, MayLocate, Reached, placeOf, UseFrom, Down, Positions};
-ghost use Rattle·paths·specs.specs.Numbering.{fromCopy, fromUses, MayNumber};
 
 // Where a way down ends: its depth, and the block and the own cue there.
+#[derive(Drop)]
 struct End {
     depth: usize,
     block: usize,
@@ -31,13 +31,14 @@ struct End {
 
 // Cue n, which is none of the first cues, so many of them, counted from behind these.
 fn past(n: u32, many: u32) -> u32
-    requires { ⌜ many < n ⌝ }
-    ensures { λ r. ⌜ r ≡ n - many ⌝ }
+    requires { many < n }
+    ensures { result ≡ n - many }
 {
     n - many
 }
 
 // Cue n of a copy of block k. The rows of the uses on the way there follow those before it, so many of them, in a list.
+#[cycle(locate_copy_locate_uses)]
 fn locate_copy(
     xs: &[u32],
     t: &[u32; INDEX],
@@ -46,8 +47,8 @@ fn locate_copy(
     depth: usize,
     rows: &mut [u32],
 ) -> End
-    requires { ⌜ MayLocate (now xs) (now t) (now rows) k (total (blocksOf (now xs)) k) n depth ⌝ }
-    ensures { λ r. ⌜ Reached (now (xs .entry)) (now (t .entry)) k depth (inCopy (now (xs .entry)) k n) (now (rows .entry)) (r .depth) (r .block) (r .own) (now (rows .exit)) ⌝ }
+    requires { MayLocate xs.now t.now rows.old k (total (blocks_of xs.now) k) n depth }
+    ensures { Reached xs.now t.now k depth (in_copy xs.now k n) rows.old result.depth result.block result.own rows.new }
 {
     let own = blocks::own(xs, t, k);
     if n <= own {
@@ -61,6 +62,7 @@ fn locate_copy(
 }
 
 // Cue n of the uses of block k, the first cue of its first use being cue 1.
+#[cycle(locate_copy_locate_uses)]
 fn locate_uses(
     xs: &[u32],
     t: &[u32; INDEX],
@@ -69,8 +71,8 @@ fn locate_uses(
     depth: usize,
     rows: &mut [u32],
 ) -> End
-    requires { ⌜ MayLocate (now xs) (now t) (now rows) k (cuesOf (now xs) (usesOf (now xs) k)) n depth ⌝ }
-    ensures { λ r. ⌜ Reached (now (xs .entry)) (now (t .entry)) k depth (inUses (now (xs .entry)) k n) (now (rows .entry)) (r .depth) (r .block) (r .own) (now (rows .exit)) ⌝ }
+    requires { MayLocate xs.now t.now rows.old k (cues_of xs.now (uses_of xs.now k)) n depth }
+    ensures { Reached xs.now t.now k depth (in_uses xs.now k n) rows.old result.depth result.block result.own rows.new }
 {
     let us = blocks::use_rows(xs, t, k);
     let mut r = us.first;
@@ -89,8 +91,8 @@ fn locate_uses(
 
 // Where cue v is; the rows of the uses that lead there go to a list that is long enough for every path.
 pub fn find(xs: &[u32], t: &[u32; INDEX], v: u32, rows: &mut [u32; MAX_DEPTH]) -> Place
-    requires { ⌜ Loaded (now xs) (now t) × (1 ≤ v) × (v ≤ count (blocksOf (now xs))) ⌝ }
-    ensures { λ r. ⌜ (r .cue ≡ v) × Found (now (xs .entry)) (now (t .entry)) (now (rows .exit)) r × (length (now (rows .exit)) ≡ maxDepth) ⌝ }
+    requires { Loaded xs.now t.now × (1 ≤ v) × (v ≤ count (blocks_of xs.now)) }
+    ensures { (result.cue ≡ v) × Found xs.now t.now rows.new result × (length rows.new ≡ max_depth) }
 {
     let last = blocks::last(xs, t);
     let end = locate_copy(xs, t, last, v, 0, rows);
@@ -104,8 +106,8 @@ pub fn find(xs: &[u32], t: &[u32; INDEX], v: u32, rows: &mut [u32; MAX_DEPTH]) -
 
 // The position of row r among the uses of block k, the first of which has position 1.
 fn position(xs: &[u32], t: &[u32; INDEX], k: usize, r: usize) -> u32
-    requires { ⌜ Loaded (now xs) (now t) × UseFrom (now xs) (now t) k r ⌝ }
-    ensures { λ p. ⌜ Takes (now (t .entry)) k p r ⌝ }
+    requires { Loaded xs.now t.now × UseFrom xs.now t.now k r }
+    ensures { Takes t.now k result r }
 {
     let us = blocks::use_rows(xs, t, k);
     (r - us.first + 1) as u32
@@ -113,8 +115,8 @@ fn position(xs: &[u32], t: &[u32; INDEX], k: usize, r: usize) -> u32
 
 // The rows of the uses on a way down turned into their positions: the path.
 pub fn positions(xs: &[u32], t: &[u32; INDEX], depth: usize, rows: &mut [u32])
-    requires { ⌜ Loaded (now xs) (now t) × Down (now xs) (now t) (now rows) depth ⌝ }
-    ensures { λ _. ⌜ Positions (now (xs .entry)) (now (t .entry)) (now (rows .entry)) depth (now (rows .exit)) ⌝ }
+    requires { Loaded xs.now t.now × Down xs.now t.now rows.old depth }
+    ensures { Positions xs.now t.now rows.old depth rows.new }
 {
     let mut k = blocks::last(xs, t);
     let mut l = 0;
@@ -128,9 +130,9 @@ pub fn positions(xs: &[u32], t: &[u32; INDEX], depth: usize, rows: &mut [u32])
 
 // Where cue n of the show is. The path goes to the beginning of the lent list, the rest of which stays as it was.
 pub fn locate(xs: &[u32], t: &[u32; INDEX], n: u32, path: &mut [u32]) -> Place
-    requires { ⌜ Loaded (now xs) (now t) × (1 ≤ n) × (n ≤ count (blocksOf (now xs))) × (maxDepth ≤ length (now path)) ⌝ }
-    ensures { λ r. ⌜ r ≡ placeOf n (placeIn (blocksOf (now (xs .entry))) (lastBlock (blocksOf (now (xs .entry)))) n) ⌝ }
-    ensures { λ r. ⌜ now (path .exit) ≡ overwrite (placeIn (blocksOf (now (xs .entry))) (lastBlock (blocksOf (now (xs .entry)))) n .path) (now (path .entry)) ⌝ }
+    requires { Loaded xs.now t.now × (1 ≤ n) × (n ≤ count (blocks_of xs.now)) × (max_depth ≤ length path.old) }
+    ensures value { result ≡ place_of n (place_in (blocks_of xs.now) (last_block (blocks_of xs.now)) n) }
+    ensures path_after { path.new ≡ overwrite (place_in (blocks_of xs.now) (last_block (blocks_of xs.now)) n).path path.old }
 {
     let last = blocks::last(xs, t);
     let end = locate_copy(xs, t, last, n, 0, path);
@@ -147,8 +149,8 @@ pub fn locate(xs: &[u32], t: &[u32; INDEX], n: u32, path: &mut [u32]) -> Place
 
 // The number of own cue c of a copy after base that has so many own cues; 0 if it has no such one.
 fn own_number(own: u32, base: u32, c: u32) -> u32
-    requires { ⌜ base + own ≤ maxTotal ⌝ }
-    ensures { λ r. ⌜ r ≡ ownNumber own base c ⌝ }
+    requires { base + own ≤ max_total }
+    ensures { result ≡ own_number own base c }
 {
     if c < 1 {
         return 0;
@@ -160,6 +162,7 @@ fn own_number(own: u32, base: u32, c: u32) -> u32
 }
 
 // The number of own cue c at the end of a path, of which these steps are done and led to the copy of block k after base.
+#[cycle(number_copy_number_uses)]
 fn number_copy(
     xs: &[u32],
     t: &[u32; INDEX],
@@ -169,8 +172,8 @@ fn number_copy(
     done: usize,
     c: u32,
 ) -> u32
-    requires { ⌜ MayNumber (now xs) (now t) (now path) k (total (blocksOf (now xs)) k) base done ⌝ }
-    ensures { λ r. ⌜ r ≡ fromCopy (now (xs .entry)) k base (drop done (now (path .entry))) c ⌝ }
+    requires { MayNumber xs.now t.now path.now k (total (blocks_of xs.now) k) base done }
+    ensures { result ≡ from_copy xs.now k base (drop done path.now) c }
 {
     let own = blocks::own(xs, t, k);
     if done < path.len() {
@@ -180,6 +183,7 @@ fn number_copy(
 }
 
 // The same where one step more leads to a use of block k, the first of which begins after base.
+#[cycle(number_copy_number_uses)]
 fn number_uses(
     xs: &[u32],
     t: &[u32; INDEX],
@@ -189,8 +193,8 @@ fn number_uses(
     done: usize,
     c: u32,
 ) -> u32
-    requires { ⌜ MayNumber (now xs) (now t) (now path) k (cuesOf (now xs) (usesOf (now xs) k)) base (done + 1) ⌝ }
-    ensures { λ r. ⌜ r ≡ fromUses (now (xs .entry)) k base (getD (now (path .entry)) done 0) (drop (done + 1) (now (path .entry))) c ⌝ }
+    requires { MayNumber xs.now t.now path.now k (cues_of xs.now (uses_of xs.now k)) base (done + 1) }
+    ensures { result ≡ from_uses xs.now k base (get_or path.now done 0) (drop (done + 1) path.now) c }
 {
     let us = blocks::use_rows(xs, t, k);
     let first = us.first;
@@ -214,8 +218,8 @@ fn number_uses(
 
 // The number of a path and an own cue; 0 if a step is no use, or the copy at the end has no such own cue, or the path is too long.
 pub fn number(xs: &[u32], t: &[u32; INDEX], path: &[u32], own: u32) -> u32
-    requires { ⌜ Loaded (now xs) (now t) ⌝ }
-    ensures { λ r. ⌜ r ≡ showNumber (blocksOf (now (xs .entry))) (now (path .entry)) own ⌝ }
+    requires { Loaded xs.now t.now }
+    ensures { result ≡ show_number (blocks_of xs.now) path.now own }
 {
     let last = blocks::last(xs, t);
     number_copy(xs, t, last, 0, path, 0, own)

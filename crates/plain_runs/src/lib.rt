@@ -1,23 +1,21 @@
 // The blocks that come with the desk, made from their description: the rows of one plain run after the other, and the file of them.
-use model::limits::DESK_BLOCKS;
-use model::limits::DESK_ROWS;
-use model::limits::DESK_SIZE;
-ghost use mathlib.Core.Path.{_≡_};
-ghost use mathlib.Core.List.{[], _∷_};
-ghost use Prim.Native.Nat.{_+_, _*_, _<_, _≤_};
-ghost use lib.ListN.{length};
-ghost use Rattle·model.specs.Limits.{rowSize, deskBlocks};
-ghost use Rattle·model.specs.Rows.{fileText};
-ghost use Rattle·model.specs.Desk.{plainOpening, plainLink, plainRun, builtIn, builtInNumbers};
-ghost use Rattle·plain_runs·specs.specs.Putting.{RowsFit, PutsRows, ownLinks};
+#![tactic(auto)]
+
+ghost use Rattle.std.specs.Prelude.{◌≡◌, [], ◌∷◌, ◌+◌, ◌*◌, ◌<◌, ◌≤◌, length};
+ghost use Rattle.model.specs.Limits.{row_size, desk_blocks};
+ghost use Rattle.model.specs.Rows.{file_text};
+ghost use Rattle.model.specs.Desk.{plain_opening, plain_link, plain_run, built_in, built_in_numbers};
+ghost use Rattle.plain_runs.specs.Putting.{RowsFit, PutsRows, own_links};
+
+use model::limits::{DESK_BLOCKS, DESK_ROWS, DESK_SIZE};
 
 // The bytes of the file of the blocks that come with the desk.
 pub const DESK_BYTES: usize = 3902;
 
 // Puts the opening row of block k at row n: the row behind it.
 fn put_opening(k: u32, numbers: &mut [u32], n: usize) -> usize
-    requires { ⌜ (k < deskBlocks) × (n * rowSize + rowSize ≤ length (now numbers)) ⌝ }
-    ensures { λ r. ⌜ PutsRows (plainOpening k ∷ []) (now (numbers .entry)) n r (now (numbers .exit)) ⌝ }
+    requires { (k < desk_blocks) × (n * row_size + row_size ≤ length numbers.old) }
+    ensures { PutsRows (plain_opening k ∷ []) numbers.old n result numbers.new }
 {
     let row = [k, 0, 2, k + 1, 0, 0, 0, 0, 0, 0, 0];
     rows::set_row(&row, n, numbers);
@@ -26,8 +24,8 @@ fn put_opening(k: u32, numbers: &mut [u32], n: usize) -> usize
 
 // Puts a link of block k, from cue a to cue b, at row n.
 fn put_link(k: u32, a: u32, b: u32, numbers: &mut [u32], n: usize) -> usize
-    requires { ⌜ n * rowSize + rowSize ≤ length (now numbers) ⌝ }
-    ensures { λ r. ⌜ PutsRows (plainLink k a b ∷ []) (now (numbers .entry)) n r (now (numbers .exit)) ⌝ }
+    requires { n * row_size + row_size ≤ length numbers.old }
+    ensures { PutsRows (plain_link k a b ∷ []) numbers.old n result numbers.new }
 {
     let row = [k, 1, 1, a, b, 0, 0, 0, 0, 0, 0];
     rows::set_row(&row, n, numbers);
@@ -36,8 +34,8 @@ fn put_link(k: u32, a: u32, b: u32, numbers: &mut [u32], n: usize) -> usize
 
 // Puts the links of block k from each own cue to the next, from row n on.
 fn put_own_links(k: u32, numbers: &mut [u32], n: usize) -> usize
-    requires { ⌜ (k < deskBlocks) × RowsFit (ownLinks k 1 k) (now numbers) n ⌝ }
-    ensures { λ r. ⌜ PutsRows (ownLinks k 1 k) (now (numbers .entry)) n r (now (numbers .exit)) ⌝ }
+    requires { (k < desk_blocks) × RowsFit (own_links k 1 k) numbers.old n }
+    ensures { PutsRows (own_links k 1 k) numbers.old n result numbers.new }
 {
     let mut r = n;
     let mut c = 1;
@@ -50,8 +48,8 @@ fn put_own_links(k: u32, numbers: &mut [u32], n: usize) -> usize
 
 // Puts the rows of block k from row n on. The first join's link stands last, as links rise by the cue they start from.
 fn put_run(k: u32, numbers: &mut [u32], n: usize) -> usize
-    requires { ⌜ (k < deskBlocks) × RowsFit (plainRun k) (now numbers) n ⌝ }
-    ensures { λ r. ⌜ PutsRows (plainRun k) (now (numbers .entry)) n r (now (numbers .exit)) ⌝ }
+    requires { (k < desk_blocks) × RowsFit (plain_run k) numbers.old n }
+    ensures { PutsRows (plain_run k) numbers.old n result numbers.new }
 {
     let i = put_opening(k, numbers, n);
     let j = put_own_links(k, numbers, i);
@@ -61,8 +59,8 @@ fn put_run(k: u32, numbers: &mut [u32], n: usize) -> usize
 
 // Puts the rows of all blocks, of which the numbers are then full.
 fn put_runs(numbers: &mut [u32])
-    requires { ⌜ length (now numbers) ≡ length builtInNumbers ⌝ }
-    ensures { λ _. ⌜ now (numbers .exit) ≡ builtInNumbers ⌝ }
+    requires { length numbers.old ≡ length built_in_numbers }
+    ensures { numbers.new ≡ built_in_numbers }
 {
     let mut n = 0;
     let mut k = 0;
@@ -74,7 +72,7 @@ fn put_runs(numbers: &mut [u32])
 
 // The file of the blocks that come with the desk.
 pub fn generate(out: &mut [u8; DESK_BYTES])
-    ensures { λ _. ⌜ now (out .exit) ≡ fileText builtIn ⌝ }
+    ensures { out.new ≡ file_text built_in }
 {
     let mut numbers = [0u32; DESK_SIZE];
     put_runs(&mut numbers);

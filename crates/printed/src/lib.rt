@@ -1,21 +1,21 @@
 // What the unfolding program prints for a file, part by part: the lines of a show's links are made as they are wanted, from the table of
 // marks of one cue after the other.
-ghost use mathlib.Core.Path.{_≡_};
-ghost use mathlib.Core.Bool.{false};
-ghost use Prim.Native.Nat.{_+_, _*_, _≤_};
-ghost use lib.ListN.{length, replicate};
-ghost use Rattle·model.specs.Limits.{rowSize, maxRows};
-ghost use Rattle·model.specs.Blocks.{blocksOf};
-ghost use Rattle·verdicts.specs.Index.{indexSize};
-ghost use Rattle·printed·specs.specs.Parts.{isGoing, Prints, Stands, Part, TextBegun};
+#![tactic(auto)]
+
+ghost use Rattle.std.specs.Prelude.{◌≡◌, false, ◌+◌, ◌*◌, ◌≤◌, length, replicate};
+ghost use Rattle.model.specs.Limits.{row_size, max_rows};
+ghost use Rattle.model.specs.Blocks.{blocks_of};
+ghost use Rattle.verdicts.specs.Index.{index_size};
+ghost use Rattle.printed.specs.Parts.{is_going, Prints, Stands, Part, TextBegun};
+
 use blocks::INDEX;
 use loading::Loading;
 use model::limits::PRINTED_CUES;
-use triples::LABEL_PLACES;
-use triples::MARKS;
+use triples::{LABEL_PLACES, MARKS};
 
 // How the text begins: how many bytes there are so far and, if the lines of the links are still to come, how many numbers the rows have,
 // and how many cues there are.
+#[derive(Drop)]
 pub struct Begun {
     pub used: usize,
     pub more: bool,
@@ -24,6 +24,7 @@ pub struct Begun {
 }
 
 // Where the text goes on, at a place of the table of a cue; and how many bytes of it were made.
+#[derive(Drop)]
 pub struct At {
     pub from: u32,
     pub place: usize,
@@ -31,14 +32,14 @@ pub struct At {
 }
 
 fn wide(x: u32) -> usize
-    ensures { λ r. ⌜ r ≡ x ⌝ }
+    ensures { result ≡ x }
 {
     x as usize
 }
 
 // A text that is whole.
 fn whole(used: usize) -> Begun
-    ensures { λ r. ⌜ (r .used ≡ used) × (r .more ≡ false) ⌝ }
+    ensures { (result.used ≡ used) × (result.more ≡ false) }
 {
     Begun {
         used: used,
@@ -50,8 +51,8 @@ fn whole(used: usize) -> Begun
 
 // Begins the text of a file. It is loaded: its rows go to the beginning of a list, and their index to an empty table.
 pub fn begin(file: &[u8], rows: &mut [u32], t: &mut [u32; INDEX], out: &mut [u8; 64]) -> Begun
-    requires { ⌜ (now t ≡ replicate indexSize 0) × (maxRows * rowSize ≤ length (now rows)) ⌝ }
-    ensures { λ r. ⌜ TextBegun (now (file .entry)) (now (rows .exit)) (now (t .exit)) (now (out .exit)) r ⌝ }
+    requires { (t.old ≡ replicate index_size 0) × (max_rows * row_size ≤ length rows.old) }
+    ensures { TextBegun file.now rows.new t.new out.new result }
 {
     match loading::load(file, rows, t) {
         Loading::Refused(refusal) => whole(printing::put_refusal(refusal, out)),
@@ -73,7 +74,7 @@ pub fn begin(file: &[u8], rows: &mut [u32], t: &mut [u32; INDEX], out: &mut [u8;
 
 // There is still something to look at behind a place.
 pub fn going(cues: u32, from: u32, place: usize) -> bool
-    ensures { λ r. ⌜ r ≡ isGoing cues from place ⌝ }
+    ensures { result ≡ is_going cues from place }
 {
     let end = LABEL_PLACES * wide(cues) + LABEL_PLACES;
     if place < end {
@@ -95,8 +96,8 @@ pub fn part(
     m: &mut [u8; MARKS],
     out: &mut [u8],
 ) -> At
-    requires { ⌜ Prints (now xs) (now t) cues × Stands (blocksOf (now xs)) (now m) from place ⌝ }
-    ensures { λ r. ⌜ Part (blocksOf (now (xs .entry))) from place (now (m .entry)) (now (out .entry)) r (now (m .exit)) (now (out .exit)) ⌝ }
+    requires { Prints xs.now t.now cues × Stands (blocks_of xs.now) m.old from place }
+    ensures { Part (blocks_of xs.now) from place m.old out.old result m.new out.new }
 {
     let end = LABEL_PLACES * wide(cues) + LABEL_PLACES;
     if place < end {

@@ -1,49 +1,46 @@
 -- The lines of one cue's links, place by place of its table of marks.
-use Prim.Native.Nat.{ℕ, suc, _-_, _≤_, _<_, _/_, _%_}
-use mathlib.Core.Path.{_≡_}
-use mathlib.Core.Bool.{Bool, true, false}
-use mathlib.Core.List.{List, [], _∷_, _++_, flatMap}
-use lib.ListN.{length, getD, take}
-use Rattle·model.specs.Choice.{ifLt, ifEq}
-use Rattle·model.specs.Blocks.{Link}
-use Rattle·model.specs.Lists.{range, keep}
-use Rattle·model.specs.Printed.{numberText, valuesText, triplesOf}
-use Rattle·triples.specs.Marks.{labelPlaces}
+use Rattle.std.specs.Prelude.{ℕ, suc, ◌-◌, ◌≤◌, ◌<◌, ◌/◌, ◌%◌, ◌≡◌, Bool, true, false, length, get_or, take}
+use mathlib.Core.List.{List, [], ◌∷◌, ◌++◌, flat_map}
+use Rattle.model.specs.Choice.{if_lt, if_eq}
+use Rattle.model.specs.Blocks.{Link}
+use Rattle.model.specs.Lists.{range, keep}
+use Rattle.model.specs.Printed.{number_text, values_text, triples_of}
+use Rattle.triples.specs.Marks.{label_places}
 
 -- A number and the byte behind it.
-unfoldable pub endedText : ℕ → ℕ → List ℕ
-endedText n end = numberText 10 n ++ (end ∷ [])
+unfoldable pub ended_text : ℕ → ℕ → List ℕ
+ended_text n end = number_text 10 n ++ (end ∷ [])
 
 -- The line of a link.
-abbrev pub linkLine : Link → List ℕ
-linkLine l = valuesText (l .from ∷ l .to ∷ l .label ∷ [])
+abbrev pub link_line : Link → List ℕ
+link_line l = values_text (l.from ∷ l.to ∷ l.label ∷ [])
 
 -- The lines of the links from cue u, of n cues.
-abbrev pub cueLines : List Link → ℕ → ℕ → List ℕ
-cueLines E u n = flatMap (λ v. flatMap linkLine (triplesOf E u v)) (range 1 n)
+abbrev pub cue_lines : List Link → ℕ → ℕ → List ℕ
+cue_lines E u n = flat_map (λ v. flat_map link_line (triples_of E u v)) (range 1 n)
 
--- The line of the link from cue u that place p stands for: it leads to cue p / labelPlaces with label p % labelPlaces.
-unfoldable pub lineOf : ℕ → ℕ → List ℕ
-lineOf u p = valuesText (u ∷ p / labelPlaces ∷ p % labelPlaces ∷ [])
+-- The line of the link from cue u that place p stands for: it leads to cue p / label_places with label p % label_places.
+unfoldable pub line_of : ℕ → ℕ → List ℕ
+line_of u p = values_text (u ∷ p / label_places ∷ p % label_places ∷ [])
 
 -- Place p is marked.
 unfoldable pub marked : List ℕ → ℕ → Bool
-marked m p = ifEq (getD m p 0) 1 true false
+marked m p = if_eq (get_or m p 0) 1 true false
 
 -- The marked places from p up to e.
-unfoldable pub marksFrom : List ℕ → ℕ → ℕ → List ℕ
-marksFrom m p e = keep (marked m) (range p (e - p))
+unfoldable pub marks_from : List ℕ → ℕ → ℕ → List ℕ
+marks_from m p e = keep (marked m) (range p (e - p))
 
 -- Their lines.
-unfoldable pub linesFrom : List ℕ → ℕ → ℕ → ℕ → List ℕ
-linesFrom m u p e = flatMap (lineOf u) (marksFrom m p e)
+unfoldable pub lines_from : List ℕ → ℕ → ℕ → ℕ → List ℕ
+lines_from m u p e = flat_map (line_of u) (marks_from m p e)
 
 -- r is the first marked place from p on, or e if there is none below e.
 pub record FirstMark (m : List ℕ) (p e r : ℕ) : Type 0 where
   pub from : p ≤ r
   pub upto : r ≤ e
-  pub same : marksFrom m p e ≡ marksFrom m r e
-  pub rest : marksFrom m p e ≡ ifLt r e (r ∷ marksFrom m (suc r) e) []
+  pub same : marks_from m p e ≡ marks_from m r e
+  pub rest : marks_from m p e ≡ if_lt r e (r ∷ marks_from m (suc r) e) []
 
 -- Lines from place p on were put at the start of a list, which changed from `out` to `after`: those before the place that was come to.
 pub record Fills (m : List ℕ) (u p e : ℕ) (out : List ℕ) (place used : ℕ) (after : List ℕ) : Type 0 where
@@ -51,8 +48,8 @@ pub record Fills (m : List ℕ) (u p e : ℕ) (out : List ℕ) (place used : ℕ
   pub upto : place ≤ e
   pub fits : used ≤ length after
   pub long : length after ≡ length out
-  pub text : linesFrom m u p e ≡ take used after ++ linesFrom m u place e
-  pub gets-on : 33 ≤ length out → p < e → p < place
+  pub text : lines_from m u p e ≡ take used after ++ lines_from m u place e
+  pub gets_on : 33 ≤ length out → p < e → p < place
 
 -- A text stands at the start of a list.
 pub record StartsWith (w : List ℕ) (used : ℕ) (out : List ℕ) : Type 0 where

@@ -1,15 +1,14 @@
 // The text that the unfolding program prints: numbers, lines and titles, put into lent bytes.
+#![tactic(auto)]
+
+ghost use Rattle.std.specs.Prelude.{◌≡◌, [], ◌∷◌, ◌++◌, ◌+◌, ◌≤◌, ◌<◌, ◌%◌, length};
+ghost use Rattle.model.specs.Printed.{number_text, values_text, links_title, cues_title, refusal_text};
+ghost use Rattle.codec.specs.Writing.{Puts};
+ghost use Rattle.printing.specs.Stream.{ended_text, line_of, FirstMark, Fills, StartsWith};
+ghost use Rattle.triples.specs.Marks.{marks_size};
+
 use model::Refusal;
-use triples::LABEL_PLACES;
-use triples::MARKS;
-ghost use mathlib.Core.Path.{_≡_};
-ghost use mathlib.Core.List.{[], _∷_, _++_};
-ghost use Prim.Native.Nat.{_+_, _≤_, _<_, _%_};
-ghost use lib.ListN.{length};
-ghost use Rattle·model.specs.Printed.{numberText, valuesText, linksTitle, cuesTitle, refusalText};
-ghost use Rattle·codec.specs.Writing.{Puts};
-ghost use Rattle·printing·specs.specs.Stream.{endedText, lineOf, FirstMark, Fills, StartsWith};
-ghost use Rattle·triples.specs.Marks.{marksSize};
+use triples::{LABEL_PLACES, MARKS};
 
 // The titles.
 const LINKS: [u8; 14] = *b"from,to,label\n";
@@ -22,6 +21,7 @@ const REFUSAL: [u8; 14] = *b"refusal,place\n";
 const LINE: usize = 33;
 
 // Where filling a buffer stopped: the place, and how many bytes are used.
+#[derive(Drop)]
 pub struct Filled {
     pub place: usize,
     pub used: usize,
@@ -29,15 +29,15 @@ pub struct Filled {
 
 // The last digit of a number.
 fn digit(n: u32) -> u8
-    ensures { λ r. ⌜ r ≡ 48 + n % 10 ⌝ }
+    ensures { result ≡ 48 + n % 10 }
 {
     (n % 10) as u8 + 48
 }
 
 // Writes a number's digits.
 fn put_number(n: u32, out: &mut [u8], at: usize) -> usize
-    requires { ⌜ at + length (numberText 10 n) ≤ length (now out) ⌝ }
-    ensures { λ r. ⌜ Puts (numberText 10 n) (now (out .entry)) at r (now (out .exit)) ⌝ }
+    requires { at + length (number_text 10 n) ≤ length out.old }
+    ensures { Puts (number_text 10 n) out.old at result out.new }
 {
     if n < 10 {
         out[at] = digit(n);
@@ -50,8 +50,8 @@ fn put_number(n: u32, out: &mut [u8], at: usize) -> usize
 
 // Writes a number and the byte behind it.
 fn put_ended(n: u32, end: u8, out: &mut [u8], at: usize) -> usize
-    requires { ⌜ at + 11 ≤ length (now out) ⌝ }
-    ensures { λ r. ⌜ Puts (endedText n end) (now (out .entry)) at r (now (out .exit)) ⌝ }
+    requires { at + 11 ≤ length out.old }
+    ensures { Puts (ended_text n end) out.old at result out.new }
 {
     let i = put_number(n, out, at);
     out[i] = end;
@@ -60,23 +60,23 @@ fn put_ended(n: u32, end: u8, out: &mut [u8], at: usize) -> usize
 
 // Writes a line of one value, of two and of three.
 pub fn put_one(a: u32, out: &mut [u8], at: usize) -> usize
-    requires { ⌜ at + 11 ≤ length (now out) ⌝ }
-    ensures { λ r. ⌜ Puts (valuesText (a ∷ [])) (now (out .entry)) at r (now (out .exit)) ⌝ }
+    requires { at + 11 ≤ length out.old }
+    ensures { Puts (values_text (a ∷ [])) out.old at result out.new }
 {
     put_ended(a, 10, out, at)
 }
 
 pub fn put_pair(a: u32, b: u32, out: &mut [u8], at: usize) -> usize
-    requires { ⌜ at + 22 ≤ length (now out) ⌝ }
-    ensures { λ r. ⌜ Puts (valuesText (a ∷ b ∷ [])) (now (out .entry)) at r (now (out .exit)) ⌝ }
+    requires { at + 22 ≤ length out.old }
+    ensures { Puts (values_text (a ∷ b ∷ [])) out.old at result out.new }
 {
     let i = put_ended(a, 44, out, at);
     put_one(b, out, i)
 }
 
 pub fn put_line(from: u32, to: u32, label: u32, out: &mut [u8], at: usize) -> usize
-    requires { ⌜ at + 33 ≤ length (now out) ⌝ }
-    ensures { λ r. ⌜ Puts (valuesText (from ∷ to ∷ label ∷ [])) (now (out .entry)) at r (now (out .exit)) ⌝ }
+    requires { at + 33 ≤ length out.old }
+    ensures { Puts (values_text (from ∷ to ∷ label ∷ [])) out.old at result out.new }
 {
     let i = put_ended(from, 44, out, at);
     put_pair(to, label, out, i)
@@ -84,8 +84,8 @@ pub fn put_line(from: u32, to: u32, label: u32, out: &mut [u8], at: usize) -> us
 
 // Writes the line of the link from cue u that a place of the table stands for.
 fn put_place(u: u32, p: usize, out: &mut [u8], at: usize) -> usize
-    requires { ⌜ (p < marksSize) × (at + 33 ≤ length (now out)) ⌝ }
-    ensures { λ r. ⌜ Puts (lineOf u p) (now (out .entry)) at r (now (out .exit)) ⌝ }
+    requires { (p < marks_size) × (at + 33 ≤ length out.old) }
+    ensures { Puts (line_of u p) out.old at result out.new }
 {
     let to = (p / LABEL_PLACES) as u32;
     let label = (p % LABEL_PLACES) as u32;
@@ -94,8 +94,8 @@ fn put_place(u: u32, p: usize, out: &mut [u8], at: usize) -> usize
 
 // The first marked place from p on, or e if there is none below e.
 fn next(m: &[u8; MARKS], p: usize, e: usize) -> usize
-    requires { ⌜ (p ≤ e) × (e ≤ marksSize) ⌝ }
-    ensures { λ r. ⌜ FirstMark (now (m .entry)) p e r ⌝ }
+    requires { (p ≤ e) × (e ≤ marks_size) }
+    ensures { FirstMark m.now p e result }
 {
     let mut i = p;
     while i < e {
@@ -109,8 +109,8 @@ fn next(m: &[u8; MARKS], p: usize, e: usize) -> usize
 
 // Puts the lines of the marked places from p up to e into a buffer, as long as there is room for any line.
 pub fn fill(m: &[u8; MARKS], u: u32, p: usize, e: usize, out: &mut [u8]) -> Filled
-    requires { ⌜ (p ≤ e) × (e ≤ marksSize) ⌝ }
-    ensures { λ r. ⌜ Fills (now (m .entry)) u p e (now (out .entry)) (r .place) (r .used) (now (out .exit)) ⌝ }
+    requires { (p ≤ e) × (e ≤ marks_size) }
+    ensures { Fills m.now u p e out.old result.place result.used out.new }
 {
     let mut place = next(m, p, e);
     let mut used = 0;
@@ -126,14 +126,14 @@ pub fn fill(m: &[u8; MARKS], u: u32, p: usize, e: usize, out: &mut [u8]) -> Fill
 
 // Puts the title of the links at the start of a buffer.
 pub fn put_links_title(out: &mut [u8; 64]) -> usize
-    ensures { λ r. ⌜ StartsWith linksTitle r (now (out .exit)) ⌝ }
+    ensures { StartsWith links_title result out.new }
 {
     codec::put_bytes(&LINKS, out)
 }
 
 // Puts the count of cues there, with its title.
 pub fn put_count(cues: u32, out: &mut [u8; 64]) -> usize
-    ensures { λ r. ⌜ StartsWith (cuesTitle ++ valuesText (cues ∷ [])) r (now (out .exit)) ⌝ }
+    ensures { StartsWith (cues_title ++ values_text (cues ∷ [])) result out.new }
 {
     let at = codec::put_bytes(&CUES, out);
     put_one(cues, out, at)
@@ -141,7 +141,7 @@ pub fn put_count(cues: u32, out: &mut [u8; 64]) -> usize
 
 // Puts a refusal there, with its title.
 pub fn put_refusal(refusal: Refusal, out: &mut [u8; 64]) -> usize
-    ensures { λ r. ⌜ StartsWith (refusalText refusal) r (now (out .exit)) ⌝ }
+    ensures { StartsWith (refusal_text refusal) result out.new }
 {
     let number = refusal.number;
     let place = refusal.place;

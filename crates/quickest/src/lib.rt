@@ -4,40 +4,32 @@
 // block is kept in the work area only while the question is answered.
 //
 // Others call `quickest`.
-use blocks::Place;
-use blocks::wide;
+#![tactic(auto)]
+
+ghost use Rattle.std.specs.Prelude.{◌≡◌, ◌+◌, ◌*◌, ◌≤◌, ◌<◌, length, replicate};
+ghost use Rattle.model.specs.Limits.{max_depth, work_size, summary_width};
+ghost use Rattle.model.specs.Blocks.{joins_of, blocks_of, count};
+ghost use Rattle.model.specs.Unfolding.{show_links};
+ghost use Rattle.model.specs.Quickest.{quickest};
+ghost use Rattle.model.specs.Questions.{cleared};
+ghost use Rattle.shows.specs.Waits.{AreWaits};
+ghost use Rattle.distances.specs.Tells.{told};
+ghost use Rattle.distances.specs.Quickest.{priced, no_sum};
+ghost use Rattle.blocks.specs.Loaded.{Loaded, IsBlock};
+ghost use Rattle.blocks.specs.Places.{block_on, UsesTo, Found};
+ghost use Rattle.copies.specs.ByRows.{copy_on};
+ghost use Rattle.searches.specs.Starts.{Started, Merged, estimates_size};
+ghost use Rattle.searches.specs.Edges.{cue_count, SpreadIn};
+ghost use Rattle.searches.specs.Joins.{JoinsAt, RowKept, JoinsKept};
+ghost use Rattle.searches.specs.Copies.{FromKept, FromAbove, TellsWhole, kept_size, Risen, Source, Sunk};
+ghost use Rattle.quickest.specs.Sums.{MaySum, SumsTo, HasSums, MaySearch};
+
+use blocks::{Place, wide};
 use distance::common;
 use estimates::ESTIMATES;
-use model::limits::MAX_BLOCKS;
-use model::limits::SUMMARY_SIZE;
-use model::limits::SUMMARY_WIDTH;
-use model::limits::WORK_SIZE;
-use relax_sums::clear_block;
-use relax_sums::from_cue;
-use relax_sums::settle;
-use sums::clear;
-use sums::gather;
-use sums::put;
-use sums::put_met;
-ghost use mathlib.Core.Path.{_≡_};
-ghost use Prim.Native.Nat.{_+_, _*_, _≤_, _<_};
-ghost use lib.ListN.{length, replicate};
-ghost use Rattle·model.specs.Limits.{maxDepth, workSize, summaryWidth};
-ghost use Rattle·model.specs.Blocks.{joinsOf, blocksOf, count};
-ghost use Rattle·model.specs.Unfolding.{showLinks};
-ghost use Rattle·model.specs.Quickest.{quickest};
-ghost use Rattle·model.specs.Questions.{cleared};
-ghost use Rattle·shows.specs.Waits.{AreWaits};
-ghost use Rattle·distances.specs.Tells.{told};
-ghost use Rattle·distances.specs.Quickest.{priced, noSum};
-ghost use Rattle·blocks.specs.Loaded.{Loaded, IsBlock};
-ghost use Rattle·blocks.specs.Places.{blockOn, UsesTo, Found};
-ghost use Rattle·copies.specs.ByRows.{copyOn};
-ghost use Rattle·searches.specs.Starts.{Started, Merged, estimatesSize};
-ghost use Rattle·searches.specs.Edges.{cueCount, SpreadIn};
-ghost use Rattle·searches.specs.Joins.{JoinsAt, RowKept, JoinsKept};
-ghost use Rattle·searches.specs.Copies.{FromKept, FromAbove, TellsWhole, keptSize, Risen, Source, Sunk};
-ghost use Rattle·quickest·specs.specs.Sums.{MaySum, SumsTo, HasSums, MaySearch};
+use model::limits::{MAX_BLOCKS, SUMMARY_SIZE, SUMMARY_WIDTH, WORK_SIZE};
+use relax_sums::{clear_block, from_cue, settle};
+use sums::{clear, gather, put, put_met};
 
 // No chain, and so no sum.
 pub const NO_SUM: u64 = sums::NO_SUM;
@@ -49,8 +41,8 @@ const KEPT: usize = SUMMARY_WIDTH * MAX_BLOCKS as usize;
 
 // Row i of some numbers, eight to a row: the m sums from cue p on.
 fn keep_row(v: &mut [u64], i: usize, d: &[u64], p: usize, m: usize)
-    requires { ⌜ (summaryWidth * i + m ≤ length (now v)) × (p + m ≤ length (now d)) ⌝ }
-    ensures { λ _. ⌜ RowKept (now (v .entry)) i (now (d .entry)) p m (now (v .exit)) ⌝ }
+    requires { (summary_width * i + m ≤ length v.old) × (p + m ≤ length d.now) }
+    ensures { RowKept v.old i d.now p m v.new }
 {
     let mut j = 0;
     while j < m {
@@ -70,9 +62,9 @@ fn sum_join(
     d: &mut [u64],
     work: &mut [u64],
 )
-    requires { ⌜ MaySum (now xs) (now t) (now waits) k (now d) (now work) × (i < joinsOf (blocksOf (now xs)) k)
-        × SumsTo (now xs) (now waits) k i (now work) ⌝ }
-    ensures { λ _. ⌜ SumsTo (now (xs .entry)) (now (waits .entry)) k (i + 1) (now (work .exit)) ⌝ }
+    requires { MaySum xs.now t.now waits.now k d.old work.old × (i < joins_of (blocks_of xs.now) k)
+        × SumsTo xs.now waits.now k i work.old }
+    ensures { SumsTo xs.now waits.now k (i + 1) work.new }
 {
     let first = wide(blocks::own(xs, t, k)) + 1;
     let m = blocks::joins(xs, t, k);
@@ -91,8 +83,8 @@ fn sum_block(
     d: &mut [u64],
     work: &mut [u64],
 )
-    requires { ⌜ MaySum (now xs) (now t) (now waits) k (now d) (now work) × SumsTo (now xs) (now waits) k 0 (now work) ⌝ }
-    ensures { λ _. ⌜ SumsTo (now (xs .entry)) (now (waits .entry)) (k + 1) 0 (now (work .exit)) ⌝ }
+    requires { MaySum xs.now t.now waits.now k d.old work.old × SumsTo xs.now waits.now k 0 work.old }
+    ensures { SumsTo xs.now waits.now (k + 1) 0 work.new }
 {
     let m = blocks::joins(xs, t, k);
     let mut i = 0;
@@ -104,8 +96,8 @@ fn sum_block(
 
 // The sums between the joins of every block.
 fn sum_blocks(xs: &[u32], t: &[u32; blocks::INDEX], waits: &[u32], d: &mut [u64], work: &mut [u64])
-    requires { ⌜ Loaded (now xs) (now t) × AreWaits (now waits) × (length (now d) ≡ estimatesSize) × (length (now work) ≡ workSize) ⌝ }
-    ensures { λ _. ⌜ HasSums (now (xs .entry)) (now (t .entry)) (now (waits .entry)) (now (work .exit)) ⌝ }
+    requires { Loaded xs.now t.now × AreWaits waits.now × (length d.old ≡ estimates_size) × (length work.old ≡ work_size) }
+    ensures { HasSums xs.now t.now waits.now work.new }
 {
     let blocks = blocks::last(xs, t) + 1;
     let mut k = 0;
@@ -119,9 +111,9 @@ fn sum_blocks(xs: &[u32], t: &[u32; blocks::INDEX], waits: &[u32], d: &mut [u64]
 
 // The sums at the joins of block k, kept for level l.
 fn keep_joins(xs: &[u32], t: &[u32; blocks::INDEX], k: usize, l: usize, d: &[u64], kept: &mut [u64])
-    requires { ⌜ Loaded (now xs) (now t) × IsBlock (now xs) k × (l ≤ maxDepth) × (length (now d) ≡ estimatesSize)
-        × (length (now kept) ≡ keptSize) ⌝ }
-    ensures { λ _. ⌜ JoinsKept (blocksOf (now (xs .entry))) k (now (kept .entry)) l (now (d .entry)) (now (kept .exit)) ⌝ }
+    requires { Loaded xs.now t.now × IsBlock xs.now k × (l ≤ max_depth) × (length d.now ≡ estimates_size)
+        × (length kept.old ≡ kept_size) }
+    ensures { JoinsKept (blocks_of xs.now) k kept.old l d.now kept.new }
 {
     let own = wide(blocks::own(xs, t, k));
     let m = blocks::joins(xs, t, k);
@@ -137,9 +129,9 @@ fn put_kept(
     kept: &[u64],
     d: &mut [u64],
 )
-    requires { ⌜ Loaded (now xs) (now t) × UsesTo (now xs) (now rows) (l + 1) × (l < maxDepth) × (length (now kept) ≡ keptSize)
-        × (length (now d) ≡ estimatesSize) ⌝ }
-    ensures { λ _. ⌜ Merged (FromKept (now (xs .entry)) (now (rows .entry)) l (now (kept .entry))) (now (d .entry)) (now (d .exit)) ⌝ }
+    requires { Loaded xs.now t.now × UsesTo xs.now rows.now (l + 1) × (l < max_depth) × (length kept.now ≡ kept_size)
+        × (length d.old ≡ estimates_size) }
+    ensures { Merged (FromKept xs.now rows.now l kept.now) d.old d.new }
 {
     let r = wide(rows[l]);
     let m = blocks::joins(xs, t, blocks::used(xs, r));
@@ -157,12 +149,12 @@ fn rise_one(
     kept: &mut [u64],
     d: &mut [u64],
 )
-    requires { ⌜ HasSums (now xs) (now t) (now waits) (now work) × UsesTo (now xs) (now rows) (l + 1) × (l < maxDepth)
-        × (length (now kept) ≡ keptSize) × (length (now d) ≡ estimatesSize) ⌝ }
-    ensures { λ _. ⌜ SpreadIn noSum (priced (now (waits .entry))) (blocksOf (now (xs .entry))) (now (work .entry)) (blockOn (now (xs .entry))
-        (now (rows .entry)) l)
-        (FromKept (now (xs .entry)) (now (rows .entry)) l (now (kept .entry))) (now (d .exit))
-        × JoinsKept (blocksOf (now (xs .entry))) (blockOn (now (xs .entry)) (now (rows .entry)) l) (now (kept .entry)) l (now (d .exit)) (now (kept .exit)) ⌝ }
+    requires { HasSums xs.now t.now waits.now work.now × UsesTo xs.now rows.now (l + 1) × (l < max_depth)
+        × (length kept.old ≡ kept_size) × (length d.old ≡ estimates_size) }
+    ensures { SpreadIn no_sum (priced waits.now) (blocks_of xs.now) work.now (block_on xs.now
+        rows.now l)
+        (FromKept xs.now rows.now l kept.old) d.new
+        × JoinsKept (blocks_of xs.now) (block_on xs.now rows.now l) kept.old l d.new kept.new }
 {
     let k = blocks::block_on(xs, t, rows, l);
     clear_block(xs, t, k, d);
@@ -182,9 +174,9 @@ fn climb(
     kept: &mut [u64],
     d: &mut [u64],
 )
-    requires { ⌜ MaySearch (now xs) (now t) (now waits) (now work) (now rows) from (now d) × (length (now kept) ≡ keptSize) ⌝ }
-    ensures { λ _. ⌜ Risen noSum (priced (now (waits .entry))) (now (xs .entry)) (now (t .entry)) (now (rows .entry)) from 0 (now (kept .exit))
-        (now (d .exit)) ⌝ }
+    requires { MaySearch xs.now t.now waits.now work.now rows.now from d.old × (length kept.old ≡ kept_size) }
+    ensures { Risen no_sum (priced waits.now) xs.now t.now rows.now from 0 kept.new
+        d.new }
 {
     from_cue(xs, t, waits, work, from.block, wide(from.own), d);
     keep_joins(xs, t, from.block, from.depth, d, kept);
@@ -199,8 +191,8 @@ fn climb(
 
 // Sums to begin with at m cues from p on.
 fn put_joins(p: usize, e: &[u64], m: usize, d: &mut [u64])
-    requires { ⌜ (p + m ≤ length (now d)) × (m ≤ length (now e)) ⌝ }
-    ensures { λ _. ⌜ Merged (JoinsAt p (now (e .entry)) m) (now (d .entry)) (now (d .exit)) ⌝ }
+    requires { (p + m ≤ length d.old) × (m ≤ length e.now) }
+    ensures { Merged (JoinsAt p e.now m) d.old d.new }
 {
     let mut i = 0;
     while i < m {
@@ -212,9 +204,9 @@ fn put_joins(p: usize, e: &[u64], m: usize, d: &mut [u64])
 // From the sums at level l to those that the block at level l + 1 begins with: its joins have what
 // the cues that they meet have.
 fn enter(xs: &[u32], t: &[u32; blocks::INDEX], rows: &[u32], l: usize, d: &mut [u64])
-    requires { ⌜ Loaded (now xs) (now t) × UsesTo (now xs) (now rows) (l + 1) × (length (now d) ≡ estimatesSize) ⌝ }
-    ensures { λ _. ⌜ Started noSum (cueCount (blocksOf (now (xs .entry))) (blockOn (now (xs .entry)) (now (rows .entry)) (l + 1)))
-        (FromAbove (now (xs .entry)) (now (rows .entry)) l (now (d .entry))) (now (d .exit)) ⌝ }
+    requires { Loaded xs.now t.now × UsesTo xs.now rows.now (l + 1) × (length d.old ≡ estimates_size) }
+    ensures { Started no_sum (cue_count (blocks_of xs.now) (block_on xs.now rows.now (l + 1)))
+        (FromAbove xs.now rows.now l d.old) d.new }
 {
     let r = wide(rows[l]);
     let k = blocks::used(xs, r);
@@ -237,9 +229,9 @@ fn put_source(
     kept: &[u64],
     d: &mut [u64],
 )
-    requires { ⌜ Loaded (now xs) (now t) × Found (now xs) (now t) (now rows) from × (l ≤ from .depth) × (length (now kept) ≡ keptSize)
-        × (length (now d) ≡ estimatesSize) ⌝ }
-    ensures { λ _. ⌜ Merged (Source (now (xs .entry)) (now (rows .entry)) from l (now (kept .entry))) (now (d .entry)) (now (d .exit)) ⌝ }
+    requires { Loaded xs.now t.now × Found xs.now t.now rows.now from × (l ≤ from.depth) × (length kept.now ≡ kept_size)
+        × (length d.old ≡ estimates_size) }
+    ensures { Merged (Source xs.now rows.now from l kept.now) d.old d.new }
 {
     if l < from.depth {
         put_kept(xs, t, rows, l, kept, d);
@@ -261,11 +253,11 @@ fn sink_shared(
     kept: &[u64],
     d: &mut [u64],
 )
-    requires { ⌜ MaySearch (now xs) (now t) (now waits) (now work) (now rows) from (now d) × (shared ≤ from .depth) × (length (now kept) ≡ keptSize)
-        × Risen noSum (priced (now waits)) (now xs) (now t) (now rows) from 0 (now kept) (now d) ⌝ }
-    ensures { λ _. ⌜ TellsWhole noSum (priced (now (waits .entry))) (now (xs .entry)) (copyOn (now (xs .entry)) (now (t .entry))
-        (now (rows .entry)) shared) (from .cue)
-        (now (d .exit)) ⌝ }
+    requires { MaySearch xs.now t.now waits.now work.now rows.now from d.old × (shared ≤ from.depth) × (length kept.now ≡ kept_size)
+        × Risen no_sum (priced waits.now) xs.now t.now rows.now from 0 kept.now d.old }
+    ensures { TellsWhole no_sum (priced waits.now) xs.now (copy_on xs.now t.now
+        rows.now shared) from.cue
+        d.new }
 {
     let mut l = 0;
     while l < shared {
@@ -287,9 +279,9 @@ fn sink_alone(
     level: usize,
     d: &mut [u64],
 )
-    requires { ⌜ MaySearch (now xs) (now t) (now waits) (now work) (now rows) to (now d) × (level ≤ to .depth) ⌝ }
-    ensures { λ _. ⌜ Sunk noSum (priced (now (waits .entry))) (now (xs .entry)) (now (t .entry)) (now (rows .entry)) level (to .depth)
-        (now (d .entry)) (now (d .exit)) ⌝ }
+    requires { MaySearch xs.now t.now waits.now work.now rows.now to d.old × (level ≤ to.depth) }
+    ensures { Sunk no_sum (priced waits.now) xs.now t.now rows.now level to.depth
+        d.old d.new }
 {
     let mut l = level;
     while l < to.depth {
@@ -303,7 +295,7 @@ fn sink_alone(
 
 // Zeros in the whole of a part of the work area.
 fn put_zeros(part: &mut [u64])
-    ensures { λ _. ⌜ now (part .exit) ≡ replicate (length (now (part .entry))) 0 ⌝ }
+    ensures { part.new ≡ replicate (length part.old) 0 }
 {
     let mut i = 0;
     while i < part.len() {
@@ -324,10 +316,10 @@ fn search(
     work: &[u64],
     d: &mut [u64],
 ) -> u64
-    requires { ⌜ HasSums (now xs) (now t) (now waits) (now work) × Found (now xs) (now t) (now up) from × Found (now xs) (now t) (now down) to
-        × (length (now d) ≡ estimatesSize) ⌝ }
-    ensures { λ r. ⌜ quickest (now (waits .entry)) (showLinks (blocksOf (now (xs .entry)))) (count (blocksOf
-        (now (xs .entry)))) (from .cue) (to .cue) ≡ told noSum r ⌝ }
+    requires { HasSums xs.now t.now waits.now work.now × Found xs.now t.now up.now from × Found xs.now t.now down.now to
+        × (length d.old ≡ estimates_size) }
+    ensures { quickest waits.now (show_links (blocks_of xs.now)) (count (blocks_of
+        xs.now)) from.cue to.cue ≡ told no_sum result }
 {
     let mut kept = [0u64; KEPT];
     climb(xs, t, waits, work, from, up, &mut kept, d);
@@ -348,11 +340,11 @@ fn search_in(
     down: &[u32],
     work: &mut [u64],
 ) -> u64
-    requires { ⌜ Loaded (now xs) (now t) × Found (now xs) (now t) (now up) from × Found (now xs) (now t) (now down) to
-        × AreWaits (now waits) × (length (now work) ≡ workSize) ⌝ }
-    ensures { λ r. ⌜ (quickest (now (waits .entry)) (showLinks (blocksOf (now (xs .entry)))) (count (blocksOf
-        (now (xs .entry)))) (from .cue) (to .cue) ≡ told noSum r)
-        × (now (work .exit) ≡ replicate workSize 0) ⌝ }
+    requires { Loaded xs.now t.now × Found xs.now t.now up.now from × Found xs.now t.now down.now to
+        × AreWaits waits.now × (length work.old ≡ work_size) }
+    ensures { (quickest waits.now (show_links (blocks_of xs.now)) (count (blocks_of
+        xs.now)) from.cue to.cue ≡ told no_sum result)
+        × (work.new ≡ replicate work_size 0) }
 {
     let mut d = [0u64; ESTIMATES];
     sum_blocks(xs, t, waits, &mut d, work);
@@ -374,11 +366,11 @@ pub fn quickest(
     down: &[u32],
     work: &mut [u64],
 ) -> u64
-    requires { ⌜ Loaded (now xs) (now t) × Found (now xs) (now t) (now up) from × Found (now xs) (now t) (now down) to
-        × AreWaits (now waits) × (workSize ≤ length (now work)) ⌝ }
-    ensures { λ r. ⌜ (quickest (now (waits .entry)) (showLinks (blocksOf (now (xs .entry)))) (count (blocksOf
-        (now (xs .entry)))) (from .cue) (to .cue) ≡ told noSum r)
-        × (now (work .exit) ≡ cleared (now (work .entry))) ⌝ }
+    requires { Loaded xs.now t.now × Found xs.now t.now up.now from × Found xs.now t.now down.now to
+        × AreWaits waits.now × (work_size ≤ length work.old) }
+    ensures { (quickest waits.now (show_links (blocks_of xs.now)) (count (blocks_of
+        xs.now)) from.cue to.cue ≡ told no_sum result)
+        × (work.new ≡ cleared work.old) }
 {
     search_in(xs, t, waits, from, up, to, down, &mut work[0..WORK_SIZE])
 }

@@ -3,41 +3,32 @@
 //
 // Others call `clear_block`, `settle` and `from_cue`. Up to `relax_use` this is about one use: two
 // cues edge by edge, more of them eight estimates at a time.
-use estimates::NO_CHAIN;
-use estimates::clear;
-use estimates::either;
-use estimates::gather;
-use estimates::improve;
-use estimates::put;
-use estimates::put_met;
-use model::limits::MAX_FOLLOWED;
-use model::limits::SUMMARY_SIZE;
-use model::limits::SUMMARY_WIDTH;
-ghost use mathlib.Core.Path.{_≡_};
-ghost use Prim.Native.Nat.{_+_, _*_, _≤_, _<_};
-ghost use mathlib.Core.Logic.{_⊎_};
-ghost use mathlib.Core.Bool.{false};
-ghost use lib.ListN.{length};
-ghost use Rattle·model.specs.Limits.{noChain, summarySize, summaryWidth};
-ghost use Rattle·model.specs.Blocks.{blocksOf, blockAt};
-ghost use Rattle·distances.specs.Walks.{each-one, Linked};
-ghost use Rattle·verdicts.specs.Index.{linkAt};
-ghost use Rattle·blocks.specs.Loaded.{Loaded, IsBlock};
-ghost use Rattle·searches.specs.Rounds.{Round};
-ghost use Rattle·searches.specs.Starts.{Nowhere, Meets, Started, estimatesSize};
-ghost use Rattle·searches.specs.Lines.{Least, Line, Lines, Alike};
-ghost use Rattle·searches.specs.Edges.{Mesh, LinkEnds, LinkEdge, UseEdges, BlockEdge, cueCount, SettledOver, Only, SpreadIn, MaySettle};
+#![tactic(auto)]
+
+ghost use Rattle.std.specs.Prelude.{◌≡◌, ◌+◌, ◌*◌, ◌≤◌, ◌<◌, ◌⊎◌, false, length};
+ghost use Rattle.model.specs.Limits.{no_chain, summary_size, summary_width};
+ghost use Rattle.model.specs.Blocks.{blocks_of, block_at};
+ghost use Rattle.distances.specs.Walks.{each-one, Linked};
+ghost use Rattle.verdicts.specs.Index.{link_at};
+ghost use Rattle.blocks.specs.Loaded.{Loaded, IsBlock};
+ghost use Rattle.searches.specs.Rounds.{Round};
+ghost use Rattle.searches.specs.Starts.{Nowhere, Meets, Started, estimates_size};
+ghost use Rattle.searches.specs.Lines.{Least, Line, Lines, Alike};
+ghost use Rattle.searches.specs.Edges.{Mesh, LinkEnds, LinkEdge, UseEdges, BlockEdge, cue_count, SettledOver, Only, SpreadIn, MaySettle};
+
+use estimates::{NO_CHAIN, clear, either, gather, improve, put, put_met};
+use model::limits::{MAX_FOLLOWED, SUMMARY_SIZE, SUMMARY_WIDTH};
 
 // The lesser of two numbers.
 fn least(a: u32, b: u32) -> u32
-    ensures { λ r. ⌜ (r ≤ a) × (r ≤ b) × ((r ≡ a) ⊎ ((r ≡ b) × (b < a))) ⌝ }
+    ensures { (result ≤ a) × (result ≤ b) × ((result ≡ a) ⊎ ((result ≡ b) × (b < a))) }
 {
     if b < a { b } else { a }
 }
 
 // The smaller of an estimate y and the sum of an estimate x and a weight w.
 fn lowered(y: u32, x: u32, w: u32) -> u32
-    ensures { λ r. ⌜ Least noChain y x w r ⌝ }
+    ensures { Least no_chain y x w result }
 {
     let room = NO_CHAIN - x;
     least(y, x + least(w, room))
@@ -45,8 +36,8 @@ fn lowered(y: u32, x: u32, w: u32) -> u32
 
 // Eight estimates, lowered by an estimate x and the eight weights from place q on.
 fn lower_line(work: &[u32], q: usize, x: u32, e: &mut [u32])
-    requires { ⌜ (q + summaryWidth ≤ length (now work)) × (length (now e) ≡ summaryWidth) ⌝ }
-    ensures { λ _. ⌜ Line noChain (now (work .entry)) q x (now (e .entry)) summaryWidth (now (e .exit)) ⌝ }
+    requires { (q + summary_width ≤ length work.now) × (length e.old ≡ summary_width) }
+    ensures { Line no_chain work.now q x e.old summary_width e.new }
 {
     let mut j = 0;
     while j < SUMMARY_WIDTH {
@@ -57,8 +48,8 @@ fn lower_line(work: &[u32], q: usize, x: u32, e: &mut [u32])
 
 // The same, where x is an estimate at all.
 fn lower_by(work: &[u32], q: usize, x: u32, e: &mut [u32])
-    requires { ⌜ (q + summaryWidth ≤ length (now work)) × (length (now e) ≡ summaryWidth) ⌝ }
-    ensures { λ _. ⌜ Line noChain (now (work .entry)) q x (now (e .entry)) summaryWidth (now (e .exit)) ⌝ }
+    requires { (q + summary_width ≤ length work.now) × (length e.old ≡ summary_width) }
+    ensures { Line no_chain work.now q x e.old summary_width e.new }
 {
     if x < NO_CHAIN {
         lower_line(work, q, x, e);
@@ -67,8 +58,8 @@ fn lower_by(work: &[u32], q: usize, x: u32, e: &mut [u32])
 
 // Eight estimates, lowered by the estimates g and the 64 weights from place q on.
 fn lower_lines(work: &[u32], q: usize, g: &[u32], e: &mut [u32])
-    requires { ⌜ (q + summarySize ≤ length (now work)) × (length (now g) ≡ summaryWidth) × (length (now e) ≡ summaryWidth) ⌝ }
-    ensures { λ _. ⌜ Lines noChain summaryWidth (now (work .entry)) q (now (g .entry)) (now (e .entry)) summaryWidth (now (e .exit)) ⌝ }
+    requires { (q + summary_size ≤ length work.now) × (length g.now ≡ summary_width) × (length e.old ≡ summary_width) }
+    ensures { Lines no_chain summary_width work.now q g.now e.old summary_width e.new }
 {
     let mut i = 0;
     while i < SUMMARY_WIDTH {
@@ -79,7 +70,7 @@ fn lower_lines(work: &[u32], q: usize, g: &[u32], e: &mut [u32])
 
 // Whether two estimates differ.
 fn unlike(a: u32, b: u32) -> bool
-    ensures { λ r. ⌜ (r ≡ false → a ≡ b) ⌝ }
+    ensures { result ≡ false → a ≡ b }
 {
     if a == b {
         return false;
@@ -89,8 +80,8 @@ fn unlike(a: u32, b: u32) -> bool
 
 // Whether eight estimates differ from eight others.
 fn differ(a: &[u32], b: &[u32]) -> bool
-    requires { ⌜ (length (now a) ≡ summaryWidth) × (length (now b) ≡ summaryWidth) ⌝ }
-    ensures { λ r. ⌜ Alike r (now (a .entry)) (now (b .entry)) summaryWidth ⌝ }
+    requires { (length a.now ≡ summary_width) × (length b.now ≡ summary_width) }
+    ensures { Alike result a.now b.now summary_width }
 {
     let mut found = false;
     let mut i = 0;
@@ -105,8 +96,8 @@ fn differ(a: &[u32], b: &[u32]) -> bool
 // The edges of a use whose row r names m cues, all from the estimates before: eight at a time. The
 // weights stand from place q on.
 fn relax_many(xs: &[u32], work: &[u32], r: usize, q: usize, m: usize, d: &mut [u32]) -> bool
-    requires { ⌜ Meets (now xs) r m (length (now d)) × (q + summarySize ≤ length (now work)) ⌝ }
-    ensures { λ c. ⌜ Round (Mesh (now (xs .entry)) (now (work .entry)) r q m) (now (d .entry)) c (now (d .exit)) ⌝ }
+    requires { Meets xs.now r m (length d.old) × (q + summary_size ≤ length work.now) }
+    ensures { Round (Mesh xs.now work.now r q m) d.old result d.new }
 {
     let mut old = [NO_CHAIN; SUMMARY_WIDTH];
     gather(xs, r, d, m, &mut old);
@@ -120,8 +111,8 @@ fn relax_many(xs: &[u32], work: &[u32], r: usize, q: usize, m: usize, d: &mut [u
 
 // The edges of a use that names two cues, from one to the other.
 fn relax_pair(xs: &[u32], work: &[u32], r: usize, q: usize, d: &mut [u32]) -> bool
-    requires { ⌜ Meets (now xs) r 2 (length (now d)) × (q + summarySize ≤ length (now work)) ⌝ }
-    ensures { λ c. ⌜ Round (Mesh (now (xs .entry)) (now (work .entry)) r q 2) (now (d .entry)) c (now (d .exit)) ⌝ }
+    requires { Meets xs.now r 2 (length d.old) × (q + summary_size ≤ length work.now) }
+    ensures { Round (Mesh xs.now work.now r q 2) d.old result d.new }
 {
     let a = blocks::wide(blocks::column(xs, r, 0));
     let b = blocks::wide(blocks::column(xs, r, 1));
@@ -132,8 +123,8 @@ fn relax_pair(xs: &[u32], work: &[u32], r: usize, q: usize, d: &mut [u32]) -> bo
 
 // The edges of a use that names m cues; a cue's edge to itself improves nothing.
 fn relax_use(xs: &[u32], work: &[u32], r: usize, q: usize, m: usize, d: &mut [u32]) -> bool
-    requires { ⌜ Meets (now xs) r m (length (now d)) × (q + summarySize ≤ length (now work)) ⌝ }
-    ensures { λ c. ⌜ Round (Mesh (now (xs .entry)) (now (work .entry)) r q m) (now (d .entry)) c (now (d .exit)) ⌝ }
+    requires { Meets xs.now r m (length d.old) × (q + summary_size ≤ length work.now) }
+    ensures { Round (Mesh xs.now work.now r q m) d.old result d.new }
 {
     if m < 2 {
         return false;
@@ -146,8 +137,8 @@ fn relax_use(xs: &[u32], work: &[u32], r: usize, q: usize, m: usize, d: &mut [u3
 
 // The link of row r, if it is followed: a note is not.
 fn relax_link(xs: &[u32], r: usize, d: &mut [u32]) -> bool
-    requires { ⌜ LinkEnds (now xs) r (length (now d)) ⌝ }
-    ensures { λ c. ⌜ Round (LinkEdge each-one (linkAt (now (xs .entry)) r)) (now (d .entry)) c (now (d .exit)) ⌝ }
+    requires { LinkEnds xs.now r (length d.old) }
+    ensures { Round (LinkEdge each-one (link_at xs.now r)) d.old result d.new }
 {
     if MAX_FOLLOWED < blocks::label(xs, r) {
         return false;
@@ -159,8 +150,8 @@ fn relax_link(xs: &[u32], r: usize, d: &mut [u32]) -> bool
 
 // The links of block k.
 fn relax_links(xs: &[u32], t: &[u32; blocks::INDEX], k: usize, d: &mut [u32]) -> bool
-    requires { ⌜ Loaded (now xs) (now t) × IsBlock (now xs) k × (length (now d) ≡ estimatesSize) ⌝ }
-    ensures { λ c. ⌜ Round (Linked each-one (blockAt (blocksOf (now (xs .entry))) k .links)) (now (d .entry)) c (now (d .exit)) ⌝ }
+    requires { Loaded xs.now t.now × IsBlock xs.now k × (length d.old ≡ estimates_size) }
+    ensures { Round (Linked each-one (block_at (blocks_of xs.now) k).links) d.old result d.new }
 {
     let rows = blocks::link_rows(xs, t, k);
     let mut changed = false;
@@ -175,9 +166,8 @@ fn relax_links(xs: &[u32], t: &[u32; blocks::INDEX], k: usize, d: &mut [u32]) ->
 
 // The uses of block k, by the summaries of the blocks that they name.
 fn relax_uses(xs: &[u32], t: &[u32; blocks::INDEX], work: &[u32], k: usize, d: &mut [u32]) -> bool
-    requires { ⌜ MaySettle (now xs) (now t) k (now work) (now d) ⌝ }
-    ensures { λ c. ⌜ Round (UseEdges (blocksOf (now (xs .entry))) (now (work .entry)) (blockAt (blocksOf (now (xs .entry))) k .uses)) (now
-        (d .entry)) c (now (d .exit)) ⌝ }
+    requires { MaySettle xs.now t.now k work.now d.old }
+    ensures { Round (UseEdges (blocks_of xs.now) work.now (block_at (blocks_of xs.now) k).uses) d.old result d.new }
 {
     let rows = blocks::use_rows(xs, t, k);
     let mut changed = false;
@@ -194,8 +184,8 @@ fn relax_uses(xs: &[u32], t: &[u32; blocks::INDEX], work: &[u32], k: usize, d: &
 
 // All edges of block k, each once.
 fn relax_block(xs: &[u32], t: &[u32; blocks::INDEX], work: &[u32], k: usize, d: &mut [u32]) -> bool
-    requires { ⌜ MaySettle (now xs) (now t) k (now work) (now d) ⌝ }
-    ensures { λ c. ⌜ Round (BlockEdge each-one (blocksOf (now (xs .entry))) (now (work .entry)) k) (now (d .entry)) c (now (d .exit)) ⌝ }
+    requires { MaySettle xs.now t.now k work.now d.old }
+    ensures { Round (BlockEdge each-one (blocks_of xs.now) work.now k) d.old result d.new }
 {
     let a = relax_links(xs, t, k, d);
     let c = relax_uses(xs, t, work, k, d);
@@ -204,8 +194,8 @@ fn relax_block(xs: &[u32], t: &[u32; blocks::INDEX], work: &[u32], k: usize, d: 
 
 // Estimates of block k until a whole round changes nothing.
 pub fn settle(xs: &[u32], t: &[u32; blocks::INDEX], work: &[u32], k: usize, d: &mut [u32])
-    requires { ⌜ MaySettle (now xs) (now t) k (now work) (now d) ⌝ }
-    ensures { λ _. ⌜ SettledOver (BlockEdge each-one (blocksOf (now (xs .entry))) (now (work .entry)) k) (now (d .entry)) (now (d .exit)) ⌝ }
+    requires { MaySettle xs.now t.now k work.now d.old }
+    ensures { SettledOver (BlockEdge each-one (blocks_of xs.now) work.now k) d.old d.new }
 {
     loop {
         let more = relax_block(xs, t, work, k, d);
@@ -217,8 +207,8 @@ pub fn settle(xs: &[u32], t: &[u32; blocks::INDEX], work: &[u32], k: usize, d: &
 
 // No estimate yet at the cues of block k.
 pub fn clear_block(xs: &[u32], t: &[u32; blocks::INDEX], k: usize, d: &mut [u32])
-    requires { ⌜ Loaded (now xs) (now t) × IsBlock (now xs) k × (length (now d) ≡ estimatesSize) ⌝ }
-    ensures { λ _. ⌜ Started noChain (cueCount (blocksOf (now (xs .entry))) k) Nowhere (now (d .exit)) ⌝ }
+    requires { Loaded xs.now t.now × IsBlock xs.now k × (length d.old ≡ estimates_size) }
+    ensures { Started no_chain (cue_count (blocks_of xs.now) k) Nowhere d.new }
 {
     let own = blocks::wide(blocks::own(xs, t, k));
     clear(d, own + blocks::joins(xs, t, k));
@@ -233,9 +223,9 @@ pub fn from_cue(
     c: usize,
     d: &mut [u32],
 )
-    requires { ⌜ MaySettle (now xs) (now t) k (now work) (now d) × (c ≤ cueCount (blocksOf (now xs)) k) ⌝ }
-    ensures { λ _. ⌜ SpreadIn noChain each-one (blocksOf (now (xs .entry))) (now (work .entry)) k
-        (Only c) (now (d .exit)) ⌝ }
+    requires { MaySettle xs.now t.now k work.now d.old × (c ≤ cue_count (blocks_of xs.now) k) }
+    ensures { SpreadIn no_chain each-one (blocks_of xs.now) work.now k
+        (Only c) d.new }
 {
     clear_block(xs, t, k, d);
     put(d, c, 0);

@@ -5,44 +5,36 @@
 //
 // Others call `clear_block`, `settle` and `from_cue`. Up to `relax_use` this is about one use: two
 // or three cues edge by edge, more of them eight sums at a time.
+#![tactic(auto)]
+
+ghost use Rattle.std.specs.Prelude.{◌≡◌, ◌+◌, ◌*◌, ◌≤◌, ◌<◌, length, get_or};
+ghost use Rattle.model.specs.Limits.{summary_size, summary_width};
+ghost use Rattle.model.specs.Blocks.{blocks_of, block_at};
+ghost use Rattle.shows.specs.Waits.{AreWaits};
+ghost use Rattle.distances.specs.Walks.{Linked};
+ghost use Rattle.distances.specs.Quickest.{priced, no_sum};
+ghost use Rattle.verdicts.specs.Index.{link_at};
+ghost use Rattle.blocks.specs.Loaded.{Loaded, IsBlock};
+ghost use Rattle.searches.specs.Rounds.{Round};
+ghost use Rattle.searches.specs.Starts.{Nowhere, Meets, Started, estimates_size};
+ghost use Rattle.searches.specs.Lines.{Least, Line, Lines};
+ghost use Rattle.searches.specs.Edges.{Mesh, Between, LinkEnds, LinkEdge, UseEdges, BlockEdge, cue_count, SettledOver, Only, SpreadIn, MaySettle};
+
 use estimates::either;
-use model::limits::MAX_FOLLOWED;
-use model::limits::SUMMARY_SIZE;
-use model::limits::SUMMARY_WIDTH;
-use sums::NO_SUM;
-use sums::clear;
-use sums::gather;
-use sums::improve;
-use sums::lesser;
-use sums::put;
-use sums::put_met;
-use sums::sum_of;
-ghost use mathlib.Core.Path.{_≡_};
-ghost use Prim.Native.Nat.{_+_, _*_, _≤_, _<_};
-ghost use lib.ListN.{length, getD};
-ghost use Rattle·model.specs.Limits.{summarySize, summaryWidth};
-ghost use Rattle·model.specs.Blocks.{blocksOf, blockAt};
-ghost use Rattle·shows.specs.Waits.{AreWaits};
-ghost use Rattle·distances.specs.Walks.{Linked};
-ghost use Rattle·distances.specs.Quickest.{priced, noSum};
-ghost use Rattle·verdicts.specs.Index.{linkAt};
-ghost use Rattle·blocks.specs.Loaded.{Loaded, IsBlock};
-ghost use Rattle·searches.specs.Rounds.{Round};
-ghost use Rattle·searches.specs.Starts.{Nowhere, Meets, Started, estimatesSize};
-ghost use Rattle·searches.specs.Lines.{Least, Line, Lines};
-ghost use Rattle·searches.specs.Edges.{Mesh, Between, LinkEnds, LinkEdge, UseEdges, BlockEdge, cueCount, SettledOver, Only, SpreadIn, MaySettle};
+use model::limits::{MAX_FOLLOWED, SUMMARY_SIZE, SUMMARY_WIDTH};
+use sums::{NO_SUM, clear, gather, improve, lesser, put, put_met, sum_of};
 
 // The smaller of a sum y and the sum of a sum x and a weight w.
 fn lowered(y: u64, x: u64, w: u64) -> u64
-    ensures { λ r. ⌜ Least noSum y x w r ⌝ }
+    ensures { Least no_sum y x w result }
 {
     lesser(sum_of(x, w), y)
 }
 
 // Eight sums, lowered by a sum x and the eight weights from place q on.
 fn lower_line(work: &[u64], q: usize, x: u64, e: &mut [u64])
-    requires { ⌜ (q + summaryWidth ≤ length (now work)) × (length (now e) ≡ summaryWidth) ⌝ }
-    ensures { λ _. ⌜ Line noSum (now (work .entry)) q x (now (e .entry)) summaryWidth (now (e .exit)) ⌝ }
+    requires { (q + summary_width ≤ length work.now) × (length e.old ≡ summary_width) }
+    ensures { Line no_sum work.now q x e.old summary_width e.new }
 {
     let mut j = 0;
     while j < SUMMARY_WIDTH {
@@ -53,8 +45,8 @@ fn lower_line(work: &[u64], q: usize, x: u64, e: &mut [u64])
 
 // The same, where x is a sum at all.
 fn lower_by(work: &[u64], q: usize, x: u64, e: &mut [u64])
-    requires { ⌜ (q + summaryWidth ≤ length (now work)) × (length (now e) ≡ summaryWidth) ⌝ }
-    ensures { λ _. ⌜ Line noSum (now (work .entry)) q x (now (e .entry)) summaryWidth (now (e .exit)) ⌝ }
+    requires { (q + summary_width ≤ length work.now) × (length e.old ≡ summary_width) }
+    ensures { Line no_sum work.now q x e.old summary_width e.new }
 {
     if x < NO_SUM {
         lower_line(work, q, x, e);
@@ -63,8 +55,8 @@ fn lower_by(work: &[u64], q: usize, x: u64, e: &mut [u64])
 
 // Eight sums, lowered by the sums g and the 64 weights from place q on.
 fn lower_lines(work: &[u64], q: usize, g: &[u64], e: &mut [u64])
-    requires { ⌜ (q + summarySize ≤ length (now work)) × (length (now g) ≡ summaryWidth) × (length (now e) ≡ summaryWidth) ⌝ }
-    ensures { λ _. ⌜ Lines noSum summaryWidth (now (work .entry)) q (now (g .entry)) (now (e .entry)) summaryWidth (now (e .exit)) ⌝ }
+    requires { (q + summary_size ≤ length work.now) × (length g.now ≡ summary_width) × (length e.old ≡ summary_width) }
+    ensures { Lines no_sum summary_width work.now q g.now e.old summary_width e.new }
 {
     let mut i = 0;
     while i < SUMMARY_WIDTH {
@@ -77,8 +69,8 @@ fn lower_lines(work: &[u64], q: usize, g: &[u64], e: &mut [u64])
 // weights stand from place q on; what stands there beyond the m first of a line is of no account.
 // Where the cues have all the same sum, or none yet, there is nothing to do, which one test says.
 fn relax_many(xs: &[u32], work: &[u64], r: usize, q: usize, m: usize, d: &mut [u64]) -> bool
-    requires { ⌜ Meets (now xs) r m (length (now d)) × (0 < m) × (q + summarySize ≤ length (now work)) ⌝ }
-    ensures { λ c. ⌜ Round (Mesh (now (xs .entry)) (now (work .entry)) r q m) (now (d .entry)) c (now (d .exit)) ⌝ }
+    requires { Meets xs.now r m (length d.old) × (0 < m) × (q + summary_size ≤ length work.now) }
+    ensures { Round (Mesh xs.now work.now r q m) d.old result d.new }
 {
     let mut old = [NO_SUM; SUMMARY_WIDTH];
     let first = d[blocks::wide(blocks::column(xs, r, 0))];
@@ -100,8 +92,8 @@ fn relax_between(
     j: usize,
     d: &mut [u64],
 ) -> bool
-    requires { ⌜ Meets (now xs) r (j + 1) (length (now d)) × (q + summarySize ≤ length (now work)) × (i < j) ⌝ }
-    ensures { λ c. ⌜ Round (Between (now (xs .entry)) (now (work .entry)) r q i j) (now (d .entry)) c (now (d .exit)) ⌝ }
+    requires { Meets xs.now r (j + 1) (length d.old) × (q + summary_size ≤ length work.now) × (i < j) }
+    ensures { Round (Between xs.now work.now r q i j) d.old result d.new }
 {
     let a = blocks::wide(blocks::column(xs, r, i));
     let b = blocks::wide(blocks::column(xs, r, j));
@@ -112,8 +104,8 @@ fn relax_between(
 
 // The edges of a use that names three cues.
 fn relax_three(xs: &[u32], work: &[u64], r: usize, q: usize, d: &mut [u64]) -> bool
-    requires { ⌜ Meets (now xs) r 3 (length (now d)) × (q + summarySize ≤ length (now work)) ⌝ }
-    ensures { λ c. ⌜ Round (Mesh (now (xs .entry)) (now (work .entry)) r q 3) (now (d .entry)) c (now (d .exit)) ⌝ }
+    requires { Meets xs.now r 3 (length d.old) × (q + summary_size ≤ length work.now) }
+    ensures { Round (Mesh xs.now work.now r q 3) d.old result d.new }
 {
     let a = relax_between(xs, work, r, q, 0, 1, d);
     let b = relax_between(xs, work, r, q, 0, 2, d);
@@ -123,8 +115,8 @@ fn relax_three(xs: &[u32], work: &[u64], r: usize, q: usize, d: &mut [u64]) -> b
 
 // The edges of a use that names m cues; a cue's edge to itself improves nothing.
 fn relax_use(xs: &[u32], work: &[u64], r: usize, q: usize, m: usize, d: &mut [u64]) -> bool
-    requires { ⌜ Meets (now xs) r m (length (now d)) × (q + summarySize ≤ length (now work)) ⌝ }
-    ensures { λ c. ⌜ Round (Mesh (now (xs .entry)) (now (work .entry)) r q m) (now (d .entry)) c (now (d .exit)) ⌝ }
+    requires { Meets xs.now r m (length d.old) × (q + summary_size ≤ length work.now) }
+    ensures { Round (Mesh xs.now work.now r q m) d.old result d.new }
 {
     if m < 2 {
         return false;
@@ -140,23 +132,23 @@ fn relax_use(xs: &[u32], work: &[u64], r: usize, q: usize, m: usize, d: &mut [u6
 
 // A number, wide enough for sums.
 fn long(x: u32) -> u64
-    ensures { λ r. ⌜ r ≡ x ⌝ }
+    ensures { result ≡ x }
 {
     x as u64
 }
 
 // How long the follow-ons of a label wait.
 fn wait(waits: &[u32], label: usize) -> u64
-    requires { ⌜ label < length (now waits) ⌝ }
-    ensures { λ r. ⌜ r ≡ getD (now (waits .entry)) label 0 ⌝ }
+    requires { label < length waits.now }
+    ensures { result ≡ get_or waits.now label 0 }
 {
     long(waits[label])
 }
 
 // The link of row r, if it is followed: a note is not.
 fn relax_link(xs: &[u32], waits: &[u32], r: usize, d: &mut [u64]) -> bool
-    requires { ⌜ AreWaits (now waits) × LinkEnds (now xs) r (length (now d)) ⌝ }
-    ensures { λ c. ⌜ Round (LinkEdge (priced (now (waits .entry))) (linkAt (now (xs .entry)) r)) (now (d .entry)) c (now (d .exit)) ⌝ }
+    requires { AreWaits waits.now × LinkEnds xs.now r (length d.old) }
+    ensures { Round (LinkEdge (priced waits.now) (link_at xs.now r)) d.old result d.new }
 {
     let label = blocks::label(xs, r);
     if MAX_FOLLOWED < label {
@@ -169,8 +161,8 @@ fn relax_link(xs: &[u32], waits: &[u32], r: usize, d: &mut [u64]) -> bool
 
 // The links of block k.
 fn relax_links(xs: &[u32], t: &[u32; blocks::INDEX], waits: &[u32], k: usize, d: &mut [u64]) -> bool
-    requires { ⌜ Loaded (now xs) (now t) × AreWaits (now waits) × IsBlock (now xs) k × (length (now d) ≡ estimatesSize) ⌝ }
-    ensures { λ c. ⌜ Round (Linked (priced (now (waits .entry))) (blockAt (blocksOf (now (xs .entry))) k .links)) (now (d .entry)) c (now (d .exit)) ⌝ }
+    requires { Loaded xs.now t.now × AreWaits waits.now × IsBlock xs.now k × (length d.old ≡ estimates_size) }
+    ensures { Round (Linked (priced waits.now) (block_at (blocks_of xs.now) k).links) d.old result d.new }
 {
     let rows = blocks::link_rows(xs, t, k);
     let mut changed = false;
@@ -185,9 +177,8 @@ fn relax_links(xs: &[u32], t: &[u32; blocks::INDEX], waits: &[u32], k: usize, d:
 
 // The uses of block k, by the sums between the joins of the blocks that they name.
 fn relax_uses(xs: &[u32], t: &[u32; blocks::INDEX], work: &[u64], k: usize, d: &mut [u64]) -> bool
-    requires { ⌜ MaySettle (now xs) (now t) k (now work) (now d) ⌝ }
-    ensures { λ c. ⌜ Round (UseEdges (blocksOf (now (xs .entry))) (now (work .entry)) (blockAt (blocksOf (now (xs .entry))) k .uses)) (now
-        (d .entry)) c (now (d .exit)) ⌝ }
+    requires { MaySettle xs.now t.now k work.now d.old }
+    ensures { Round (UseEdges (blocks_of xs.now) work.now (block_at (blocks_of xs.now) k).uses) d.old result d.new }
 {
     let rows = blocks::use_rows(xs, t, k);
     let mut changed = false;
@@ -210,9 +201,8 @@ fn relax_uses_back(
     k: usize,
     d: &mut [u64],
 ) -> bool
-    requires { ⌜ MaySettle (now xs) (now t) k (now work) (now d) ⌝ }
-    ensures { λ c. ⌜ Round (UseEdges (blocksOf (now (xs .entry))) (now (work .entry)) (blockAt (blocksOf (now (xs .entry))) k .uses)) (now
-        (d .entry)) c (now (d .exit)) ⌝ }
+    requires { MaySettle xs.now t.now k work.now d.old }
+    ensures { Round (UseEdges (blocks_of xs.now) work.now (block_at (blocks_of xs.now) k).uses) d.old result d.new }
 {
     let rows = blocks::use_rows(xs, t, k);
     let mut changed = false;
@@ -236,9 +226,8 @@ fn relax_uses_in(
     back: bool,
     d: &mut [u64],
 ) -> bool
-    requires { ⌜ MaySettle (now xs) (now t) k (now work) (now d) ⌝ }
-    ensures { λ c. ⌜ Round (UseEdges (blocksOf (now (xs .entry))) (now (work .entry)) (blockAt (blocksOf (now (xs .entry))) k .uses)) (now
-        (d .entry)) c (now (d .exit)) ⌝ }
+    requires { MaySettle xs.now t.now k work.now d.old }
+    ensures { Round (UseEdges (blocks_of xs.now) work.now (block_at (blocks_of xs.now) k).uses) d.old result d.new }
 {
     if back {
         return relax_uses_back(xs, t, work, k, d);
@@ -256,8 +245,8 @@ fn relax_block(
     back: bool,
     d: &mut [u64],
 ) -> bool
-    requires { ⌜ MaySettle (now xs) (now t) k (now work) (now d) × AreWaits (now waits) ⌝ }
-    ensures { λ c. ⌜ Round (BlockEdge (priced (now (waits .entry))) (blocksOf (now (xs .entry))) (now (work .entry)) k) (now (d .entry)) c (now (d .exit)) ⌝ }
+    requires { MaySettle xs.now t.now k work.now d.old × AreWaits waits.now }
+    ensures { Round (BlockEdge (priced waits.now) (blocks_of xs.now) work.now k) d.old result d.new }
 {
     let a = relax_links(xs, t, waits, k, d);
     let c = relax_uses_in(xs, t, work, k, back, d);
@@ -274,9 +263,9 @@ pub fn settle(
     k: usize,
     d: &mut [u64],
 )
-    requires { ⌜ MaySettle (now xs) (now t) k (now work) (now d) × AreWaits (now waits) ⌝ }
-    ensures { λ _. ⌜ SettledOver (BlockEdge (priced (now (waits .entry))) (blocksOf (now (xs .entry))) (now (work .entry)) k) (now (d .entry))
-        (now (d .exit)) ⌝ }
+    requires { MaySettle xs.now t.now k work.now d.old × AreWaits waits.now }
+    ensures { SettledOver (BlockEdge (priced waits.now) (blocks_of xs.now) work.now k) d.old
+        d.new }
 {
     let mut back = false;
     loop {
@@ -290,8 +279,8 @@ pub fn settle(
 
 // No sum yet at the cues of block k.
 pub fn clear_block(xs: &[u32], t: &[u32; blocks::INDEX], k: usize, d: &mut [u64])
-    requires { ⌜ Loaded (now xs) (now t) × IsBlock (now xs) k × (length (now d) ≡ estimatesSize) ⌝ }
-    ensures { λ _. ⌜ Started noSum (cueCount (blocksOf (now (xs .entry))) k) Nowhere (now (d .exit)) ⌝ }
+    requires { Loaded xs.now t.now × IsBlock xs.now k × (length d.old ≡ estimates_size) }
+    ensures { Started no_sum (cue_count (blocks_of xs.now) k) Nowhere d.new }
 {
     let own = blocks::wide(blocks::own(xs, t, k));
     clear(d, own + blocks::joins(xs, t, k));
@@ -307,9 +296,9 @@ pub fn from_cue(
     c: usize,
     d: &mut [u64],
 )
-    requires { ⌜ MaySettle (now xs) (now t) k (now work) (now d) × AreWaits (now waits) × (c ≤ cueCount (blocksOf (now xs)) k) ⌝ }
-    ensures { λ _. ⌜ SpreadIn noSum (priced (now (waits .entry))) (blocksOf (now (xs .entry))) (now (work .entry)) k
-        (Only c) (now (d .exit)) ⌝ }
+    requires { MaySettle xs.now t.now k work.now d.old × AreWaits waits.now × (c ≤ cue_count (blocks_of xs.now) k) }
+    ensures { SpreadIn no_sum (priced waits.now) (blocks_of xs.now) work.now k
+        (Only c) d.new }
 {
     clear_block(xs, t, k, d);
     put(d, c, 0);

@@ -1,16 +1,17 @@
 // Numbers put into a list of rows: `copy` to its beginning, `set_row` at a row.
+#![tactic(auto)]
+
+ghost use Rattle.std.specs.Prelude.{◌≡◌, ◌+◌, ◌*◌, ◌≤◌, length};
+ghost use Rattle.std.proofs.lemmas.List.Edits.{sets};
+ghost use Rattle.model.specs.Limits.{row_size};
+ghost use Rattle.model.specs.Lists.{overwrite};
+
 use model::limits::ROW_SIZE;
-ghost use mathlib.Core.Path.{_≡_};
-ghost use Prim.Native.Nat.{_+_, _*_, _≤_};
-ghost use lib.ListN.{length};
-ghost use lib.Seq.{sets};
-ghost use Rattle·model.specs.Limits.{rowSize};
-ghost use Rattle·model.specs.Lists.{overwrite};
 
 // The numbers of one list written to the beginning of another.
 pub fn copy(from: &[u32], to: &mut [u32])
-    requires { ⌜ length (now from) ≤ length (now to) ⌝ }
-    ensures { λ _. ⌜ now (to .exit) ≡ overwrite (now (from .entry)) (now (to .entry)) ⌝ }
+    requires { length from.now ≤ length to.old }
+    ensures { to.new ≡ overwrite from.now to.old }
 {
     let mut i = 0;
     while i < from.len() {
@@ -21,8 +22,8 @@ pub fn copy(from: &[u32], to: &mut [u32])
 
 // A row's numbers written as row r, counted from 0.
 pub fn set_row(row: &[u32], r: usize, numbers: &mut [u32])
-    requires { ⌜ (length (now row) ≡ rowSize) × (r * rowSize + rowSize ≤ length (now numbers)) ⌝ }
-    ensures { λ _. ⌜ now (numbers .exit) ≡ sets (now (numbers .entry)) (r * rowSize) (now (row .entry)) ⌝ }
+    requires { (length row.now ≡ row_size) × (r * row_size + row_size ≤ length numbers.old) }
+    ensures { numbers.new ≡ sets numbers.old (r * row_size) row.now }
 {
     let a = r * ROW_SIZE;
     let e = a + ROW_SIZE;

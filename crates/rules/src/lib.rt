@@ -1,21 +1,19 @@
 // Checks 5 to 8 of one row, in lent rows at place p: the refusal's number, or 0.
-use model::limits::MAX_BLOCKS;
-use model::limits::MAX_JOINS;
-use model::limits::MAX_LABEL;
-use model::limits::MAX_OWN;
-ghost use mathlib.Core.Path.{_≡_};
-ghost use Prim.Native.Nat.{_+_, _-_, _≤_, _<_};
-ghost use lib.ListN.{length};
-ghost use Rattle·model.specs.Choice.{ifLt};
-ghost use Rattle·model.specs.Limits.{rowSize, maxJoins};
-ghost use Rattle·model.specs.Rules.{every, isCue, isZero, differs, distinct};
-ghost use Rattle·rules·specs.specs.Cells.{cells, keyBelow};
-ghost use Rattle·rules·specs.specs.Faults.{namedFault, openFault, linkOrder, useOrder, linkFault, useFault, faultOf};
+#![tactic(auto)]
+
+ghost use Rattle.std.specs.Prelude.{◌≡◌, ◌+◌, ◌-◌, ◌≤◌, ◌<◌, length};
+ghost use Rattle.model.specs.Choice.{if_lt};
+ghost use Rattle.model.specs.Limits.{row_size, max_joins};
+ghost use Rattle.model.specs.Rules.{every, is_cue, is_zero, differs, distinct};
+ghost use Rattle.rules.specs.Cells.{cells, key_below};
+ghost use Rattle.rules.specs.Faults.{named_fault, open_fault, link_order, use_order, link_fault, use_fault, fault_of};
+
+use model::limits::{MAX_BLOCKS, MAX_JOINS, MAX_LABEL, MAX_OWN};
 
 // The n numbers from p on are all cues of a block that has so many.
 fn every_cue(xs: &[u32], p: usize, n: usize, cues: u32) -> bool
-    requires { ⌜ p + n ≤ length (now xs) ⌝ }
-    ensures { λ r. ⌜ r ≡ every (isCue cues) (cells (now (xs .entry)) p n) ⌝ }
+    requires { p + n ≤ length xs.now }
+    ensures { result ≡ every (is_cue cues) (cells xs.now p n) }
 {
     let mut i = 0;
     while i < n {
@@ -33,7 +31,7 @@ fn every_cue(xs: &[u32], p: usize, n: usize, cues: u32) -> bool
 
 // Number i, or 0 where it is one of the first `many`.
 fn left_over(x: u32, i: usize, many: usize) -> u32
-    ensures { λ r. ⌜ r ≡ ifLt i many 0 x ⌝ }
+    ensures { result ≡ if_lt i many 0 x }
 {
     if i < many {
         return 0;
@@ -43,8 +41,8 @@ fn left_over(x: u32, i: usize, many: usize) -> u32
 
 // Of the eight numbers from p on, all behind the first `many` are 0. All eight are read, with no exit: that is the fastest.
 fn every_zero(xs: &[u32], p: usize, many: usize) -> bool
-    requires { ⌜ (p + 8 ≤ length (now xs)) × (many ≤ maxJoins) ⌝ }
-    ensures { λ r. ⌜ r ≡ every isZero (cells (now (xs .entry)) (p + many) (8 - many)) ⌝ }
+    requires { (p + 8 ≤ length xs.now) × (many ≤ max_joins) }
+    ensures { result ≡ every is_zero (cells xs.now (p + many) (8 - many)) }
 {
     let mut all = 0;
     let mut i = 0;
@@ -57,8 +55,8 @@ fn every_zero(xs: &[u32], p: usize, many: usize) -> bool
 
 // The n numbers from p on all differ from x.
 fn every_other(xs: &[u32], p: usize, n: usize, x: u32) -> bool
-    requires { ⌜ p + n ≤ length (now xs) ⌝ }
-    ensures { λ r. ⌜ r ≡ every (differs x) (cells (now (xs .entry)) p n) ⌝ }
+    requires { p + n ≤ length xs.now }
+    ensures { result ≡ every (differs x) (cells xs.now p n) }
 {
     let mut i = 0;
     while i < n {
@@ -72,8 +70,8 @@ fn every_other(xs: &[u32], p: usize, n: usize, x: u32) -> bool
 
 // No number stands twice among them: each differs from all before it.
 fn all_distinct(xs: &[u32], p: usize, n: usize) -> bool
-    requires { ⌜ p + n ≤ length (now xs) ⌝ }
-    ensures { λ r. ⌜ r ≡ distinct (cells (now (xs .entry)) p n) ⌝ }
+    requires { p + n ≤ length xs.now }
+    ensures { result ≡ distinct (cells xs.now p n) }
 {
     let mut i = 1;
     while i < n {
@@ -89,8 +87,8 @@ fn all_distinct(xs: &[u32], p: usize, n: usize) -> bool
 
 // The n columns from p on and then label a come before those from q on and label b.
 fn is_below(xs: &[u32], p: usize, q: usize, n: usize, a: u32, b: u32) -> bool
-    requires { ⌜ (p + n ≤ length (now xs)) × (q + n ≤ length (now xs)) ⌝ }
-    ensures { λ r. ⌜ r ≡ keyBelow (now (xs .entry)) p q n a b ⌝ }
+    requires { (p + n ≤ length xs.now) × (q + n ≤ length xs.now) }
+    ensures { result ≡ key_below xs.now p q n a b }
 {
     let mut i = 0;
     while i < n {
@@ -109,8 +107,8 @@ fn is_below(xs: &[u32], p: usize, q: usize, n: usize, a: u32, b: u32) -> bool
 
 // Checks 6 and 7 of the columns of a link or a use that names so many cues.
 fn named_fault(xs: &[u32], p: usize, many: usize, cues: u32) -> u32
-    requires { ⌜ (p + rowSize ≤ length (now xs)) × (many ≤ maxJoins) ⌝ }
-    ensures { λ r. ⌜ r ≡ namedFault (now (xs .entry)) p many cues ⌝ }
+    requires { (p + row_size ≤ length xs.now) × (many ≤ max_joins) }
+    ensures { result ≡ named_fault xs.now p many cues }
 {
     if every_cue(xs, p + 3, many, cues) {
         if every_zero(xs, p + 3, many) {
@@ -125,8 +123,8 @@ fn named_fault(xs: &[u32], p: usize, many: usize, cues: u32) -> u32
 }
 
 fn open_fault(xs: &[u32], p: usize, blocks: u32) -> u32
-    requires { ⌜ p + rowSize ≤ length (now xs) ⌝ }
-    ensures { λ r. ⌜ r ≡ openFault (now (xs .entry)) p blocks ⌝ }
+    requires { p + row_size ≤ length xs.now }
+    ensures { result ≡ open_fault xs.now p blocks }
 {
     if xs[p] != blocks {
         return 5;
@@ -148,8 +146,8 @@ fn open_fault(xs: &[u32], p: usize, blocks: u32) -> u32
 
 // Check 8 of a link: q is the place of the row before, and before its kind.
 fn link_order(xs: &[u32], p: usize, q: usize, before: u32) -> u32
-    requires { ⌜ (p + rowSize ≤ length (now xs)) × (q + rowSize ≤ length (now xs)) ⌝ }
-    ensures { λ r. ⌜ r ≡ linkOrder (now (xs .entry)) p q before ⌝ }
+    requires { (p + row_size ≤ length xs.now) × (q + row_size ≤ length xs.now) }
+    ensures { result ≡ link_order xs.now p q before }
 {
     if before != 1 {
         return 0;
@@ -162,8 +160,8 @@ fn link_order(xs: &[u32], p: usize, q: usize, before: u32) -> u32
 
 // Check 8 of a use.
 fn use_order(xs: &[u32], p: usize, q: usize, before: u32) -> u32
-    requires { ⌜ (p + rowSize ≤ length (now xs)) × (q + rowSize ≤ length (now xs)) ⌝ }
-    ensures { λ r. ⌜ r ≡ useOrder (now (xs .entry)) p q before ⌝ }
+    requires { (p + row_size ≤ length xs.now) × (q + row_size ≤ length xs.now) }
+    ensures { result ≡ use_order xs.now p q before }
 {
     if before != 2 {
         return 0;
@@ -175,8 +173,8 @@ fn use_order(xs: &[u32], p: usize, q: usize, before: u32) -> u32
 }
 
 fn link_fault(xs: &[u32], p: usize, q: usize, blocks: u32, cues: u32, before: u32) -> u32
-    requires { ⌜ (p + rowSize ≤ length (now xs)) × (q + rowSize ≤ length (now xs)) ⌝ }
-    ensures { λ r. ⌜ r ≡ linkFault (now (xs .entry)) p q blocks cues before ⌝ }
+    requires { (p + row_size ≤ length xs.now) × (q + row_size ≤ length xs.now) }
+    ensures { result ≡ link_fault xs.now p q blocks cues before }
 {
     let block = xs[p];
     if block >= blocks {
@@ -212,8 +210,8 @@ fn use_fault(
     before: u32,
     many: usize,
 ) -> u32
-    requires { ⌜ (p + rowSize ≤ length (now xs)) × (q + rowSize ≤ length (now xs)) × (many ≤ maxJoins) ⌝ }
-    ensures { λ r. ⌜ r ≡ useFault (now (xs .entry)) p q blocks cues before many ⌝ }
+    requires { (p + row_size ≤ length xs.now) × (q + row_size ≤ length xs.now) × (many ≤ max_joins) }
+    ensures { result ≡ use_fault xs.now p q blocks cues before many }
 {
     let block = xs[p];
     if block >= blocks {
@@ -243,8 +241,8 @@ pub fn fault(
     before: u32,
     many: usize,
 ) -> u32
-    requires { ⌜ (p + rowSize ≤ length (now xs)) × (q + rowSize ≤ length (now xs)) × (many ≤ maxJoins) ⌝ }
-    ensures { λ r. ⌜ r ≡ faultOf (now (xs .entry)) p q blocks cues before many ⌝ }
+    requires { (p + row_size ≤ length xs.now) × (q + row_size ≤ length xs.now) × (many ≤ max_joins) }
+    ensures { result ≡ fault_of xs.now p q blocks cues before many }
 {
     let kind = xs[p + 1];
     if kind == 0 {

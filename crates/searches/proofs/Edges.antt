@@ -1,54 +1,54 @@
 -- Rounds over the edges of a use, of rows and of a block.
-use Prim.Native.Nat.{ℕ, zero, suc, _+_, _*_, _-_, _≤_, _<_}
+use Prim.Native.Nat.{ℕ, zero, suc, ◌+◌, ◌*◌, ◌-◌, ◌≤◌, ◌<◌}
 use native.Mathlib.Omega.{arith}
-use mathlib.Core.Path.{_≡_, refl, sym, _∙_, ap}
+use mathlib.Core.Path.{◌≡◌, refl, sym, ◌∙◌, ap}
 use mathlib.Core.Bool.{Bool, false}
-use mathlib.Core.Logic.{_⊎_, inl, inr}
+use mathlib.Core.Logic.{◌⊎◌, inl, inr}
 use mathlib.Core.List.{List}
-use lib.ListN.{length, getD}
-use Rattle·model.specs.Limits.{summarySize, summaryWidth, maxFollowed}
-use Rattle·model.specs.Blocks.{Link, Block, blockAt, joinsOf, ownOf, blocksOf}
-use Rattle·shows.specs.WellFormed.{Cue}
-use Rattle·shows.specs.Waits.{AreWaits}
-use Rattle·basics.proofs.Members.{getD-mem}
-use Rattle·shows.proofs.AtBlock.{joins-small, own-small}
-use Rattle·shows.proofs.BlockAt.{joinsOf-at, ownOf-at}
-use Rattle·distances.specs.Walks.{Price, Linked, each-one}
-use Rattle·distances.specs.Quickest.{priced}
-use Rattle·distances.specs.Tells.{met-by, by-link, by-use}
-use Rattle·verdicts.specs.Index.{linkAt, linksFrom, useAt, usesFrom}
-use Rattle·blocks.specs.Loaded.{Loaded, IsBlock, LinkRows, UseRows, columnAt, UseRow}
-use Rattle·blocks.proofs.Loaded.{mem-linksFrom, mem-usesFrom, linksFrom-mem, usesFrom-mem, loaded-show, own-few, joins-few, link-row, use-row, used-block}
-use Rattle·searches·specs.specs.Rounds.{orb, Edges, One, Still, Round, quiet}
-use Rattle·searches·specs.specs.Starts.{Beginnings, Meets, Started, estimatesSize}
-use Rattle·searches·specs.specs.Edges.{Span, numbers, UseEdge, Mesh, Between, LinkEdge, LinkEnds, UseEdges, BlockEdge, cueCount, MaySettle}
-use Rattle·searches·proofs.proofs.Rounds.{lowered-wide, span-begin, round-then, span-on, span-back, round-loops, round-same}
+use lib.ListN.{length, get_or}
+use Rattle.model.specs.Limits.{summary_size, summary_width, max_followed}
+use Rattle.model.specs.Blocks.{Link, Block, block_at, joins_of, own_of, blocks_of}
+use Rattle.shows.specs.WellFormed.{Cue}
+use Rattle.shows.specs.Waits.{AreWaits}
+use Rattle.basics.proofs.Members.{get_d_mem}
+use Rattle.shows.proofs.AtBlock.{joins-small, own-small}
+use Rattle.shows.proofs.BlockAt.{joins_of-at, own_of_at}
+use Rattle.distances.specs.Walks.{Price, Linked, each-one}
+use Rattle.distances.specs.Quickest.{priced}
+use Rattle.distances.specs.Tells.{met_by, by-link, by-use}
+use Rattle.verdicts.specs.Index.{link_at, links_from, use_at, uses_from}
+use Rattle.blocks.specs.Loaded.{Loaded, IsBlock, LinkRows, UseRows, column_at, UseRow}
+use Rattle.blocks.proofs.Loaded.{mem-links_from, mem-uses_from, links_from-mem, uses_from-mem, loaded-show, own-few, joins-few, link_row, use_row, used_block}
+use Rattle.searches.specs.Rounds.{orb, Edges, One, Still, Round, quiet}
+use Rattle.searches.specs.Starts.{Beginnings, Meets, Started, estimates_size}
+use Rattle.searches.specs.Edges.{Span, numbers, UseEdge, Mesh, Between, LinkEdge, LinkEnds, UseEdges, BlockEdge, cue_count, MaySettle}
+use Rattle.searches.proofs.Rounds.{lowered_wide, span_begin, round_then, span_on, span_back, round_loops, round_same}
 
 -- One use, by the row r that names its cues and the weights from place q on.
 module _ (xs work : List ℕ) (r q : ℕ) where
   -- A cue's edge to itself improves nothing.
-  pub mesh-loop : (m : ℕ) (d : List ℕ) → m < 2 → Round (Mesh xs work r q m) d false d
+  pub mesh_loop : (m : ℕ) (d : List ℕ) → m < 2 → Round (Mesh xs work r q m) d false d
   unfolding Mesh
-  mesh-loop m d h = quiet refl refl still
+  mesh_loop m d h = quiet refl refl still
     where
       still : Still (Mesh xs work r q m) d
       still u v w (i, j, hi, hj, (eu, ev, ew)) =
           let e : i ≡ j = omega arith in
-          let s : u ≡ v = eu ∙ ap (λ (k : ℕ). columnAt xs r k) e ∙ sym ev in rw s (omega arith)
+          let s : u ≡ v = eu ∙ ap (λ (k : ℕ). column_at xs r k) e ∙ sym ev in rw s (omega arith)
 
   -- Two of its cues, as they are read: the edges there and back.
   pub between-both : (i j : ℕ) {a b k l x y : ℕ} {d e f : List ℕ} {s c t : Bool} → Round (One a b x) d s e → Round (One b a y) e c f → t ≡ orb s c
-      → a ≡ k → k ≡ columnAt xs r i → b ≡ l → l ≡ columnAt xs r j → x ≡ getD work (q + summaryWidth * i + j) 0
-      → y ≡ getD work (q + summaryWidth * j + i) 0 → Round (Between xs work r q i j) d t f
+      → a ≡ k → k ≡ column_at xs r i → b ≡ l → l ≡ column_at xs r j → x ≡ get_or work (q + summary_width * i + j) 0
+      → y ≡ get_or work (q + summary_width * j + i) 0 → Round (Between xs work r q i j) d t f
   unfolding Between
-  between-both i j {a} {b} {x = x} {y} o o′ t ak ek bl el ex ey =
-      round-then lowered-wide (λ u v w (eu, ev, ew). inl (eu ∙ ea, ev ∙ eb, ew ∙ ex)) (λ u v w (eu, ev, ew). inr (eu ∙ eb, ev ∙ ea, ew ∙ ey))
-      (λ u v w l. back u v w l) o o′ t
+  between-both i j {a} {b} {x = x} {y} o o' t ak ek bl el ex ey =
+      round_then lowered_wide (λ u v w (eu, ev, ew). inl (eu ∙ ea, ev ∙ eb, ew ∙ ex)) (λ u v w (eu, ev, ew). inr (eu ∙ eb, ev ∙ ea, ew ∙ ey))
+      (λ u v w l. back u v w l) o o' t
     where
-      ea : a ≡ columnAt xs r i
+      ea : a ≡ column_at xs r i
       ea = ak ∙ ek
 
-      eb : b ≡ columnAt xs r j
+      eb : b ≡ column_at xs r j
       eb = bl ∙ el
 
       back : (u v w : ℕ) → Between xs work r q i j u v w → One a b x u v w ⊎ One b a y u v w
@@ -61,11 +61,11 @@ module _ (xs work : List ℕ) (r q : ℕ) where
   between-mesh m i j hi hj u v w (inr o) = (j, i, hj, hi, o)
 
   -- All edges of a use that names two cues, or three.
-  pub mesh-two : {d e : List ℕ} {t : Bool} → Round (Between xs work r q 0 1) d t e → Round (Mesh xs work r q 2) d t e
+  pub mesh_two : {d e : List ℕ} {t : Bool} → Round (Between xs work r q 0 1) d t e → Round (Mesh xs work r q 2) d t e
   unfolding Between Mesh
-  mesh-two o = round-loops (between-mesh 2 0 1 (omega arith) (omega arith)) (λ u v w (i, j, hi, hj, o). back u v w i j hi hj o) o
+  mesh_two o = round_loops (between-mesh 2 0 1 (omega arith) (omega arith)) (λ u v w (i, j, hi, hj, o). back u v w i j hi hj o) o
     where
-      back : (u v w i j : ℕ) → i < 2 → j < 2 → One (columnAt xs r i) (columnAt xs r j) (getD work (q + summaryWidth * i + j) 0) u v w
+      back : (u v w i j : ℕ) → i < 2 → j < 2 → One (column_at xs r i) (column_at xs r j) (get_or work (q + summary_width * i + j) 0) u v w
           → Between xs work r q 0 1 u v w ⊎ (u ≡ v)
       back u v w zero zero hi hj (eu, ev, ew) = inr (eu ∙ sym ev)
       back u v w zero (suc zero) hi hj o = inl (inl o)
@@ -75,13 +75,13 @@ module _ (xs work : List ℕ) (r q : ℕ) where
       back u v w (suc zero) (suc (suc j)) hi hj o = absurd (omega arith)
       back u v w (suc (suc i)) j hi hj o = absurd (omega arith)
 
-  pub mesh-three : {d e f g : List ℕ} {a b c s t : Bool} → Round (Between xs work r q 0 1) d a e → Round (Between xs work r q 0 2) e b f
+  pub mesh_three : {d e f g : List ℕ} {a b c s t : Bool} → Round (Between xs work r q 0 1) d a e → Round (Between xs work r q 0 2) e b f
       → Round (Between xs work r q 1 2) f c g → s ≡ orb a b → t ≡ orb s c → Round (Mesh xs work r q 3) d t g
   unfolding Between Mesh
-  mesh-three x y z p o =
-      round-loops (λ u v w l. into u v w l) (λ u v w (i, j, hi, hj, l). back u v w i j hi hj l)
-      (round-then lowered-wide {X = Three} (λ u v w l. inl l) (λ u v w l. inr l) (λ u v w l. l)
-      (round-then lowered-wide {X = λ u v w. B 0 1 u v w ⊎ B 0 2 u v w} (λ u v w l. inl l) (λ u v w l. inr l) (λ u v w l. l) x y p) z o)
+  mesh_three x y z p o =
+      round_loops (λ u v w l. into u v w l) (λ u v w (i, j, hi, hj, l). back u v w i j hi hj l)
+      (round_then lowered_wide {X = Three} (λ u v w l. inl l) (λ u v w l. inr l) (λ u v w l. l)
+      (round_then lowered_wide {X = λ u v w. B 0 1 u v w ⊎ B 0 2 u v w} (λ u v w l. inl l) (λ u v w l. inr l) (λ u v w l. l) x y p) z o)
     where
       B : ℕ → ℕ → Edges
       B i j u v w = Between xs work r q i j u v w
@@ -94,7 +94,7 @@ module _ (xs work : List ℕ) (r q : ℕ) where
       into u v w (inl (inr l)) = between-mesh 3 0 2 (omega arith) (omega arith) u v w l
       into u v w (inr l) = between-mesh 3 1 2 (omega arith) (omega arith) u v w l
 
-      back : (u v w i j : ℕ) → i < 3 → j < 3 → One (columnAt xs r i) (columnAt xs r j) (getD work (q + summaryWidth * i + j) 0) u v w
+      back : (u v w i j : ℕ) → i < 3 → j < 3 → One (column_at xs r i) (column_at xs r j) (get_or work (q + summary_width * i + j) 0) u v w
           → Three u v w ⊎ (u ≡ v)
       back u v w zero zero hi hj (eu, ev, ew) = inr (eu ∙ sym ev)
       back u v w zero (suc zero) hi hj l = inl (inl (inl (inl l)))
@@ -111,69 +111,69 @@ module _ (xs work : List ℕ) (r q : ℕ) where
       back u v w (suc (suc (suc i))) j hi hj l = absurd (omega arith)
 
   -- Two cues, by the weights as they are read.
-  pub mesh-pair : {a b k l x y : ℕ} {d e f : List ℕ} {s c t : Bool} → Round (One a b x) d s e → Round (One b a y) e c f → t ≡ orb s c → a ≡ k
-      → k ≡ columnAt xs r 0 → b ≡ l → l ≡ columnAt xs r 1 → x ≡ getD work (q + 1) 0 → y ≡ getD work (q + summaryWidth) 0
+  pub mesh_pair : {a b k l x y : ℕ} {d e f : List ℕ} {s c t : Bool} → Round (One a b x) d s e → Round (One b a y) e c f → t ≡ orb s c → a ≡ k
+      → k ≡ column_at xs r 0 → b ≡ l → l ≡ column_at xs r 1 → x ≡ get_or work (q + 1) 0 → y ≡ get_or work (q + summary_width) 0
       → Round (Mesh xs work r q 2) d t f
-  mesh-pair o o′ t ak ek bl el ex ey =
-      let forth : q + 1 ≡ q + summaryWidth * 0 + 1 = omega arith in
-      let up : q + summaryWidth ≡ q + summaryWidth * 1 + 0 = omega arith in
-      mesh-two
-      (between-both 0 1 o o′ t ak ek bl el (ex ∙ ap (λ (k : ℕ). getD work k 0) forth) (ey ∙ ap (λ (k : ℕ). getD work k 0) up))
+  mesh_pair o o' t ak ek bl el ex ey =
+      let forth : q + 1 ≡ q + summary_width * 0 + 1 = omega arith in
+      let up : q + summary_width ≡ q + summary_width * 1 + 0 = omega arith in
+      mesh_two
+      (between-both 0 1 o o' t ak ek bl el (ex ∙ ap (λ (k : ℕ). get_or work k 0) forth) (ey ∙ ap (λ (k : ℕ). get_or work k 0) up))
 
   -- By another name for the number of its cues.
-  pub mesh-as : {m n : ℕ} {d e : List ℕ} {c : Bool} → Round (Mesh xs work r q n) d c e → m ≡ n → Round (Mesh xs work r q m) d c e
-  mesh-as o e = rw e o
+  pub mesh_as : {m n : ℕ} {d e : List ℕ} {c : Bool} → Round (Mesh xs work r q n) d c e → m ≡ n → Round (Mesh xs work r q m) d c e
+  mesh_as o e = rw e o
 
 module _ {xs t : List ℕ} (g : Loaded xs t) where
   abbrev bs : List Block
-  bs = blocksOf xs
+  bs = blocks_of xs
 
   -- A cue of a block has an estimate.
-  cue-few : (k c : ℕ) → Cue (blockAt bs k) c → c < estimatesSize
-  cue-few k c h = omega (arith, h, own-small k (loaded-show g .small), joins-small k (loaded-show g .small), ownOf-at bs k, joinsOf-at bs k)
+  cue-few : (k c : ℕ) → Cue (block_at bs k) c → c < estimates_size
+  cue-few k c h = omega (arith, h, own-small k (loaded-show g).small, joins-small k (loaded-show g).small, own_of_at bs k, joins_of-at bs k)
 
   -- The cues that the row of a use names, and the edges between them.
-  module _ {k r : ℕ} (row : UseRow xs k r) (b m : ℕ) (eb : b ≡ useAt xs bs r .block) (em : m ≡ joinsOf bs b) where
-    joins-is : m ≡ joinsOf bs (useAt xs bs r .block)
-    joins-is = em ∙ ap (joinsOf bs) eb
+  module _ {k r : ℕ} (row : UseRow xs k r) (b m : ℕ) (eb : b ≡ (use_at xs bs r).block) (em : m ≡ joins_of bs b) where
+    joins-is : m ≡ joins_of bs (use_at xs bs r).block
+    joins-is = em ∙ ap (joins_of bs) eb
 
-    pub row-meets : (n : ℕ) → n ≡ estimatesSize → Meets xs r m n
+    pub row-meets : (n : ℕ) → n ≡ estimates_size → Meets xs r m n
     row-meets n en =
         record {
-          there = row .there;
-          few = omega (arith, joins-is, joins-small {bs = bs} (useAt xs bs r .block) (loaded-show g .small));
+          there = row.there;
+          few = omega (arith, joins-is, joins-small {bs = bs} (use_at xs bs r).block (loaded-show g).small);
           within = λ i h. within i h;
         }
       where
-        within : (i : ℕ) → i < m → columnAt xs r i < n
+        within : (i : ℕ) → i < m → column_at xs r i < n
         within i h =
-            let e : getD (useAt xs bs r .at) i 0 ≡ columnAt xs r i = row .columns i (omega (arith, joins-is)) in
-            let c : Cue (blockAt bs k) (getD (useAt xs bs r .at) i 0) =
-            row .good .cues (getD (useAt xs bs r .at) i 0)
-            (getD-mem (useAt xs bs r .at) i (omega (arith, joins-is, row .good .arity))) in
-            omega (arith, cue-few k (getD (useAt xs bs r .at) i 0) c)
+            let e : get_or (use_at xs bs r).at i 0 ≡ column_at xs r i = row.columns i (omega (arith, joins-is)) in
+            let c : Cue (block_at bs k) (get_or (use_at xs bs r).at i 0) =
+            row.good.cues (get_or (use_at xs bs r).at i 0)
+            (get_d_mem (use_at xs bs r).at i (omega (arith, joins-is, row.good.arity))) in
+            omega (arith, cue-few k (get_or (use_at xs bs r).at i 0) c)
 
-    mesh-use : (work : List ℕ) {d e : List ℕ} {c : Bool} → Round (Mesh xs work r (summarySize * b) m) d c e
-        → Round (UseEdge bs work (useAt xs bs r)) d c e
+    mesh_use : (work : List ℕ) {d e : List ℕ} {c : Bool} → Round (Mesh xs work r (summary_size * b) m) d c e
+        → Round (UseEdge bs work (use_at xs bs r)) d c e
     unfolding Mesh UseEdge
-    mesh-use work o = round-same lowered-wide (λ u v w i. into u v w i) (λ u v w i. back u v w i) o
+    mesh_use work o = round_same lowered_wide (λ u v w i. into u v w i) (λ u v w i. back u v w i) o
       where
-        weight : (i j : ℕ) → getD work (summarySize * b + summaryWidth * i + j) 0 ≡ numbers work (useAt xs bs r .block) (suc i) (suc j)
+        weight : (i j : ℕ) → get_or work (summary_size * b + summary_width * i + j) 0 ≡ numbers work (use_at xs bs r).block (suc i) (suc j)
         weight i j =
-            let z : summarySize * b + summaryWidth * i + j
-            ≡ summarySize * useAt xs bs r .block + summaryWidth * (suc i - 1) + (suc j - 1) = omega arith in
-            ap (λ (n : ℕ). getD work n 0) z
+            let z : summary_size * b + summary_width * i + j
+            ≡ summary_size * (use_at xs bs r).block + summary_width * (suc i - 1) + (suc j - 1) = omega arith in
+            ap (λ (n : ℕ). get_or work n 0) z
 
-        names : (i : ℕ) → i < m → columnAt xs r i ≡ met-by (useAt xs bs r) (suc i)
+        names : (i : ℕ) → i < m → column_at xs r i ≡ met_by (use_at xs bs r) (suc i)
         names i h =
             let s : suc i - 1 ≡ i = omega arith in
-            rw s (sym (row .columns i (omega (arith, joins-is))))
+            rw s (sym (row.columns i (omega (arith, joins-is))))
 
-        into : (u v w : ℕ) → Mesh xs work r (summarySize * b) m u v w → UseEdge bs work (useAt xs bs r) u v w
+        into : (u v w : ℕ) → Mesh xs work r (summary_size * b) m u v w → UseEdge bs work (use_at xs bs r) u v w
         into u v w (i, j, hi, hj, (eu, ev, ew)) =
             (suc i, suc j, omega (arith, joins-is), omega (arith, joins-is), (eu ∙ names i hi, ev ∙ names j hj, ew ∙ weight i j))
 
-        back : (u v w : ℕ) → UseEdge bs work (useAt xs bs r) u v w → Mesh xs work r (summarySize * b) m u v w
+        back : (u v w : ℕ) → UseEdge bs work (use_at xs bs r) u v w → Mesh xs work r (summary_size * b) m u v w
         back u v w (i, j, hi, hj, (eu, ev, ew)) =
             let pi : suc (i - 1) ≡ i = omega arith in
             let pj : suc (j - 1) ≡ j = omega arith in
@@ -187,155 +187,155 @@ module _ {xs t : List ℕ} (g : Loaded xs t) where
             )
 
 -- The ends of row r of the links of block k have estimates.
-pub link-ends : {xs t : List ℕ} {k a z r n l : ℕ} → LinkRows xs k a z → Loaded xs t → n ≡ l → l ≡ estimatesSize → IsBlock xs k → a ≤ r → r < z
+pub link-ends : {xs t : List ℕ} {k a z r n l : ℕ} → LinkRows xs k a z → Loaded xs t → n ≡ l → l ≡ estimates_size → IsBlock xs k → a ≤ r → r < z
     → LinkEnds xs r n
 link-ends {xs} {k = k} {r = r} rows g e f h lo hi =
-    let row = link-row g k h r rows lo hi in
+    let row = link_row g k h r rows lo hi in
     record {
-      there = row .there;
-      from = omega (arith, cue-few g k (linkAt xs r .from) (row .good .from));
-      to = omega (arith, cue-few g k (linkAt xs r .to) (row .good .to));
+      there = row.there;
+      from = omega (arith, cue-few g k (link_at xs r).from row.good.from);
+      to = omega (arith, cue-few g k (link_at xs r).to row.good.to);
     }
 
 -- One link: a note has no edge; one with one price alone has one, of that weight.
-pub link-note : (price : Price) (l : Link) {label : ℕ} (d : List ℕ) → label ≡ l .label → maxFollowed < label
-    → ((n w : ℕ) → price n w → n ≤ maxFollowed) → Round (LinkEdge price l) d false d
+pub link-note : (price : Price) (l : Link) {label : ℕ} (d : List ℕ) → label ≡ l.label → max_followed < label
+    → ((n w : ℕ) → price n w → n ≤ max_followed) → Round (LinkEdge price l) d false d
 unfolding LinkEdge
-link-note price l d e h most = quiet refl refl (λ u v w i. absurd (omega (arith, most (l .label) w (i .2))))
+link-note price l d e h most = quiet refl refl (λ u v w i. absurd (omega (arith, most l.label w i.2)))
 
-link-taken : (price : Price) (l : Link) (x y z : ℕ) {d e : List ℕ} {c : Bool} → price (l .label) z → ((w : ℕ) → price (l .label) w → w ≡ z)
-    → x ≡ l .from → y ≡ l .to → Round (One x y z) d c e → Round (LinkEdge price l) d c e
+link-taken : (price : Price) (l : Link) (x y z : ℕ) {d e : List ℕ} {c : Bool} → price l.label z → ((w : ℕ) → price l.label w → w ≡ z)
+    → x ≡ l.from → y ≡ l.to → Round (One x y z) d c e → Round (LinkEdge price l) d c e
 unfolding LinkEdge
 link-taken price l x y z h only ex ey o =
-    round-same lowered-wide (λ u v w i. (sym ex ∙ sym (i .0), sym ey ∙ sym (i .1), rw (i .2) h))
-    (λ u v w i. (sym (i .0) ∙ sym ex, sym (i .1) ∙ sym ey, only w (i .2))) o
+    round_same lowered_wide (λ u v w i. (sym ex ∙ sym i.0, sym ey ∙ sym i.1, rw i.2 h))
+    (λ u v w i. (sym i.0 ∙ sym ex, sym i.1 ∙ sym ey, only w i.2)) o
 
 -- A link that is followed, by its ends and its label as they are read: it counts one, or waits as long as its label does.
-module _ (l : Link) {x y z p q label : ℕ} {d e : List ℕ} {c : Bool} (o : Round (One x y z) d c e) (ex : x ≡ p) (ep : p ≡ l .from) (ey : y ≡ q)
-    (eq : q ≡ l .to) (el : label ≡ l .label) (h : label ≤ maxFollowed) where
+module _ (l : Link) {x y z p q label : ℕ} {d e : List ℕ} {c : Bool} (o : Round (One x y z) d c e) (ex : x ≡ p) (ep : p ≡ l.from) (ey : y ≡ q)
+    (eq : q ≡ l.to) (el : label ≡ l.label) (h : label ≤ max_followed) where
   pub link-one : z ≡ 1 → Round (LinkEdge each-one l) d c e
-  link-one ez = link-taken each-one l x y z (omega arith, ez) (λ w i. i .1 ∙ sym ez) (ex ∙ ep) (ey ∙ eq) o
+  link-one ez = link-taken each-one l x y z (omega arith, ez) (λ w i. i.1 ∙ sym ez) (ex ∙ ep) (ey ∙ eq) o
 
-  pub link-waits : (waits : List ℕ) (n : ℕ) → z ≡ getD waits n 0 → n ≡ label → Round (LinkEdge (priced waits) l) d c e
+  pub link-waits : (waits : List ℕ) (n : ℕ) → z ≡ get_or waits n 0 → n ≡ label → Round (LinkEdge (priced waits) l) d c e
   link-waits waits n ez en =
-      let ew : z ≡ getD waits (l .label) 0 = ez ∙ ap (λ (k : ℕ). getD waits k 0) (en ∙ el) in
-      link-taken (priced waits) l x y z (omega arith, ew) (λ w i. i .1 ∙ sym ew) (ex ∙ ep) (ey ∙ eq) o
+      let ew : z ≡ get_or waits l.label 0 = ez ∙ ap (λ (k : ℕ). get_or waits k 0) (en ∙ el) in
+      link-taken (priced waits) l x y z (omega arith, ew) (λ w i. i.1 ∙ sym ew) (ex ∙ ep) (ey ∙ eq) o
 
 -- A label that is followed has a wait.
-pub label-waits : {waits : List ℕ} {n label : ℕ} → AreWaits waits → n ≡ label → label ≤ maxFollowed → n < length waits
-label-waits w e h = omega (arith, w .size)
+pub label-waits : {waits : List ℕ} {n label : ℕ} → AreWaits waits → n ≡ label → label ≤ max_followed → n < length waits
+label-waits w e h = omega (arith, w.size)
 
 -- A round over the link rows from a on and before z; none of them, one more, and all of a block's.
 pub record LinksOver (price : Price) (xs : List ℕ) (a z : ℕ) (d : List ℕ) (c : Bool) (e : List ℕ) : Type 0 where
-  pub round : Round (Span (λ r. LinkEdge price (linkAt xs r)) a z) d c e
+  pub round : Round (Span (λ r. LinkEdge price (link_at xs r)) a z) d c e
 
 module _ {price : Price} {xs : List ℕ} where
   pub links-begin : (a : ℕ) (d : List ℕ) → LinksOver price xs a a d false d
-  links-begin a d = record { round = span-begin _ a d }
+  links-begin a d = record { round = span_begin _ a d }
 
-  pub links-on : {a r : ℕ} {d e f : List ℕ} {s c t : Bool} → LinksOver price xs a r d s e → Round (LinkEdge price (linkAt xs r)) e c f → t ≡ orb s c
+  pub links-on : {a r : ℕ} {d e f : List ℕ} {s c t : Bool} → LinksOver price xs a r d s e → Round (LinkEdge price (link_at xs r)) e c f → t ≡ orb s c
       → a ≤ r → LinksOver price xs a (r + 1) d t f
-  links-on {a} {r} s z o h = record { round = span-on lowered-wide (λ r. LinkEdge price (linkAt xs r)) a r h (s .round) z o }
+  links-on {a} {r} s z o h = record { round = span_on lowered_wide (λ r. LinkEdge price (link_at xs r)) a r h s.round z o }
 
   pub links-done : {k a z r : ℕ} {d e : List ℕ} {c : Bool} → LinkRows xs k a z → LinksOver price xs a r d c e → r ≤ z → z ≤ r
-      → Round (Linked price (blockAt (blocksOf xs) k .links)) d c e
+      → Round (Linked price (block_at (blocks_of xs) k).links) d c e
   unfolding LinkEdge
   links-done {a = a} {z} {r} rows o h g =
       let e : r ≡ z = omega arith in
-      rw (rows .links) (round-same lowered-wide (λ u v w i. into u v w i) (λ u v w i. back u v w i) (rw e at (o .round)))
+      rw rows.links (round_same lowered_wide (λ u v w i. into u v w i) (λ u v w i. back u v w i) (rw e at o.round))
     where
       LinkSpan : Edges
-      LinkSpan = Span (λ r. LinkEdge price (linkAt xs r)) a z
+      LinkSpan = Span (λ r. LinkEdge price (link_at xs r)) a z
 
-      into : (u v w : ℕ) → LinkSpan u v w → Linked price (linksFrom xs a (z - a)) u v w
+      into : (u v w : ℕ) → LinkSpan u v w → Linked price (links_from xs a (z - a)) u v w
       into u v w (r, h, l, i) =
           let e : a + (r - a) ≡ r = omega arith in
-          (linkAt xs r, (rw e at (linksFrom-mem xs a (z - a) (r - a) (omega arith))), i .0, i .1, i .2)
+          (link_at xs r, (rw e at (links_from-mem xs a (z - a) (r - a) (omega arith))), i.0, i.1, i.2)
 
-      back : (u v w : ℕ) → Linked price (linksFrom xs a (z - a)) u v w → LinkSpan u v w
+      back : (u v w : ℕ) → Linked price (links_from xs a (z - a)) u v w → LinkSpan u v w
       back u v w (x, m, p, q, o) =
           let i : LinkEdge price x u v w = (p, q, o) in
-          let (r, h, l, e) = mem-linksFrom xs a (z - a) x m in
-          (r, h, omega (arith, rows .order), (rw e at i))
+          let (r, h, l, e) = mem-links_from xs a (z - a) x m in
+          (r, h, omega (arith, rows.order), (rw e at i))
 
 -- The same over use rows.
 pub record UsesOver (xs work : List ℕ) (a z : ℕ) (d : List ℕ) (c : Bool) (e : List ℕ) : Type 0 where
-  pub round : Round (Span (λ r. UseEdge (blocksOf xs) work (useAt xs (blocksOf xs) r)) a z) d c e
+  pub round : Round (Span (λ r. UseEdge (blocks_of xs) work (use_at xs (blocks_of xs) r)) a z) d c e
 
 module _ {xs work : List ℕ} where
   pub uses-begin : (a : ℕ) (d : List ℕ) → UsesOver xs work a a d false d
-  uses-begin a d = record { round = span-begin _ a d }
+  uses-begin a d = record { round = span_begin _ a d }
 
   pub uses-done : {t : List ℕ} {k a z p q : ℕ} {d e : List ℕ} {c : Bool} → UseRows xs t k a z → UsesOver xs work p q d c e → a ≤ p → p ≤ a → q ≤ z
-      → z ≤ q → Round (UseEdges (blocksOf xs) work (blockAt (blocksOf xs) k .uses)) d c e
+      → z ≤ q → Round (UseEdges (blocks_of xs) work (block_at (blocks_of xs) k).uses) d c e
   unfolding UseEdges
   uses-done {a = a} {z} {p} {q} rows o la ga lz gz =
       let ep : p ≡ a = omega arith in
       let eq : q ≡ z = omega arith in
-      rw (rows .uses) (round-same lowered-wide (λ u v w i. into u v w i) (λ u v w i. back u v w i) (rw (ep, eq) at (o .round)))
+      rw rows.uses (round_same lowered_wide (λ u v w i. into u v w i) (λ u v w i. back u v w i) (rw (ep, eq) at o.round))
     where
       UseSpan : Edges
-      UseSpan = Span (λ r. UseEdge (blocksOf xs) work (useAt xs (blocksOf xs) r)) a z
+      UseSpan = Span (λ r. UseEdge (blocks_of xs) work (use_at xs (blocks_of xs) r)) a z
 
-      into : (u v w : ℕ) → UseSpan u v w → UseEdges (blocksOf xs) work (usesFrom xs (blocksOf xs) a (z - a)) u v w
+      into : (u v w : ℕ) → UseSpan u v w → UseEdges (blocks_of xs) work (uses_from xs (blocks_of xs) a (z - a)) u v w
       into u v w (r, h, l, i) =
           let e : a + (r - a) ≡ r = omega arith in
-          (useAt xs (blocksOf xs) r, (rw e at (usesFrom-mem xs (blocksOf xs) a (z - a) (r - a) (omega arith))), i)
+          (use_at xs (blocks_of xs) r, (rw e at (uses_from-mem xs (blocks_of xs) a (z - a) (r - a) (omega arith))), i)
 
-      back : (u v w : ℕ) → UseEdges (blocksOf xs) work (usesFrom xs (blocksOf xs) a (z - a)) u v w → UseSpan u v w
+      back : (u v w : ℕ) → UseEdges (blocks_of xs) work (uses_from xs (blocks_of xs) a (z - a)) u v w → UseSpan u v w
       back u v w (x, m, i) =
-          let (r, h, l, e) = mem-usesFrom xs (blocksOf xs) a (z - a) x m in (r, h, omega (arith, rows .order), (rw e at i))
+          let (r, h, l, e) = mem-uses_from xs (blocks_of xs) a (z - a) x m in (r, h, omega (arith, rows.order), (rw e at i))
 
 -- At row r of the uses of block k, which names block b and m cues: what is asked for there, and the round over one use more.
-module _ {xs t work d₀ : List ℕ} {k a z : ℕ} (b r : ℕ) (eb : b ≡ useAt xs (blocksOf xs) r .block) (may : MaySettle xs t k work d₀)
+module _ {xs t work d₀ : List ℕ} {k a z : ℕ} (b r : ℕ) (eb : b ≡ (use_at xs (blocks_of xs) r).block) (may : MaySettle xs t k work d₀)
     (rows : UseRows xs t k a z) (lo : a ≤ r) (hi : r < z) where
   row : UseRow xs k r
-  row = use-row (may .loaded) k (may .block) r rows lo hi
+  row = use_row may.loaded k may.block r rows lo hi
 
-  pub used-named : IsBlock xs b
-  used-named = used-block b row eb
+  pub used_named : IsBlock xs b
+  used_named = used_block b row eb
 
-  pub used-room : summarySize * b + summarySize ≤ length work
-  used-room = omega (arith, row .lower, may .room)
+  pub used_room : summary_size * b + summary_size ≤ length work
+  used_room = omega (arith, row.lower, may.room)
 
-  module _ {m : ℕ} (em : m ≡ joinsOf (blocksOf xs) b) where
-    pub used-meets : {n : ℕ} → n ≡ length d₀ → Meets xs r m n
-    used-meets {n} e = row-meets (may .loaded) row b m eb em n (e ∙ may .size)
+  module _ {m : ℕ} (em : m ≡ joins_of (blocks_of xs) b) where
+    pub used_meets : {n : ℕ} → n ≡ length d₀ → Meets xs r m n
+    used_meets {n} e = row-meets may.loaded row b m eb em n (e ∙ may.size)
 
-    module _ {e f : List ℕ} {c : Bool} (x : Round (Mesh xs work r (summarySize * b) m) e c f) where
-      use-round : Round (UseEdge (blocksOf xs) work (useAt xs (blocksOf xs) r)) e c f
-      use-round = mesh-use (may .loaded) row b m eb em work x
+    module _ {e f : List ℕ} {c : Bool} (x : Round (Mesh xs work r (summary_size * b) m) e c f) where
+      use_round : Round (UseEdge (blocks_of xs) work (use_at xs (blocks_of xs) r)) e c f
+      use_round = mesh_use may.loaded row b m eb em work x
 
       pub uses-on : {d : List ℕ} {s o : Bool} → UsesOver xs work a r d s e → o ≡ orb s c → UsesOver xs work a (r + 1) d o f
       uses-on so eo =
-          record { round = span-on lowered-wide (λ i. UseEdge (blocksOf xs) work (useAt xs (blocksOf xs) i)) a r lo (so .round) use-round eo }
+          record { round = span_on lowered_wide (λ i. UseEdge (blocks_of xs) work (use_at xs (blocks_of xs) i)) a r lo so.round use_round eo }
 
 -- One use more from the last to the first, where those from row p on are passed.
 pub uses-back : {xs t work d₀ : List ℕ} {k a z p m : ℕ} (b r : ℕ) {d e f : List ℕ} {s c o : Bool} → UsesOver xs work p z d s e
-    → Round (Mesh xs work r (summarySize * b) m) e c f → o ≡ orb s c → b ≡ useAt xs (blocksOf xs) r .block → m ≡ joinsOf (blocksOf xs) b
+    → Round (Mesh xs work r (summary_size * b) m) e c f → o ≡ orb s c → b ≡ (use_at xs (blocks_of xs) r).block → m ≡ joins_of (blocks_of xs) b
     → UseRows xs t k a z → MaySettle xs t k work d₀ → a < p → p ≤ z → r ≡ p - 1 → UsesOver xs work r z d o f
 uses-back {xs} {work = work} {z = z} {p} b r so x eo eb em rows may lo hi er =
-    let one = use-round b r eb may rows (omega arith) (omega arith) em x in
-    record { round = span-back lowered-wide (λ i. UseEdge (blocksOf xs) work (useAt xs (blocksOf xs) i)) r p z (omega arith) hi (so .round) one eo }
+    let one = use_round b r eb may rows (omega arith) (omega arith) em x in
+    record { round = span_back lowered_wide (λ i. UseEdge (blocks_of xs) work (use_at xs (blocks_of xs) i)) r p z (omega arith) hi so.round one eo }
 
 -- A cue of block k has a place among the estimates.
-pub cue-there : {xs t work d : List ℕ} {k c n : ℕ} → MaySettle xs t k work d → c ≤ cueCount (blocksOf xs) k → n ≡ length d → c < n
-cue-there {k = k} may h e = omega (arith, may .size, own-few (may .loaded) k (may .block), joins-few (may .loaded) k (may .block))
+pub cue-there : {xs t work d : List ℕ} {k c n : ℕ} → MaySettle xs t k work d → c ≤ cue_count (blocks_of xs) k → n ≡ length d → c < n
+cue-there {k = k} may h e = omega (arith, may.size, own-few may.loaded k may.block, joins-few may.loaded k may.block)
 
 -- Estimates that are cleared for as many cues as block k has, counted as they are read.
-pub started-block : (bs : List Block) (k : ℕ) {inf : ℕ} {S : Beginnings} {d : List ℕ} (o p j : ℕ) → Started inf (o + j) S d → o ≡ p → p ≡ ownOf bs k
-    → j ≡ joinsOf bs k → Started inf (cueCount bs k) S d
-started-block bs k o p j s e f h = rw (e ∙ f, h) at s
+pub started_block : (bs : List Block) (k : ℕ) {inf : ℕ} {S : Beginnings} {d : List ℕ} (o p j : ℕ) → Started inf (o + j) S d → o ≡ p → p ≡ own_of bs k
+    → j ≡ joins_of bs k → Started inf (cue_count bs k) S d
+started_block bs k o p j s e f h = rw (e ∙ f, h) at s
 
 -- The links and the uses of a block are all its edges.
 pub block-round : (price : Price) (bs : List Block) (work : List ℕ) (k : ℕ) {d g h : List ℕ} {s c o : Bool}
-    → Round (Linked price (blockAt bs k .links)) d s g
-    → Round (UseEdges bs work (blockAt bs k .uses)) g c h → o ≡ orb s c → Round (BlockEdge price bs work k) d o h
+    → Round (Linked price (block_at bs k).links) d s g
+    → Round (UseEdges bs work (block_at bs k).uses) g c h → o ≡ orb s c → Round (BlockEdge price bs work k) d o h
 unfolding UseEdges UseEdge
 block-round price bs work k x y o =
-    round-then lowered-wide (λ u v w (l, m, eu, ev, ew). by-link l m eu ev ew)
+    round_then lowered_wide (λ u v w (l, m, eu, ev, ew). by-link l m eu ev ew)
     (λ u v w (p, m, (i, j, hi, hj, (eu, ev, ew))). by-use p m i j hi hj (sym ew) (sym eu) (sym ev)) (λ u v w e. back u v w e) x y o
   where
-    back : (u v w : ℕ) → BlockEdge price bs work k u v w → Linked price (blockAt bs k .links) u v w ⊎ UseEdges bs work (blockAt bs k .uses) u v w
+    back : (u v w : ℕ) → BlockEdge price bs work k u v w → Linked price (block_at bs k).links u v w ⊎ UseEdges bs work (block_at bs k).uses u v w
     back u v w (by-link l m eu ev ew) = inl (l, m, eu, ev, ew)
     back u v w (by-use p m i j hi hj ew eu ev) = inr (p, m, (i, j, hi, hj, (sym eu, sym ev, sym ew)))

@@ -1,144 +1,144 @@
 -- Laws of what estimates begin with, and of the estimates of some cues. A loop over them has begun, goes on (`-on`), and is done, where
 -- its count has come to its end.
-use Prim.Native.Nat.{ℕ, _+_, _≤_, _<_}
+use Prim.Native.Nat.{ℕ, ◌+◌, ◌≤◌, ◌<◌}
 use native.Mathlib.Omega.{arith}
-use native.Mathlib.Decide.{ℕ-discrete}
-use mathlib.Core.Path.{_≡_, refl, sym, _∙_, ap}
-use mathlib.Core.Logic.{_⊎_, inl, inr}
+use native.Mathlib.Decide.{ℕ_discrete}
+use mathlib.Core.Path.{◌≡◌, refl, sym, ◌∙◌, ap}
+use mathlib.Core.Logic.{◌⊎◌, inl, inr}
 use mathlib.Core.List.{List}
-use lib.ListN.{length, getD, set, replicate, length-replicate, getD-replicate}
-use lib.Seq.{getD-set-same, getD-set-other, ext-getD}
-use Rattle·model.specs.Limits.{maxJoins}
-use Rattle·blocks.specs.Loaded.{columnAt}
-use Rattle·searches·specs.specs.Starts.{Beginnings, Nowhere, Cell, Either, EachOf, Meets, MetAt, Started, Merged, Gathered}
-use Rattle·searches·proofs.proofs.Lowering.{inside, set-same}
+use lib.ListN.{length, get_or, set, replicate, length-replicate, get_or-replicate}
+use lib.Seq.{get_or-set_same, get_or-set_other, ext_get_or}
+use Rattle.model.specs.Limits.{max_joins}
+use Rattle.blocks.specs.Loaded.{column_at}
+use Rattle.searches.specs.Starts.{Beginnings, Nowhere, Cell, Either, EachOf, Meets, MetAt, Started, Merged, Gathered}
+use Rattle.searches.proofs.Lowering.{inside, set_same}
 
 -- The first i numbers of a list are x; all of them.
 pub record FilledTo (x i : ℕ) (d : List ℕ) : Type 0 where
-  pub at : (a : ℕ) → a < i → getD d a 0 ≡ x
+  pub at : (a : ℕ) → a < i → get_or d a 0 ≡ x
 
-pub fill-begin : (x : ℕ) (d : List ℕ) → FilledTo x 0 d
-fill-begin x d = record { at = λ a h. absurd (omega arith) }
+pub fill_begin : (x : ℕ) (d : List ℕ) → FilledTo x 0 d
+fill_begin x d = record { at = λ a h. absurd (omega arith) }
 
-pub fill-on : {x i : ℕ} {d : List ℕ} → FilledTo x i d → i < length d → FilledTo x (i + 1) (set d i x)
-fill-on {x} {i} {d} f h = record { at = λ a l. go a l (ℕ-discrete a i) }
+pub fill_on : {x i : ℕ} {d : List ℕ} → FilledTo x i d → i < length d → FilledTo x (i + 1) (set d i x)
+fill_on {x} {i} {d} f h = record { at = λ a l. go a l (ℕ_discrete a i) }
   where
-    go : (a : ℕ) → a < i + 1 → Dec (a ≡ i) → getD (set d i x) a 0 ≡ x
-    go a l (yes e) = rw e (getD-set-same d i x 0 h)
-    go a l (no m) = getD-set-other d i a x 0 m ∙ f .at a (omega arith)
+    go : (a : ℕ) → a < i + 1 → Dec (a ≡ i) → get_or (set d i x) a 0 ≡ x
+    go a l (yes e) = rw e (get_or-set_same d i x 0 h)
+    go a l (no m) = get_or-set_other d i a x 0 m ∙ f.at a (omega arith)
 
-pub fill-done : {x i n : ℕ} {d : List ℕ} → FilledTo x i d → length d ≤ i → length d ≡ n → d ≡ replicate n x
-fill-done {x} {i} {n} {d} f h e =
-    ext-getD 0 d (replicate n x) (e ∙ sym (length-replicate n x))
-    (λ a k. f .at a (omega arith) ∙ sym (getD-replicate n a x 0 (omega arith)))
+pub fill_done : {x i n : ℕ} {d : List ℕ} → FilledTo x i d → length d ≤ i → length d ≡ n → d ≡ replicate n x
+fill_done {x} {i} {n} {d} f h e =
+    ext_get_or 0 d (replicate n x) (e ∙ sym (length-replicate n x))
+    (λ a k. f.at a (omega arith) ∙ sym (get_or-replicate n a x 0 (omega arith)))
 
-pub started-blank : {inf n i : ℕ} {d : List ℕ} → FilledTo inf i d → n < i → Started inf n Nowhere d
-started-blank f h =
-    record { fallen = λ a x l b. absurd b; attained = λ a l k. absurd (omega (arith, f .at a (omega arith))) }
+pub started_blank : {inf n i : ℕ} {d : List ℕ} → FilledTo inf i d → n < i → Started inf n Nowhere d
+started_blank f h =
+    record { fallen = λ a x l b. absurd b; attained = λ a l k. absurd (omega (arith, f.at a (omega arith))) }
 
 -- An estimate put in, or not.
-pub merged-put : (v y : ℕ) (d : List ℕ) → y < getD d v 0 → Merged (Cell v y) d (set d v y)
-merged-put v y d h =
-    record { fallen = λ a x b. fallen a x b; lower = λ a. lower a (ℕ-discrete a v); from = λ a. from a (ℕ-discrete a v) }
+pub merged_put : (v y : ℕ) (d : List ℕ) → y < get_or d v 0 → Merged (Cell v y) d (set d v y)
+merged_put v y d h =
+    record { fallen = λ a x b. fallen a x b; lower = λ a. lower a (ℕ_discrete a v); from = λ a. from a (ℕ_discrete a v) }
   where
-    same : getD (set d v y) v 0 ≡ y
-    same = getD-set-same d v y 0 (inside d v y h)
+    same : get_or (set d v y) v 0 ≡ y
+    same = get_or-set_same d v y 0 (inside d v y h)
 
-    fallen : (a x : ℕ) → Cell v y a x → getD (set d v y) a 0 ≤ x
+    fallen : (a x : ℕ) → Cell v y a x → get_or (set d v y) a 0 ≤ x
     fallen a x (p, q) = rw (p, q) (omega (arith, same))
 
-    lower : (a : ℕ) → Dec (a ≡ v) → getD (set d v y) a 0 ≤ getD d a 0
+    lower : (a : ℕ) → Dec (a ≡ v) → get_or (set d v y) a 0 ≤ get_or d a 0
     lower a (yes p) = rw p (omega (arith, same))
-    lower a (no n) = omega (arith, getD-set-other d v a y 0 n)
+    lower a (no n) = omega (arith, get_or-set_other d v a y 0 n)
 
-    from : (a : ℕ) → Dec (a ≡ v) → (getD (set d v y) a 0 ≡ getD d a 0) ⊎ Cell v y a (getD (set d v y) a 0)
+    from : (a : ℕ) → Dec (a ≡ v) → (get_or (set d v y) a 0 ≡ get_or d a 0) ⊎ Cell v y a (get_or (set d v y) a 0)
     from a (yes p) = inr (p, rw p same)
-    from a (no n) = inl (getD-set-other d v a y 0 n)
+    from a (no n) = inl (get_or-set_other d v a y 0 n)
 
-pub merged-kept : (v y : ℕ) (d : List ℕ) → getD d v 0 ≤ y → Merged (Cell v y) d d
-merged-kept v y d h =
-    record { fallen = λ a x b. omega (arith, b .1, ap (λ (c : ℕ). getD d c 0) (b .0)); lower = λ a. omega arith; from = λ a. inl refl }
+pub merged_kept : (v y : ℕ) (d : List ℕ) → get_or d v 0 ≤ y → Merged (Cell v y) d d
+merged_kept v y d h =
+    record { fallen = λ a x b. omega (arith, b.1, ap (λ (c : ℕ). get_or d c 0) b.0); lower = λ a. omega arith; from = λ a. inl refl }
 
 -- The lesser of the two is put in.
-pub merged-both : (v y z m : ℕ) (d : List ℕ) → y ≡ getD d v 0 → ((z < y) × (m ≡ z)) ⊎ ((y ≤ z) × (m ≡ y)) → Merged (Cell v z) d (set d v m)
-merged-both v y z m d ey (inl (l, e)) = rw e (merged-put v z d (rw ey at l))
-merged-both v y z m d ey (inr (l, e)) = rw (e, ey, set-same d v) (merged-kept v z d (rw ey at l))
+pub merged_both : (v y z m : ℕ) (d : List ℕ) → y ≡ get_or d v 0 → ((z < y) × (m ≡ z)) ⊎ ((y ≤ z) × (m ≡ y)) → Merged (Cell v z) d (set d v m)
+merged_both v y z m d ey (inl (l, e)) = rw e (merged_put v z d (rw ey at l))
+merged_both v y z m d ey (inr (l, e)) = rw (e, ey, set_same d v) (merged_kept v z d (rw ey at l))
 
 -- Nothing put in; and one after the other.
-pub merged-nothing : {S : Beginnings} (d : List ℕ) → ((a x : ℕ) → S a x → ⊥) → Merged S d d
-merged-nothing d h = record { fallen = λ a x b. absurd (h a x b); lower = λ a. omega arith; from = λ a. inl refl }
+pub merged_nothing : {S : Beginnings} (d : List ℕ) → ((a x : ℕ) → S a x → ⊥) → Merged S d d
+merged_nothing d h = record { fallen = λ a x b. absurd (h a x b); lower = λ a. omega arith; from = λ a. inl refl }
 
-pub merged-then : {S T X : Beginnings} {d e f : List ℕ} → ((a x : ℕ) → S a x → X a x) → ((a x : ℕ) → T a x → X a x)
+pub merged_then : {S T X : Beginnings} {d e f : List ℕ} → ((a x : ℕ) → S a x → X a x) → ((a x : ℕ) → T a x → X a x)
     → ((a x : ℕ) → X a x → S a x ⊎ T a x) → Merged S d e → Merged T e f → Merged X d f
-merged-then {S} {T} {X} {d} {e} {f} l r back s t =
+merged_then {S} {T} {X} {d} {e} {f} l r back s t =
     record {
       fallen =
           λ a x b. fallen a x (back a x b);
-      lower = λ a. omega (arith, s .lower a, t .lower a);
-      from = λ a. from a (t .from a);
+      lower = λ a. omega (arith, s.lower a, t.lower a);
+      from = λ a. from a (t.from a);
     }
   where
-    fallen : (a x : ℕ) → S a x ⊎ T a x → getD f a 0 ≤ x
-    fallen a x (inl b) = omega (arith, t .lower a, s .fallen a x b)
-    fallen a x (inr b) = t .fallen a x b
+    fallen : (a x : ℕ) → S a x ⊎ T a x → get_or f a 0 ≤ x
+    fallen a x (inl b) = omega (arith, t.lower a, s.fallen a x b)
+    fallen a x (inr b) = t.fallen a x b
 
-    first : (a : ℕ) → getD f a 0 ≡ getD e a 0 → (getD e a 0 ≡ getD d a 0) ⊎ S a (getD e a 0)
-        → (getD f a 0 ≡ getD d a 0) ⊎ X a (getD f a 0)
+    first : (a : ℕ) → get_or f a 0 ≡ get_or e a 0 → (get_or e a 0 ≡ get_or d a 0) ⊎ S a (get_or e a 0)
+        → (get_or f a 0 ≡ get_or d a 0) ⊎ X a (get_or f a 0)
     first a p (inl q) = inl (p ∙ q)
-    first a p (inr b) = inr (rw p (l a (getD e a 0) b))
+    first a p (inr b) = inr (rw p (l a (get_or e a 0) b))
 
-    from : (a : ℕ) → (getD f a 0 ≡ getD e a 0) ⊎ T a (getD f a 0) → (getD f a 0 ≡ getD d a 0) ⊎ X a (getD f a 0)
-    from a (inl p) = first a p (s .from a)
-    from a (inr b) = inr (r a (getD f a 0) b)
+    from : (a : ℕ) → (get_or f a 0 ≡ get_or e a 0) ⊎ T a (get_or f a 0) → (get_or f a 0 ≡ get_or d a 0) ⊎ X a (get_or f a 0)
+    from a (inl p) = first a p (s.from a)
+    from a (inr b) = inr (r a (get_or f a 0) b)
 
 -- Each of some: none yet, and one more.
 pub each-begin : (S : ℕ → Beginnings) (d : List ℕ) → Merged (EachOf S 0) d d
-each-begin S d = merged-nothing d (λ a x b. omega (arith, b .1))
+each-begin S d = merged_nothing d (λ a x b. omega (arith, b.1))
 
-pub each-on : (S : ℕ → Beginnings) (i : ℕ) {d e f : List ℕ} → Merged (EachOf S i) d e → Merged (S i) e f → Merged (EachOf S (i + 1)) d f
-each-on S i s t =
-    merged-then (λ a x b. (b .0, omega (arith, b .1), b .2)) (λ a x b. (i, omega arith, b))
-    (λ a x b. at a x b (ℕ-discrete (b .0) i)) s t
+pub each_on : (S : ℕ → Beginnings) (i : ℕ) {d e f : List ℕ} → Merged (EachOf S i) d e → Merged (S i) e f → Merged (EachOf S (i + 1)) d f
+each_on S i s t =
+    merged_then (λ a x b. (b.0, omega (arith, b.1), b.2)) (λ a x b. (i, omega arith, b))
+    (λ a x b. at a x b (ℕ_discrete b.0 i)) s t
   where
-    at : (a x : ℕ) (b : EachOf S (i + 1) a x) → Dec (b .0 ≡ i) → EachOf S i a x ⊎ S i a x
+    at : (a x : ℕ) (b : EachOf S (i + 1) a x) → Dec (b.0 ≡ i) → EachOf S i a x ⊎ S i a x
     at a x (j, h, b) (yes e) = inr (rw e at b)
     at a x (j, h, b) (no n) = inl (j, omega arith, b)
 
 pub met-begin : (xs : List ℕ) (r : ℕ) (kept : List ℕ) (q : ℕ) (d : List ℕ) → Merged (MetAt xs r kept q 0) d d
 unfolding MetAt
-met-begin xs r kept q d = each-begin (λ i. Cell (columnAt xs r i) (getD kept (q + i) 0)) d
+met-begin xs r kept q d = each-begin (λ i. Cell (column_at xs r i) (get_or kept (q + i) 0)) d
 
 pub met-on : (xs : List ℕ) (r : ℕ) (kept : List ℕ) (q i : ℕ) {c v : ℕ} {d e f : List ℕ} → Merged (MetAt xs r kept q i) d e
-    → c ≡ columnAt xs r i → v ≡ c → Merged (Cell v (getD kept (q + i) 0)) e f → Merged (MetAt xs r kept q (i + 1)) d f
+    → c ≡ column_at xs r i → v ≡ c → Merged (Cell v (get_or kept (q + i) 0)) e f → Merged (MetAt xs r kept q (i + 1)) d f
 unfolding MetAt
-met-on xs r kept q i s ec ev t = each-on (λ i. Cell (columnAt xs r i) (getD kept (q + i) 0)) i s (rw (ev, ec) at t)
+met-on xs r kept q i s ec ev t = each_on (λ i. Cell (column_at xs r i) (get_or kept (q + i) 0)) i s (rw (ev, ec) at t)
 
 pub met-done : (xs : List ℕ) (r : ℕ) (kept : List ℕ) (q : ℕ) {i m : ℕ} {d e : List ℕ} → Merged (MetAt xs r kept q i) d e → i ≤ m → m ≤ i
     → Merged (MetAt xs r kept q m) d e
 met-done xs r kept q {i} {m} s h l = let z : i ≡ m = omega arith in rw z at s
 
 module _ {inf n : ℕ} {begun : Beginnings} where
-  pub started-merged : {S : Beginnings} {d e : List ℕ} → Started inf n begun d → Merged S d e → Started inf n (Either begun S) e
-  started-merged {S} {d} {e} s m =
-      record { fallen = λ a x l b. fallen a x l b; attained = λ a l k. attained a l k (m .from a) }
+  pub started_merged : {S : Beginnings} {d e : List ℕ} → Started inf n begun d → Merged S d e → Started inf n (Either begun S) e
+  started_merged {S} {d} {e} s m =
+      record { fallen = λ a x l b. fallen a x l b; attained = λ a l k. attained a l k (m.from a) }
     where
-      fallen : (a x : ℕ) → a ≤ n → Either begun S a x → getD e a 0 ≤ x
-      fallen a x l (inl b) = omega (arith, m .lower a, s .fallen a x l b)
-      fallen a x l (inr b) = m .fallen a x b
+      fallen : (a x : ℕ) → a ≤ n → Either begun S a x → get_or e a 0 ≤ x
+      fallen a x l (inl b) = omega (arith, m.lower a, s.fallen a x l b)
+      fallen a x l (inr b) = m.fallen a x b
 
-      attained : (a : ℕ) → a ≤ n → getD e a 0 < inf → (getD e a 0 ≡ getD d a 0) ⊎ S a (getD e a 0) → Either begun S a (getD e a 0)
-      attained a l k (inl p) = inl (rw p (s .attained a l (rw p at k)))
+      attained : (a : ℕ) → a ≤ n → get_or e a 0 < inf → (get_or e a 0 ≡ get_or d a 0) ⊎ S a (get_or e a 0) → Either begun S a (get_or e a 0)
+      attained a l k (inl p) = inl (rw p (s.attained a l (rw p at k)))
       attained a l k (inr b) = inr b
 
   -- What amounts to the same.
-  pub started-same : {other : Beginnings} {d : List ℕ} → ((a x : ℕ) → begun a x → other a x) → ((a x : ℕ) → other a x → begun a x)
+  pub started_same : {other : Beginnings} {d : List ℕ} → ((a x : ℕ) → begun a x → other a x) → ((a x : ℕ) → other a x → begun a x)
       → Started inf n begun d → Started inf n other d
-  started-same {other} {d} f g s =
-      record { fallen = λ a x l b. s .fallen a x l (g a x b); attained = λ a l k. f a (getD d a 0) (s .attained a l k) }
+  started_same {other} {d} f g s =
+      record { fallen = λ a x l b. s.fallen a x l (g a x b); attained = λ a l k. f a (get_or d a 0) (s.attained a l k) }
 
 -- Nothing, and then something.
-pub started-first : {inf n : ℕ} {S : Beginnings} {d e : List ℕ} → Started inf n Nowhere d → Merged S d e → Started inf n S e
-started-first {S = S} s m = started-same (λ a x b. to a x b) (λ a x b. inr b) (started-merged s m)
+pub started_first : {inf n : ℕ} {S : Beginnings} {d e : List ℕ} → Started inf n Nowhere d → Merged S d e → Started inf n S e
+started_first {S = S} s m = started_same (λ a x b. to a x b) (λ a x b. inr b) (started_merged s m)
   where
     to : (a x : ℕ) → Either Nowhere S a x → S a x
     to a x (inl b) = absurd b
@@ -146,36 +146,36 @@ started-first {S = S} s m = started-same (λ a x b. to a x b) (λ a x b. inr b) 
 
 -- A row that names cues: one of its columns, and the cue read there, which has an estimate in a list of that length.
 module _ {xs : List ℕ} {r m n : ℕ} where
-  pub column-few : {i : ℕ} → Meets xs r m n → i < m → i < maxJoins
-  column-few h l = omega (arith, h .few)
+  pub column-few : {i : ℕ} → Meets xs r m n → i < m → i < max_joins
+  column-few h l = omega (arith, h.few)
 
-  pub column-within : (i : ℕ) {c v l : ℕ} → v ≡ c → c ≡ columnAt xs r i → Meets xs r m n → i < m → l ≡ n → v < l
-  column-within i w e h l k = omega (arith, h .within i l)
+  pub column-within : (i : ℕ) {c v l : ℕ} → v ≡ c → c ≡ column_at xs r i → Meets xs r m n → i < m → l ≡ n → v < l
+  column-within i w e h l k = omega (arith, h.within i l)
 
   -- Their number by another name, and fewer of them.
   pub meets-as : {k : ℕ} → Meets xs r m n → m ≡ k → Meets xs r k n
   meets-as h e = rw e at h
 
   pub meets-fewer : {k : ℕ} (i : ℕ) → Meets xs r m n → i ≤ m → k ≡ n → Meets xs r i k
-  meets-fewer i h l e = record { there = h .there; few = omega (arith, h .few); within = λ j k. omega (arith, h .within j (omega arith)) }
+  meets-fewer i h l e = record { there = h.there; few = omega (arith, h.few); within = λ j k. omega (arith, h.within j (omega arith)) }
 
 -- The estimates of some cues, one more.
-pub gathered-begin : (xs : List ℕ) (r : ℕ) (d e : List ℕ) → Gathered xs r d 0 e e
-gathered-begin xs r d e = record { at = λ i h. absurd (omega arith); else = λ i h. refl }
+pub gathered_begin : (xs : List ℕ) (r : ℕ) (d e : List ℕ) → Gathered xs r d 0 e e
+gathered_begin xs r d e = record { at = λ i h. absurd (omega arith); else = λ i h. refl }
 
-pub gathered-on : {xs : List ℕ} {r : ℕ} {d : List ℕ} (i : ℕ) {m : ℕ} {e₀ e : List ℕ} {c v : ℕ} → Gathered xs r d i e₀ e → v ≡ c
-    → c ≡ columnAt xs r i → length e ≡ length e₀ → m ≤ length e₀ → i < m → Gathered xs r d (i + 1) e₀ (set e i (getD d v 0))
-gathered-on {xs} {r} {d} i {e₀ = e₀} {e} {v = v} g ev ec size few h = record { at = λ j l. at j l (ℕ-discrete j i); else = else }
+pub gathered_on : {xs : List ℕ} {r : ℕ} {d : List ℕ} (i : ℕ) {m : ℕ} {e₀ e : List ℕ} {c v : ℕ} → Gathered xs r d i e₀ e → v ≡ c
+    → c ≡ column_at xs r i → length e ≡ length e₀ → m ≤ length e₀ → i < m → Gathered xs r d (i + 1) e₀ (set e i (get_or d v 0))
+gathered_on {xs} {r} {d} i {e₀ = e₀} {e} {v = v} g ev ec size few h = record { at = λ j l. at j l (ℕ_discrete j i); else = else }
   where
     x : ℕ
-    x = getD d v 0
+    x = get_or d v 0
 
-    at : (j : ℕ) → j < i + 1 → Dec (j ≡ i) → getD (set e i x) j 0 ≡ getD d (columnAt xs r j) 0
-    at j l (yes q) = rw (q, ← ec, ← ev) (getD-set-same e i x 0 (omega arith))
-    at j l (no n) = getD-set-other e i j x 0 n ∙ g .at j (omega arith)
+    at : (j : ℕ) → j < i + 1 → Dec (j ≡ i) → get_or (set e i x) j 0 ≡ get_or d (column_at xs r j) 0
+    at j l (yes q) = rw (q, ← ec, ← ev) (get_or-set_same e i x 0 (omega arith))
+    at j l (no n) = get_or-set_other e i j x 0 n ∙ g.at j (omega arith)
 
-    else : (j : ℕ) → i + 1 ≤ j → getD (set e i x) j 0 ≡ getD e₀ j 0
-    else j l = getD-set-other e i j x 0 (λ q. omega arith) ∙ g .else j (omega arith)
+    else : (j : ℕ) → i + 1 ≤ j → get_or (set e i x) j 0 ≡ get_or e₀ j 0
+    else j l = get_or-set_other e i j x 0 (λ q. omega arith) ∙ g.else j (omega arith)
 
-pub gathered-done : {xs d e₀ e : List ℕ} {r i m : ℕ} → Gathered xs r d i e₀ e → i ≤ m → m ≤ i → Gathered xs r d m e₀ e
-gathered-done {i = i} {m} g h l = let z : i ≡ m = omega arith in rw z at g
+pub gathered_done : {xs d e₀ e : List ℕ} {r i m : ℕ} → Gathered xs r d i e₀ e → i ≤ m → m ≤ i → Gathered xs r d m e₀ e
+gathered_done {i = i} {m} g h l = let z : i ≡ m = omega arith in rw z at g

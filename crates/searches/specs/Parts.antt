@@ -1,12 +1,10 @@
 -- The work area block by block: 64 numbers each.
-use Prim.Native.Nat.{ℕ, _+_, _*_}
-use mathlib.Core.List.{List, _++_}
-use lib.ListN.{take, drop}
-use Rattle·model.specs.Limits.{summarySize}
+use Rattle.std.specs.Prelude.{ℕ, ◌+◌, ◌*◌, List, ◌++◌, take, drop}
+use Rattle.model.specs.Limits.{summary_size}
 
 -- Block k's part of the work area, and the work area with other numbers in it.
-abbrev pub partOf : List ℕ → ℕ → List ℕ
-partOf work k = take summarySize (drop (summarySize * k) work)
+abbrev pub part_of : List ℕ → ℕ → List ℕ
+part_of work k = take summary_size (drop (summary_size * k) work)
 
-abbrev pub withPart : List ℕ → ℕ → List ℕ → List ℕ
-withPart work k v = take (summarySize * k) work ++ (v ++ drop (summarySize * k + summarySize) work)
+abbrev pub with_part : List ℕ → ℕ → List ℕ → List ℕ
+with_part work k v = take (summary_size * k) work ++ (v ++ drop (summary_size * k + summary_size) work)

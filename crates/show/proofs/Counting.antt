@@ -1,16 +1,16 @@
 -- Counting: the total of the last block is the count.
 use Prim.Native.Nat.{ℕ}
-use mathlib.Core.Path.{_≡_}
+use mathlib.Core.Path.{◌≡◌}
 use mathlib.Core.List.{List}
-use Rattle·model.specs.Blocks.{blocksOf, count}
-use Rattle·model.specs.Answers.{ofCount}
-use Rattle·model.specs.Questions.{countAsked}
-use Rattle·model.specs.declared.Verdict.{Verdict}
-use Rattle·model.specs.declared.Verdict.the-variants.{Accepted}
-use Rattle·model.specs.declared.CountAnswer.the-variants.{Cues}
-use Rattle·verdicts.specs.Passing.{IsChecked}
-use Rattle·loading.proofs.Checked.{asked-yes}
+use Rattle.model.specs.Blocks.{blocks_of, count}
+use Rattle.model.specs.Answers.{of_count}
+use Rattle.model.specs.Questions.{count_asked}
+use Rattle.model.specs.declared.Verdict.{Verdict}
+use Rattle.model.specs.declared.Verdict.TheVariants.{Accepted}
+use Rattle.model.specs.declared.CountAnswer.TheVariants.{Cues}
+use Rattle.verdicts.specs.Passing.{IsChecked}
+use Rattle.loading.proofs.Checked.{asked_yes}
 
-pub count-yes : (xs t : List ℕ) (v : Verdict) (c : IsChecked xs t v) (n : ℕ) → v ≡ Accepted → n ≡ count (blocksOf xs) → ofCount (Cues n) ≡ countAsked xs
-unfolding ofCount countAsked
-count-yes xs t v c n e h = asked-yes xs t v c _ _ _ e (rw h)
+pub count_yes : (xs t : List ℕ) (v : Verdict) (c : IsChecked xs t v) (n : ℕ) → v ≡ Accepted → n ≡ count (blocks_of xs) → of_count (Cues n) ≡ count_asked xs
+unfolding of_count count_asked
+count_yes xs t v c n e h = asked_yes xs t v c _ _ _ e (rw h)

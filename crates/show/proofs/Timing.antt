@@ -1,18 +1,18 @@
 -- The quickest question's refusals of rows: their place is given in 64 bits.
 use Prim.Native.Nat.{ℕ}
-use mathlib.Core.Path.{_≡_}
+use mathlib.Core.Path.{◌≡◌}
 use mathlib.Core.List.{List}
-use Rattle·model.specs.Verdicts.{refusal}
-use Rattle·model.specs.Answers.{returned, ofQuickest}
-use Rattle·model.specs.Questions.{outcome, refuse, quickestAsked}
-use Rattle·model.specs.declared.Refusal.{Refusal}
-use Rattle·model.specs.declared.Verdict.{Verdict}
-use Rattle·model.specs.declared.Verdict.the-variants.{Refused}
-use Rattle·model.specs.declared.QuickestAnswer.the-variants.{Refused as Untimed}
-use Rattle·verdicts.specs.Passing.{IsChecked}
-use Rattle·loading.proofs.Checked.{asked-no}
+use Rattle.model.specs.Verdicts.{refusal}
+use Rattle.model.specs.Answers.{returned, of_quickest}
+use Rattle.model.specs.Questions.{outcome, refuse, quickest_asked}
+use Rattle.model.specs.declared.Refusal.{Refusal}
+use Rattle.model.specs.declared.Verdict.{Verdict}
+use Rattle.model.specs.declared.Verdict.TheVariants.{Refused}
+use Rattle.model.specs.declared.QuickestAnswer.TheVariants.{Refused as Untimed}
+use Rattle.verdicts.specs.Passing.{IsChecked}
+use Rattle.loading.proofs.Checked.{asked_no}
 
 pub quickest-no : (xs table : List ℕ) (v : Verdict) (c : IsChecked xs table v) (s t : ℕ) (file work : List ℕ) (f : Refusal) (p : ℕ) → v ≡ Refused f
-    → p ≡ f .place → outcome (ofQuickest (Untimed (f .number) p)) work ≡ quickestAsked xs s t file work
-unfolding ofQuickest quickestAsked refuse returned refusal
-quickest-no xs table v c s t file work f p e h = asked-no xs table v c _ _ _ f e (rw h)
+    → p ≡ f.place → outcome (of_quickest (Untimed f.number p)) work ≡ quickest_asked xs s t file work
+unfolding of_quickest quickest_asked refuse returned refusal
+quickest-no xs table v c s t file work f p e h = asked_no xs table v c _ _ _ f e (rw h)

@@ -1,28 +1,25 @@
 // The show library: every question of documents 01 and 02, for all bytes, rows, numbers and lent buffers. Each promise is an equation with the
 // model's definition of the question: what is returned, in document 01's numbers, and what the lent list that is written holds
 // afterwards, refused calls included. What is lent to be read stays as it was.
-ghost use mathlib.Core.Path.{_≡_};
-ghost use Rattle·model.specs.Answers.{ofList};
-ghost use Rattle·model.specs.Questions.{outcome};
-ghost use Rattle·model.specs.Asking.{AsksRead, AsksDeskRead, AsksWrite, AsksCount, AsksLocate, AsksNumber, AsksOut, AsksIn, AsksRow, AsksFewest, AsksQuickest};
-ghost use Rattle·answers.specs.Asked.{listAsked};
+#![tactic(auto)]
+
+ghost use Rattle.std.specs.Prelude.{◌≡◌};
+ghost use Rattle.model.specs.Answers.{of_list};
+ghost use Rattle.model.specs.Questions.{outcome};
+ghost use Rattle.model.specs.Asking.{AsksRead, AsksDeskRead, AsksWrite, AsksCount, AsksLocate, AsksNumber, AsksOut, AsksIn, AsksRow, AsksFewest, AsksQuickest};
+ghost use Rattle.answers.specs.Asked.{list_asked};
+
 use blocks::INDEX;
 use loading::Loading;
-use model::CountAnswer;
-use model::FewestAnswer;
-use model::ListAnswer;
-use model::LocateAnswer;
-use model::NumberAnswer;
-use model::QuickestAnswer;
-use model::ReadAnswer;
-use model::RowAnswer;
-use model::Verdict;
-use model::WriteAnswer;
 use model::limits::ROOM;
+use model::{
+    CountAnswer, FewestAnswer, ListAnswer, LocateAnswer, NumberAnswer, QuickestAnswer, ReadAnswer,
+    RowAnswer, Verdict, WriteAnswer,
+};
 
 // The count of cues.
 pub fn count(rows: &[u32]) -> CountAnswer
-    ensures { λ r. ⌜ AsksCount (now (rows .entry)) r ⌝ }
+    ensures { AsksCount rows.now result }
 {
     let mut table = [0u32; INDEX];
     match verdicts::check(rows, &mut table) {
@@ -33,7 +30,7 @@ pub fn count(rows: &[u32]) -> CountAnswer
 
 // Where cue n is: depth, block and own cue, and its path in the first numbers of a lent list.
 pub fn locate(rows: &[u32], n: u32, path: &mut [u32]) -> LocateAnswer
-    ensures { λ r. ⌜ AsksLocate (now (rows .entry)) n (now (path .entry)) r (now (path .exit)) ⌝ }
+    ensures { AsksLocate rows.now n path.old result path.new }
 {
     let mut table = [0u32; INDEX];
     match verdicts::check(rows, &mut table) {
@@ -44,7 +41,7 @@ pub fn locate(rows: &[u32], n: u32, path: &mut [u32]) -> LocateAnswer
 
 // The number of a path and an own cue.
 pub fn number(rows: &[u32], path: &[u32], own: u32) -> NumberAnswer
-    ensures { λ r. ⌜ AsksNumber (now (rows .entry)) (now (path .entry)) own r ⌝ }
+    ensures { AsksNumber rows.now path.now own result }
 {
     let mut table = [0u32; INDEX];
     match verdicts::check(rows, &mut table) {
@@ -55,7 +52,7 @@ pub fn number(rows: &[u32], path: &[u32], own: u32) -> NumberAnswer
 
 // A file read to rows: how many rows, blocks and cues it has.
 pub fn read(file: &[u8], rows: &mut [u32]) -> ReadAnswer
-    ensures { λ r. ⌜ AsksRead (now (file .entry)) (now (rows .entry)) r (now (rows .exit)) ⌝ }
+    ensures { AsksRead file.now rows.old result rows.new }
 {
     let mut numbers = [0u32; ROOM];
     let mut table = [0u32; INDEX];
@@ -67,7 +64,7 @@ pub fn read(file: &[u8], rows: &mut [u32]) -> ReadAnswer
 
 // A file read the second way, the rows that come with the desk before its own: how many rows, blocks and cues there are in all.
 pub fn read_desk(file: &[u8], rows: &mut [u32]) -> ReadAnswer
-    ensures { λ r. ⌜ AsksDeskRead (now (file .entry)) (now (rows .entry)) r (now (rows .exit)) ⌝ }
+    ensures { AsksDeskRead file.now rows.old result rows.new }
 {
     let mut numbers = [0u32; ROOM];
     let mut table = [0u32; INDEX];
@@ -79,7 +76,7 @@ pub fn read_desk(file: &[u8], rows: &mut [u32]) -> ReadAnswer
 
 // Rows written as a file: its length.
 pub fn write(rows: &[u32], out: &mut [u8]) -> WriteAnswer
-    ensures { λ r. ⌜ AsksWrite (now (rows .entry)) (now (out .entry)) r (now (out .exit)) ⌝ }
+    ensures { AsksWrite rows.now out.old result out.new }
 {
     let mut table = [0u32; INDEX];
     match verdicts::check(rows, &mut table) {
@@ -90,7 +87,7 @@ pub fn write(rows: &[u32], out: &mut [u8]) -> WriteAnswer
 
 // The cues linked to cue v, out or in.
 fn list(rows: &[u32], inward: bool, v: u32, n: u32, page: &mut [u32]) -> ListAnswer
-    ensures { λ r. ⌜ outcome (ofList r) (now (page .exit)) ≡ listAsked inward (now (rows .entry)) v n (now (page .entry)) ⌝ }
+    ensures { outcome (of_list result) page.new ≡ list_asked inward rows.now v n page.old }
 {
     let mut table = [0u32; INDEX];
     match verdicts::check(rows, &mut table) {
@@ -101,14 +98,14 @@ fn list(rows: &[u32], inward: bool, v: u32, n: u32, page: &mut [u32]) -> ListAns
 
 // The cues that follow on from cue v, by links or by notes, those above n: as many as the page has room for, rising, and whether there are more.
 pub fn list_out(rows: &[u32], v: u32, n: u32, page: &mut [u32]) -> ListAnswer
-    ensures { λ r. ⌜ AsksOut (now (rows .entry)) v n (now (page .entry)) r (now (page .exit)) ⌝ }
+    ensures { AsksOut rows.now v n page.old result page.new }
 {
     list(rows, false, v, n, page)
 }
 
 // The cues from which cue v follows on, in the same way.
 pub fn list_in(rows: &[u32], v: u32, n: u32, page: &mut [u32]) -> ListAnswer
-    ensures { λ r. ⌜ AsksIn (now (rows .entry)) v n (now (page .entry)) r (now (page .exit)) ⌝ }
+    ensures { AsksIn rows.now v n page.old result page.new }
 {
     list(rows, true, v, n, page)
 }
@@ -116,7 +113,7 @@ pub fn list_in(rows: &[u32], v: u32, n: u32, page: &mut [u32]) -> ListAnswer
 // The row behind the follow-on from cue s to cue t: the number of a link row and the depth of the copy that it stands in, whose path goes to the first
 // numbers of a lent list.
 pub fn row(rows: &[u32], s: u32, t: u32, path: &mut [u32]) -> RowAnswer
-    ensures { λ r. ⌜ AsksRow (now (rows .entry)) s t (now (path .entry)) r (now (path .exit)) ⌝ }
+    ensures { AsksRow rows.now s t path.old result path.new }
 {
     let mut table = [0u32; INDEX];
     match verdicts::check(rows, &mut table) {
@@ -127,7 +124,7 @@ pub fn row(rows: &[u32], s: u32, t: u32, path: &mut [u32]) -> RowAnswer
 
 // The fewest follow-ons from cue s to cue t, or none; notes are not followed. The work area holds the summaries of all blocks afterwards.
 pub fn fewest(rows: &[u32], s: u32, t: u32, work: &mut [u32]) -> FewestAnswer
-    ensures { λ r. ⌜ AsksFewest (now (rows .entry)) s t (now (work .entry)) r (now (work .exit)) ⌝ }
+    ensures { AsksFewest rows.now s t work.old result work.new }
 {
     let mut table = [0u32; INDEX];
     match verdicts::check(rows, &mut table) {
@@ -138,7 +135,7 @@ pub fn fewest(rows: &[u32], s: u32, t: u32, work: &mut [u32]) -> FewestAnswer
 
 // A place of 32 bits in 64.
 fn long(place: u32) -> u64
-    ensures { λ r. ⌜ r ≡ place ⌝ }
+    ensures { result ≡ place }
 {
     place as u64
 }
@@ -146,7 +143,7 @@ fn long(place: u32) -> u64
 // The quickest way from cue s to cue t under a wait file: the smallest sum of waits over all chains in tenths of a second, or none; notes are not followed.
 // Afterwards the first 16,384 numbers of the work area, of 64 bits each, are 0.
 pub fn quickest(rows: &[u32], s: u32, t: u32, file: &[u8], work: &mut [u64]) -> QuickestAnswer
-    ensures { λ r. ⌜ AsksQuickest (now (rows .entry)) s t (now (file .entry)) (now (work .entry)) r (now (work .exit)) ⌝ }
+    ensures { AsksQuickest rows.now s t file.now work.old result work.new }
 {
     let mut table = [0u32; INDEX];
     match verdicts::check(rows, &mut table) {

@@ -1,88 +1,88 @@
 -- Laws of the C functions.
-use Prim.Native.Nat.{ℕ, _+_, _*_, _/_, _%_, _≤_, _<_, min}
+use Prim.Native.Nat.{ℕ, ◌+◌, ◌*◌, ◌/◌, ◌%◌, ◌≤◌, ◌<◌, min}
 use native.Mathlib.Omega.{arith}
-use mathlib.Core.Path.{_≡_, refl, sym, _∙_, ap}
+use mathlib.Core.Path.{◌≡◌, refl, sym, ◌∙◌, ap}
 use mathlib.Core.Bool.{Bool, true, false}
-use mathlib.Core.List.{List, [], _∷_}
+use mathlib.Core.List.{List, [], ◌∷◌}
 use lib.ListN.{length, set}
-use Rattle·model.specs.Verdicts.{refusal, verdict, Numbers, readFile, fileVerdict, numbersOf}
-use Rattle·model.specs.Rows.{rowCount}
-use Rattle·model.specs.Lists.{overwrite}
-use Rattle·model.specs.Answers.{Returned, returned, given, ofRead, ofCount, ofList, flag, halves, ofQuickest}
-use Rattle·model.specs.Desk.{withDesk, deskFileVerdict}
-use Rattle·model.specs.Questions.{Outcome, outcome, refuse, onAccepted, withRoom, readInto, readAsked, deskReadAsked, countAsked}
-use Rattle·shows.proofs.DeskTable.{with-length}
-use Rattle·model.specs.declared.Refusal.{Refusal}
-use Rattle·model.specs.declared.Verdict.{Verdict}
-use Rattle·model.specs.declared.Verdict.the-variants.{Accepted, Refused}
-use Rattle·model.specs.declared.ReadAnswer.{ReadAnswer}
-use Rattle·model.specs.declared.ReadAnswer.the-variants.{Read, Refused as ReadRefused}
-use Rattle·model.specs.declared.CountAnswer.{CountAnswer}
-use Rattle·model.specs.declared.CountAnswer.the-variants.{Cues, Refused as CountRefused}
-use Rattle·model.specs.declared.ListAnswer.{ListAnswer}
-use Rattle·model.specs.declared.ListAnswer.the-variants.{Page}
-use Rattle·model.specs.declared.QuickestAnswer.{QuickestAnswer}
-use Rattle·model.specs.declared.QuickestAnswer.the-variants.{Tenths, Refused as Untimed}
-use Rattle·basics.proofs.Choices.{lt-then, lt-else}
-use Rattle·shows.proofs.Accepted.{accepted-show}
-use Rattle·shows.proofs.RoundTrips.{accepted-file}
-use Rattle·show_c·specs.specs.Interface.{code, IsRefused, givenAfter, withGiven, shortOf, Told, Wrote}
+use Rattle.model.specs.Verdicts.{refusal, verdict, Numbers, read_file, file_verdict, numbers_of}
+use Rattle.model.specs.Rows.{row_count}
+use Rattle.model.specs.Lists.{overwrite}
+use Rattle.model.specs.Answers.{Returned, returned, given, of_read, of_count, of_list, flag, halves, of_quickest}
+use Rattle.model.specs.Desk.{with_desk, desk_file_verdict}
+use Rattle.model.specs.Questions.{Outcome, outcome, refuse, on_accepted, with_room, read_into, read_asked, desk_read_asked, count_asked}
+use Rattle.shows.proofs.DeskTable.{with_length}
+use Rattle.model.specs.declared.Refusal.{Refusal}
+use Rattle.model.specs.declared.Verdict.{Verdict}
+use Rattle.model.specs.declared.Verdict.TheVariants.{Accepted, Refused}
+use Rattle.model.specs.declared.ReadAnswer.{ReadAnswer}
+use Rattle.model.specs.declared.ReadAnswer.TheVariants.{Read, Refused as ReadRefused}
+use Rattle.model.specs.declared.CountAnswer.{CountAnswer}
+use Rattle.model.specs.declared.CountAnswer.TheVariants.{Cues, Refused as CountRefused}
+use Rattle.model.specs.declared.ListAnswer.{ListAnswer}
+use Rattle.model.specs.declared.ListAnswer.TheVariants.{Page}
+use Rattle.model.specs.declared.QuickestAnswer.{QuickestAnswer}
+use Rattle.model.specs.declared.QuickestAnswer.TheVariants.{Tenths, Refused as Untimed}
+use Rattle.basics.proofs.Choices.{lt_then, lt_else}
+use Rattle.shows.proofs.Accepted.{accepted-show}
+use Rattle.shows.proofs.RoundTrips.{accepted-file}
+use Rattle.show_c.specs.Interface.{code, IsRefused, given_after, with_given, short_of, Told, Wrote}
 
 -- A refusal as one number, which is its code: its place is a number of 32 bits.
 abbrev pub number : Refusal → ℕ
-number f = f .number * 4294967296 + f .place
+number f = f.number * 4294967296 + f.place
 
 abbrev Narrow : Refusal → Type 0
-Narrow f = f .place < 4294967296
+Narrow f = f.place < 4294967296
 
 number-code : (f : Refusal) → Narrow f → number f ≡ code (returned f)
 unfolding code returned
 number-code f h = omega arith
 
 -- Values are no refusal.
-no-values : (n : ℕ) (ns : List ℕ) (f : Refusal) → given (n ∷ ns) ≡ returned f → ⊥
+no_values : (n : ℕ) (ns : List ℕ) (f : Refusal) → given (n ∷ ns) ≡ returned f → ⊥
 unfolding given returned
-no-values n ns f e = let q : length (n ∷ ns) ≡ 0 = ap (λ (r : Returned). length (r .values)) e in omega arith
+no_values n ns f e = let q : length (n ∷ ns) ≡ 0 = ap (λ (r : Returned). length r.values) e in omega arith
 
 -- What is said of rows where `given` is too short, from what their count would be.
-short-value : (v : Verdict) (n : ℕ) (ns ws : List ℕ) → given (n ∷ ns) ≡ onAccepted v (λ f. returned f) (given ws) → 47244640256 ≡ shortOf v
-unfolding shortOf onAccepted code returned refusal
+short-value : (v : Verdict) (n : ℕ) (ns ws : List ℕ) → given (n ∷ ns) ≡ on_accepted v (λ f. returned f) (given ws) → 47244640256 ≡ short_of v
+unfolding short_of on_accepted code returned refusal
 short-value Accepted n ns ws e = refl
-short-value (Refused f) n ns ws e = absurd (no-values n ns f e)
+short-value (Refused f) n ns ws e = absurd (no_values n ns f e)
 
-short-refused : (v : Verdict) (f : Refusal) (w : ℕ) (ws : List ℕ) → Narrow f → returned f ≡ onAccepted v (λ f. returned f) (given (w ∷ ws))
-    → number f ≡ shortOf v
-unfolding shortOf onAccepted
-short-refused Accepted f w ws h e = absurd (no-values w ws f (sym e))
+short-refused : (v : Verdict) (f : Refusal) (w : ℕ) (ws : List ℕ) → Narrow f → returned f ≡ on_accepted v (λ f. returned f) (given (w ∷ ws))
+    → number f ≡ short_of v
+unfolding short_of on_accepted
+short-refused Accepted f w ws h e = absurd (no_values w ws f (sym e))
 short-refused (Refused g) f w ws h e = number-code f h ∙ ap code e
 
-pub count-short : (xs : List ℕ) (a : CountAnswer) (n : ℕ) → ofCount a ≡ countAsked xs → a ≡ Cues n → 47244640256 ≡ shortOf (verdict xs)
-unfolding ofCount countAsked
+pub count-short : (xs : List ℕ) (a : CountAnswer) (n : ℕ) → of_count a ≡ count_asked xs → a ≡ Cues n → 47244640256 ≡ short_of (verdict xs)
+unfolding of_count count_asked
 count-short xs a n e q = short-value (verdict xs) n [] _ (rw q at e)
 
-pub no-count-short : (xs : List ℕ) (a : CountAnswer) (f : Refusal) (c : ℕ) → ofCount a ≡ countAsked xs → a ≡ CountRefused f → c ≡ number f → Narrow f
-    → c ≡ shortOf (verdict xs)
-unfolding ofCount countAsked
-no-count-short xs a f c e q h k = h ∙ short-refused (verdict xs) f _ [] k (rw q at e)
+pub no_count_short : (xs : List ℕ) (a : CountAnswer) (f : Refusal) (c : ℕ) → of_count a ≡ count_asked xs → a ≡ CountRefused f → c ≡ number f → Narrow f
+    → c ≡ short_of (verdict xs)
+unfolding of_count count_asked
+no_count_short xs a f c e q h k = h ∙ short-refused (verdict xs) f _ [] k (rw q at e)
 
 -- Values put first in `given`.
-pub put-one : (a : ℕ) (g : List ℕ) → 3 ≤ length g → set g 0 a ≡ overwrite (a ∷ []) g
+pub put_one : (a : ℕ) (g : List ℕ) → 3 ≤ length g → set g 0 a ≡ overwrite (a ∷ []) g
 unfolding overwrite
-put-one a [] h = absurd (omega arith)
-put-one a (x ∷ g) h = refl
+put_one a [] h = absurd (omega arith)
+put_one a (x ∷ g) h = refl
 
-pub put-two : (a b : ℕ) (g g′ : List ℕ) → 3 ≤ length g → g′ ≡ overwrite (a ∷ []) (set g 1 b) → g′ ≡ overwrite (a ∷ b ∷ []) g
+pub put_two : (a b : ℕ) (g g' : List ℕ) → 3 ≤ length g → g' ≡ overwrite (a ∷ []) (set g 1 b) → g' ≡ overwrite (a ∷ b ∷ []) g
 unfolding overwrite
-put-two a b [] g′ h e = absurd (omega arith)
-put-two a b (x ∷ []) g′ h e = absurd (omega arith)
-put-two a b (x ∷ y ∷ g) g′ h e = e
+put_two a b [] g' h e = absurd (omega arith)
+put_two a b (x ∷ []) g' h e = absurd (omega arith)
+put_two a b (x ∷ y ∷ g) g' h e = e
 
-pub put-three : (a b c : ℕ) (g g′ : List ℕ) → 3 ≤ length g → g′ ≡ overwrite (a ∷ b ∷ []) (set g 2 c) → g′ ≡ overwrite (a ∷ b ∷ c ∷ []) g
+pub put_three : (a b c : ℕ) (g g' : List ℕ) → 3 ≤ length g → g' ≡ overwrite (a ∷ b ∷ []) (set g 2 c) → g' ≡ overwrite (a ∷ b ∷ c ∷ []) g
 unfolding overwrite
-put-three a b c [] g′ h e = absurd (omega arith)
-put-three a b c (x ∷ []) g′ h e = absurd (omega arith)
-put-three a b c (x ∷ y ∷ []) g′ h e = absurd (omega arith)
-put-three a b c (x ∷ y ∷ z ∷ g) g′ h e = e
+put_three a b c [] g' h e = absurd (omega arith)
+put_three a b c (x ∷ []) g' h e = absurd (omega arith)
+put_three a b c (x ∷ y ∷ []) g' h e = absurd (omega arith)
+put_three a b c (x ∷ y ∷ z ∷ g) g' h e = e
 
 pub flag-yes : (b : Bool) → b ≡ true → 1 ≡ flag b
 unfolding flag
@@ -93,119 +93,119 @@ unfolding flag
 flag-no b e = rw e
 
 -- What is told of an answer a that is b, read by `of`: of values, and of a refusal.
-module _ {A : Type 0} (of : A → Returned) (a b : A) (c : ℕ) (g g′ : List ℕ) where
-  pub told-value : (vs : List ℕ) → (c ≡ 0) × (g′ ≡ overwrite vs g) → of b ≡ given vs → a ≡ b → Told c g g′ (of a)
-  unfolding code givenAfter given
-  told-value vs q e i = rw (i, e, q .0) (refl, q .1)
+module _ {A : Type 0} (of : A → Returned) (a b : A) (c : ℕ) (g g' : List ℕ) where
+  pub told-value : (vs : List ℕ) → (c ≡ 0) × (g' ≡ overwrite vs g) → of b ≡ given vs → a ≡ b → Told c g g' (of a)
+  unfolding code given_after given
+  told-value vs q e i = rw (i, e, q.0) (refl, q.1)
 
-  pub told-refused : (f : Refusal) → g′ ≡ g → c ≡ number f → Narrow f → of b ≡ returned f → a ≡ b → Told c g g′ (of a)
-  unfolding givenAfter returned overwrite
+  pub told-refused : (f : Refusal) → g' ≡ g → c ≡ number f → Narrow f → of b ≡ returned f → a ≡ b → Told c g g' (of a)
+  unfolding given_after returned overwrite
   told-refused f u q h e i = rw (i, e, u) (q ∙ number-code f h, refl)
 
 -- The flag of a page is a number of its own.
-pub told-page : (a : ListAnswer) (n m : ℕ) (b : Bool) (c : ℕ) (g g′ : List ℕ) → m ≡ flag b → (c ≡ 0) × (g′ ≡ overwrite (n ∷ m ∷ []) g) → a ≡ Page n b
-    → Told c g g′ (ofList a)
-unfolding ofList
-told-page a n m b c g g′ k p q = told-value ofList a (Page n b) c g g′ (n ∷ m ∷ []) p (rw k) q
+pub told-page : (a : ListAnswer) (n m : ℕ) (b : Bool) (c : ℕ) (g g' : List ℕ) → m ≡ flag b → (c ≡ 0) × (g' ≡ overwrite (n ∷ m ∷ []) g) → a ≡ Page n b
+    → Told c g g' (of_list a)
+unfolding of_list
+told-page a n m b c g g' k p q = told-value of_list a (Page n b) c g g' (n ∷ m ∷ []) p (rw k) q
 
 -- The halves of a sum are numbers of their own, and a refusal may have a place of more than 32 bits.
-pub told-tenths : (a : QuickestAnswer) (n x y c : ℕ) (g g′ : List ℕ) → (c ≡ 0) × (g′ ≡ overwrite (1 ∷ x ∷ y ∷ []) g) → a ≡ Tenths n
-    → x ≡ n % 4294967296 → y ≡ n / 4294967296 → Told c g g′ (ofQuickest a)
-unfolding ofQuickest halves
-told-tenths a n x y c g g′ p q k l = told-value ofQuickest a (Tenths n) c g g′ (1 ∷ x ∷ y ∷ []) p (rw (k, l)) q
+pub told-tenths : (a : QuickestAnswer) (n x y c : ℕ) (g g' : List ℕ) → (c ≡ 0) × (g' ≡ overwrite (1 ∷ x ∷ y ∷ []) g) → a ≡ Tenths n
+    → x ≡ n % 4294967296 → y ≡ n / 4294967296 → Told c g g' (of_quickest a)
+unfolding of_quickest halves
+told-tenths a n x y c g g' p q k l = told-value of_quickest a (Tenths n) c g g' (1 ∷ x ∷ y ∷ []) p (rw (k, l)) q
 
-pub told-placed : (a : QuickestAnswer) (n p c : ℕ) (g g′ : List ℕ) → g′ ≡ g → c ≡ n * 4294967296 + min p 4294967295 → a ≡ Untimed n p
-    → Told c g g′ (ofQuickest a)
-unfolding ofQuickest code givenAfter returned refusal overwrite
-told-placed a n p c g g′ u q i = rw (i, u) (q, refl)
+pub told-placed : (a : QuickestAnswer) (n p c : ℕ) (g g' : List ℕ) → g' ≡ g → c ≡ n * 4294967296 + min p 4294967295 → a ≡ Untimed n p
+    → Told c g g' (of_quickest a)
+unfolding of_quickest code given_after returned refusal overwrite
+told-placed a n p c g g' u q i = rw (i, u) (q, refl)
 
 -- Whether `given` is long enough, for a question that writes no list, and for one that does.
 module _ (g : List ℕ) (v : Verdict) where
-  is-short : {A : Type 0} (refuse : Refusal → A) (a : A) → length g < 3 → withGiven g v refuse a ≡ onAccepted v refuse (refuse (refusal 11 0))
-  unfolding withGiven
-  is-short refuse a h = lt-then _ _ _ _ h
+  is-short : {A : Type 0} (refuse : Refusal → A) (a : A) → length g < 3 → with_given g v refuse a ≡ on_accepted v refuse (refuse (refusal 11 0))
+  unfolding with_given
+  is-short refuse a h = lt_then _ _ _ _ h
 
-  is-long : {A : Type 0} (refuse : Refusal → A) (a : A) → 3 ≤ length g → withGiven g v refuse a ≡ a
-  unfolding withGiven
-  is-long refuse a h = lt-else _ _ _ _ h
+  is-long : {A : Type 0} (refuse : Refusal → A) (a : A) → 3 ≤ length g → with_given g v refuse a ≡ a
+  unfolding with_given
+  is-long refuse a h = lt_else _ _ _ _ h
 
-  no-answer : (w : Verdict) → givenAfter (onAccepted w (λ f. returned f) (returned (refusal 11 0))) g ≡ g
-  unfolding givenAfter onAccepted returned overwrite
-  no-answer Accepted = refl
-  no-answer (Refused f) = refl
+  no_answer : (w : Verdict) → given_after (on_accepted w (λ f. returned f) (returned (refusal 11 0))) g ≡ g
+  unfolding given_after on_accepted returned overwrite
+  no_answer Accepted = refl
+  no_answer (Refused f) = refl
 
-  told-short : (c : ℕ) → c ≡ shortOf v → Told c g g (onAccepted v (λ f. returned f) (returned (refusal 11 0)))
-  unfolding shortOf
-  told-short c e = (e, sym (no-answer v))
+  told-short : (c : ℕ) → c ≡ short_of v → Told c g g (on_accepted v (λ f. returned f) (returned (refusal 11 0)))
+  unfolding short_of
+  told-short c e = (e, sym (no_answer v))
 
-  pub tell-short : (r : Returned) (c : ℕ) → length g < 3 → c ≡ shortOf v → Told c g g (withGiven g v (λ f. returned f) r)
-  tell-short r c h e = rw (is-short (λ f. returned f) r h) (told-short c e)
+  pub tell_short : (r : Returned) (c : ℕ) → length g < 3 → c ≡ short_of v → Told c g g (with_given g v (λ f. returned f) r)
+  tell_short r c h e = rw (is-short (λ f. returned f) r h) (told-short c e)
 
-  pub tell : (r r′ : Returned) (c : ℕ) (g′ : List ℕ) → 3 ≤ length g → r′ ≡ r → Told c g g′ r′ → Told c g g′ (withGiven g v (λ f. returned f) r)
-  tell r r′ c g′ h e t = rw (is-long (λ f. returned f) r h, ← e) t
+  pub tell : (r r' : Returned) (c : ℕ) (g' : List ℕ) → 3 ≤ length g → r' ≡ r → Told c g g' r' → Told c g g' (with_given g v (λ f. returned f) r)
+  tell r r' c g' h e t = rw (is-long (λ f. returned f) r h, ← e) t
 
   refused-also : (lent : List ℕ) (w : Verdict)
-      → onAccepted w (λ f. refuse f lent) (refuse (refusal 11 0) lent) ≡ outcome (onAccepted w (λ f. returned f) (returned (refusal 11 0))) lent
-  unfolding onAccepted refuse
+      → on_accepted w (λ f. refuse f lent) (refuse (refusal 11 0) lent) ≡ outcome (on_accepted w (λ f. returned f) (returned (refusal 11 0))) lent
+  unfolding on_accepted refuse
   refused-also lent Accepted = refl
   refused-also lent (Refused f) = refl
 
-  pub wrote-short : (lent : List ℕ) (o : Outcome) (c : ℕ) → length g < 3 → c ≡ shortOf v → Wrote c g g lent (withGiven g v (λ f. refuse f lent) o)
-  wrote-short lent o c h e = rw (is-short (λ f. refuse f lent) o h, refused-also lent v) (told-short c e, refl)
+  pub wrote_short : (lent : List ℕ) (o : Outcome) (c : ℕ) → length g < 3 → c ≡ short_of v → Wrote c g g lent (with_given g v (λ f. refuse f lent) o)
+  wrote_short lent o c h e = rw (is-short (λ f. refuse f lent) o h, refused-also lent v) (told-short c e, refl)
 
-  pub wrote : (lent : List ℕ) (o : Outcome) (r : Returned) (c : ℕ) (g′ after : List ℕ) → 3 ≤ length g → outcome r after ≡ o → Told c g g′ r
-      → Wrote c g g′ after (withGiven g v (λ f. refuse f lent) o)
-  wrote lent o r c g′ after h e t = rw (is-long (λ f. refuse f lent) o h, ← e) (t, refl)
+  pub wrote : (lent : List ℕ) (o : Outcome) (r : Returned) (c : ℕ) (g' after : List ℕ) → 3 ≤ length g → outcome r after ≡ o → Told c g g' r
+      → Wrote c g g' after (with_given g v (λ f. refuse f lent) o)
+  wrote lent o r c g' after h e t = rw (is-long (λ f. refuse f lent) o h, ← e) (t, refl)
 
 -- Reading: a list of one number has no room for a row.
-one-short : (f : List ℕ) (xs : List ℕ) → fileVerdict f ≡ Accepted → readFile f ≡ Numbers xs → 1 < length xs
-unfolding rowCount
+one-short : (f : List ℕ) (xs : List ℕ) → file_verdict f ≡ Accepted → read_file f ≡ Numbers xs → 1 < length xs
+unfolding row_count
 one-short f xs v e =
     let (ys, q, w) = accepted-file f v in
     let same : xs ≡ ys = cc (sym e ∙ q) in
     let s = accepted-show ys w in
-    rw same (omega (arith, s .rows .0))
+    rw same (omega (arith, s.rows.0))
 
-none-read : (f : List ℕ) (x : ℕ) (v : Verdict) → fileVerdict f ≡ v → readAsked f (x ∷ []) .answer ≡ onAccepted v (λ r. returned r) (returned (refusal 11 0))
-unfolding readAsked onAccepted readInto withRoom refuse numbersOf
-none-read f x Accepted e =
+none_read : (f : List ℕ) (x : ℕ) (v : Verdict) → file_verdict f ≡ v → (read_asked f (x ∷ [])).answer ≡ on_accepted v (λ r. returned r) (returned (refusal 11 0))
+unfolding read_asked on_accepted read_into with_room refuse numbers_of
+none_read f x Accepted e =
     let (ys, q, w) = accepted-file f e in
-    rw (e, q, lt-then (length (x ∷ [])) (length ys) _ _ (one-short f ys e q))
-none-read f x (Refused r) e = rw e
+    rw (e, q, lt_then (length (x ∷ [])) (length ys) _ _ (one-short f ys e q))
+none_read f x (Refused r) e = rw e
 
-none-read-desk : (f : List ℕ) (x : ℕ) (v : Verdict) → deskFileVerdict f ≡ v
-    → deskReadAsked f (x ∷ []) .answer ≡ onAccepted v (λ r. returned r) (returned (refusal 11 0))
-unfolding deskReadAsked onAccepted readInto withRoom refuse
-none-read-desk f x Accepted e =
-    let ys : List ℕ = numbersOf (readFile f) in
-    rw (e, lt-then (length (x ∷ [])) (length (withDesk ys)) _ _ (omega (arith, with-length ys)))
-none-read-desk f x (Refused r) e = rw e
+none-read_desk : (f : List ℕ) (x : ℕ) (v : Verdict) → desk_file_verdict f ≡ v
+    → (desk_read_asked f (x ∷ [])).answer ≡ on_accepted v (λ r. returned r) (returned (refusal 11 0))
+unfolding desk_read_asked on_accepted read_into with_room refuse
+none-read_desk f x Accepted e =
+    let ys : List ℕ = numbers_of (read_file f) in
+    rw (e, lt_then (length (x ∷ [])) (length (with_desk ys)) _ _ (omega (arith, with_length ys)))
+none-read_desk f x (Refused r) e = rw e
 
 -- What is said of a file there.
 abbrev NoneRead : ReadAnswer → Verdict → Type 0
-NoneRead a v = ofRead a ≡ onAccepted v (λ r. returned r) (returned (refusal 11 0))
+NoneRead a v = of_read a ≡ on_accepted v (λ r. returned r) (returned (refusal 11 0))
 
 module _ (f : List ℕ) (x : ℕ) (a : ReadAnswer) (after : List ℕ) where
-  pub not-read-first : outcome (ofRead a) after ≡ readAsked f (x ∷ []) → NoneRead a (fileVerdict f)
-  not-read-first e = ap (λ (o : Outcome). o .answer) e ∙ none-read f x (fileVerdict f) refl
+  pub not-read_first : outcome (of_read a) after ≡ read_asked f (x ∷ []) → NoneRead a (file_verdict f)
+  not-read_first e = ap (λ (o : Outcome). o.answer) e ∙ none_read f x (file_verdict f) refl
 
-  pub not-read-second : outcome (ofRead a) after ≡ deskReadAsked f (x ∷ []) → NoneRead a (deskFileVerdict f)
-  not-read-second e = ap (λ (o : Outcome). o .answer) e ∙ none-read-desk f x (deskFileVerdict f) refl
+  pub not-read_second : outcome (of_read a) after ≡ desk_read_asked f (x ∷ []) → NoneRead a (desk_file_verdict f)
+  not-read_second e = ap (λ (o : Outcome). o.answer) e ∙ none-read_desk f x (desk_file_verdict f) refl
 
-pub not-read-refused : (a : ReadAnswer) (v : Verdict) → NoneRead a v → IsRefused (ofRead a)
-unfolding onAccepted
-not-read-refused a Accepted e = record { told = refusal 11 0; said = e }
-not-read-refused a (Refused r) e = record { told = r; said = e }
+pub not-read_refused : (a : ReadAnswer) (v : Verdict) → NoneRead a v → IsRefused (of_read a)
+unfolding on_accepted
+not-read_refused a Accepted e = record { told = refusal 11 0; said = e }
+not-read_refused a (Refused r) e = record { told = r; said = e }
 
-pub not-read-code : (a : ReadAnswer) (v : Verdict) (c : ℕ) → NoneRead a v → c ≡ code (ofRead a) → c ≡ shortOf v
-unfolding shortOf
-not-read-code a v c e h = h ∙ ap code e
+pub not-read_code : (a : ReadAnswer) (v : Verdict) (c : ℕ) → NoneRead a v → c ≡ code (of_read a) → c ≡ short_of v
+unfolding short_of
+not-read_code a v c e h = h ∙ ap code e
 
 -- An answer is no refusal; and the number of a refusal.
-pub never-answered : (a : ReadAnswer) (k l m c : ℕ) → IsRefused (ofRead a) → a ≡ Read k l m → c ≡ code (ofRead a)
-unfolding ofRead
-never-answered a k l m c s q = absurd (no-values k (l ∷ m ∷ []) (s .told) (rw q at (s .said)))
+pub never_answered : (a : ReadAnswer) (k l m c : ℕ) → IsRefused (of_read a) → a ≡ Read k l m → c ≡ code (of_read a)
+unfolding of_read
+never_answered a k l m c s q = absurd (no_values k (l ∷ m ∷ []) s.told (rw q at s.said))
 
-pub not-read-is : (a : ReadAnswer) (r : Refusal) (c : ℕ) → a ≡ ReadRefused r → c ≡ number r → Narrow r → c ≡ code (ofRead a)
-unfolding ofRead
-not-read-is a r c q h k = rw q (h ∙ number-code r k)
+pub not-read_is : (a : ReadAnswer) (r : Refusal) (c : ℕ) → a ≡ ReadRefused r → c ≡ number r → Narrow r → c ≡ code (of_read a)
+unfolding of_read
+not-read_is a r c q h k = rw q (h ∙ number-code r k)

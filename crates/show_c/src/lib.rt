@@ -1,46 +1,40 @@
 // The show library for C and Rust. Numbers pass as themselves, and a slice as a pointer and a length in elements. Each function returns 0
 // for an answer, whose values then stand first in `given`, or the refusal's number and place. The promises are those of the library.
-ghost use mathlib.Core.Path.{_≡_};
-ghost use mathlib.Core.List.{[], _∷_};
-ghost use Prim.Native.Nat.{_+_, _*_, _/_, _%_, _≤_, _<_, min};
-ghost use lib.ListN.{length};
-ghost use Rattle·model.specs.Lists.{overwrite};
-ghost use Rattle·model.specs.Answers.{flag, ofRead, ofList};
-ghost use Rattle·model.specs.Verdicts.{verdict, fileVerdict};
-ghost use Rattle·model.specs.Desk.{deskFileVerdict};
-ghost use Rattle·model.specs.Questions.{readAsked, deskReadAsked, writeAsked, countAsked, locateAsked, numberAsked, outAsked, inAsked, rowAsked, fewestAsked, quickestAsked};
-ghost use Rattle·show_c·specs.specs.Interface.{givenSize, code, IsRefused, shortOf, Told, Answers, AnswersInto};
-use model::CountAnswer;
-use model::FewestAnswer;
-use model::ListAnswer;
-use model::LocateAnswer;
-use model::NumberAnswer;
-use model::QuickestAnswer;
-use model::ReadAnswer;
-use model::Refusal;
-use model::RowAnswer;
-use model::WriteAnswer;
+#![tactic(auto)]
+
+ghost use Rattle.std.specs.Prelude.{◌≡◌, [], ◌∷◌, ◌+◌, ◌*◌, ◌/◌, ◌%◌, ◌≤◌, ◌<◌, min, length};
+ghost use Rattle.model.specs.Lists.{overwrite};
+ghost use Rattle.model.specs.Answers.{flag, of_read, of_list};
+ghost use Rattle.model.specs.Verdicts.{verdict, file_verdict};
+ghost use Rattle.model.specs.Desk.{desk_file_verdict};
+ghost use Rattle.model.specs.Questions.{read_asked, desk_read_asked, write_asked, count_asked, locate_asked, number_asked, out_asked, in_asked, row_asked, fewest_asked, quickest_asked};
+ghost use Rattle.show_c.specs.Interface.{given_size, code, IsRefused, short_of, Told, Answers, AnswersInto};
+
+use model::{
+    CountAnswer, FewestAnswer, ListAnswer, LocateAnswer, NumberAnswer, QuickestAnswer, ReadAnswer,
+    Refusal, RowAnswer, WriteAnswer,
+};
 
 // The least length of `given`.
 const GIVEN_SIZE: usize = 3;
 
 // A number of 32 bits in 64.
 fn long(x: u32) -> u64
-    ensures { λ r. ⌜ (r ≡ x) × (r < 4294967296) ⌝ }
+    ensures { (result ≡ x) × (result < 4294967296) }
 {
     x as u64
 }
 
 // A refusal as one number.
 fn refused(r: Refusal) -> u64
-    ensures { λ c. ⌜ c ≡ r .number * 4294967296 + r .place ⌝ }
+    ensures { result ≡ r.number * 4294967296 + r.place }
 {
     long(r.number) * 4294967296 + long(r.place)
 }
 
 // A place of 64 bits in 32: one that has no room there is the largest that has.
 fn capped(place: u64) -> u64
-    ensures { λ r. ⌜ r ≡ min place 4294967295 ⌝ }
+    ensures { result ≡ min place 4294967295 }
 {
     if place < 4294967295 {
         return place;
@@ -50,27 +44,27 @@ fn capped(place: u64) -> u64
 
 // A refusal with such a place, as one number.
 fn refused_at(number: u32, place: u64) -> u64
-    ensures { λ c. ⌜ c ≡ number * 4294967296 + min place 4294967295 ⌝ }
+    ensures { result ≡ number * 4294967296 + min place 4294967295 }
 {
     long(number) * 4294967296 + capped(place)
 }
 
 // The lower and the upper half of a number of 64 bits.
 fn low(x: u64) -> u32
-    ensures { λ r. ⌜ r ≡ x % 4294967296 ⌝ }
+    ensures { result ≡ x % 4294967296 }
 {
     (x % 4294967296) as u32
 }
 
 fn high(x: u64) -> u32
-    ensures { λ r. ⌜ r ≡ x / 4294967296 ⌝ }
+    ensures { result ≡ x / 4294967296 }
 {
     (x / 4294967296) as u32
 }
 
 // What is said of rows where `given` is too short.
 fn short_rows(rows: &[u32]) -> u64
-    ensures { λ c. ⌜ c ≡ shortOf (verdict (now (rows .entry))) ⌝ }
+    ensures { result ≡ short_of (verdict rows.now) }
 {
     match show::count(rows) {
         CountAnswer::Cues(_) => 47244640256,
@@ -80,8 +74,8 @@ fn short_rows(rows: &[u32]) -> u64
 
 // The refusal of a file that was read to a list of one number, which has room for no row: it is never answered.
 fn not_read(answer: ReadAnswer) -> u64
-    requires { ⌜ IsRefused (ofRead answer) ⌝ }
-    ensures { λ c. ⌜ c ≡ code (ofRead answer) ⌝ }
+    requires { IsRefused (of_read answer) }
+    ensures { result ≡ code (of_read answer) }
 {
     match answer {
         ReadAnswer::Read(_, _, _) => 0,
@@ -91,14 +85,14 @@ fn not_read(answer: ReadAnswer) -> u64
 
 // What is said of a file where `given` is too short, read the first way and the second.
 fn short_file(file: &[u8]) -> u64
-    ensures { λ c. ⌜ c ≡ shortOf (fileVerdict (now (file .entry))) ⌝ }
+    ensures { result ≡ short_of (file_verdict file.now) }
 {
     let mut none = [0u32; 1];
     not_read(show::read(file, &mut none))
 }
 
 fn short_desk_file(file: &[u8]) -> u64
-    ensures { λ c. ⌜ c ≡ shortOf (deskFileVerdict (now (file .entry))) ⌝ }
+    ensures { result ≡ short_of (desk_file_verdict file.now) }
 {
     let mut none = [0u32; 1];
     not_read(show::read_desk(file, &mut none))
@@ -106,7 +100,7 @@ fn short_desk_file(file: &[u8]) -> u64
 
 // 1 for yes, 0 for no.
 fn flag_of(yes: bool) -> u32
-    ensures { λ r. ⌜ r ≡ flag yes ⌝ }
+    ensures { result ≡ flag yes }
 {
     if yes {
         return 1;
@@ -116,24 +110,24 @@ fn flag_of(yes: bool) -> u32
 
 // Values told: they stand first in `given`, and 0 is returned.
 fn tell_1(given: &mut [u32], a: u32) -> u64
-    requires { ⌜ givenSize ≤ length (now given) ⌝ }
-    ensures { λ r. ⌜ (r ≡ 0) × (now (given .exit) ≡ overwrite (a ∷ []) (now (given .entry))) ⌝ }
+    requires { given_size ≤ length given.old }
+    ensures { (result ≡ 0) × (given.new ≡ overwrite (a ∷ []) given.old) }
 {
     given[0] = a;
     0
 }
 
 fn tell_2(given: &mut [u32], a: u32, b: u32) -> u64
-    requires { ⌜ givenSize ≤ length (now given) ⌝ }
-    ensures { λ r. ⌜ (r ≡ 0) × (now (given .exit) ≡ overwrite (a ∷ b ∷ []) (now (given .entry))) ⌝ }
+    requires { given_size ≤ length given.old }
+    ensures { (result ≡ 0) × (given.new ≡ overwrite (a ∷ b ∷ []) given.old) }
 {
     given[1] = b;
     tell_1(given, a)
 }
 
 fn tell_3(given: &mut [u32], a: u32, b: u32, c: u32) -> u64
-    requires { ⌜ givenSize ≤ length (now given) ⌝ }
-    ensures { λ r. ⌜ (r ≡ 0) × (now (given .exit) ≡ overwrite (a ∷ b ∷ c ∷ []) (now (given .entry))) ⌝ }
+    requires { given_size ≤ length given.old }
+    ensures { (result ≡ 0) × (given.new ≡ overwrite (a ∷ b ∷ c ∷ []) given.old) }
 {
     given[2] = c;
     tell_2(given, a, b)
@@ -141,8 +135,8 @@ fn tell_3(given: &mut [u32], a: u32, b: u32, c: u32) -> u64
 
 // What is told of a file that was read: rows, blocks, cues.
 fn tell_read(answer: ReadAnswer, given: &mut [u32]) -> u64
-    requires { ⌜ givenSize ≤ length (now given) ⌝ }
-    ensures { λ c. ⌜ Told c (now (given .entry)) (now (given .exit)) (ofRead answer) ⌝ }
+    requires { given_size ≤ length given.old }
+    ensures { Told result given.old given.new (of_read answer) }
 {
     match answer {
         ReadAnswer::Read(many, blocks, cues) => tell_3(given, many, blocks, cues),
@@ -152,8 +146,8 @@ fn tell_read(answer: ReadAnswer, given: &mut [u32]) -> u64
 
 // What is told of a list: cues written, whether there are more (0 or 1).
 fn tell_page(answer: ListAnswer, given: &mut [u32]) -> u64
-    requires { ⌜ givenSize ≤ length (now given) ⌝ }
-    ensures { λ c. ⌜ Told c (now (given .entry)) (now (given .exit)) (ofList answer) ⌝ }
+    requires { given_size ≤ length given.old }
+    ensures { Told result given.old given.new (of_list answer) }
 {
     match answer {
         ListAnswer::Page(written, more) => tell_2(given, written, flag_of(more)),
@@ -162,9 +156,9 @@ fn tell_page(answer: ListAnswer, given: &mut [u32]) -> u64
 }
 
 // given: cues
-#[no_mangle]
+#[unsafe(no_mangle)]
 pub extern "C" fn show_count(rows: &[u32], given: &mut [u32]) -> u64
-    ensures { λ c. ⌜ Answers c given (verdict (now (rows .entry))) (countAsked (now (rows .entry))) ⌝ }
+    ensures { Answers result given (verdict rows.now) (count_asked rows.now) }
 {
     if given.len() < GIVEN_SIZE {
         return short_rows(rows);
@@ -176,9 +170,9 @@ pub extern "C" fn show_count(rows: &[u32], given: &mut [u32]) -> u64
 }
 
 // given: number
-#[no_mangle]
+#[unsafe(no_mangle)]
 pub extern "C" fn show_number(rows: &[u32], path: &[u32], own: u32, given: &mut [u32]) -> u64
-    ensures { λ c. ⌜ Answers c given (verdict (now (rows .entry))) (numberAsked (now (rows .entry)) (now (path .entry)) own) ⌝ }
+    ensures { Answers result given (verdict rows.now) (number_asked rows.now path.now own) }
 {
     if given.len() < GIVEN_SIZE {
         return short_rows(rows);
@@ -190,9 +184,9 @@ pub extern "C" fn show_number(rows: &[u32], path: &[u32], own: u32, given: &mut 
 }
 
 // given: depth, block, own cue
-#[no_mangle]
+#[unsafe(no_mangle)]
 pub extern "C" fn show_locate(rows: &[u32], n: u32, path: &mut [u32], given: &mut [u32]) -> u64
-    ensures { λ c. ⌜ AnswersInto c given path (verdict (now (rows .entry))) (locateAsked (now (rows .entry)) n) ⌝ }
+    ensures { AnswersInto result given path (verdict rows.now) (locate_asked rows.now n) }
 {
     if given.len() < GIVEN_SIZE {
         return short_rows(rows);
@@ -204,9 +198,9 @@ pub extern "C" fn show_locate(rows: &[u32], n: u32, path: &mut [u32], given: &mu
 }
 
 // given: length
-#[no_mangle]
+#[unsafe(no_mangle)]
 pub extern "C" fn show_write(rows: &[u32], out: &mut [u8], given: &mut [u32]) -> u64
-    ensures { λ c. ⌜ AnswersInto c given out (verdict (now (rows .entry))) (writeAsked (now (rows .entry))) ⌝ }
+    ensures { AnswersInto result given out (verdict rows.now) (write_asked rows.now) }
 {
     if given.len() < GIVEN_SIZE {
         return short_rows(rows);
@@ -218,9 +212,9 @@ pub extern "C" fn show_write(rows: &[u32], out: &mut [u8], given: &mut [u32]) ->
 }
 
 // given: rows, blocks, cues
-#[no_mangle]
+#[unsafe(no_mangle)]
 pub extern "C" fn show_read(file: &[u8], rows: &mut [u32], given: &mut [u32]) -> u64
-    ensures { λ c. ⌜ AnswersInto c given rows (fileVerdict (now (file .entry))) (readAsked (now (file .entry))) ⌝ }
+    ensures { AnswersInto result given rows (file_verdict file.now) (read_asked file.now) }
 {
     if given.len() < GIVEN_SIZE {
         return short_file(file);
@@ -229,9 +223,9 @@ pub extern "C" fn show_read(file: &[u8], rows: &mut [u32], given: &mut [u32]) ->
 }
 
 // given: rows, blocks, cues
-#[no_mangle]
+#[unsafe(no_mangle)]
 pub extern "C" fn show_read_desk(file: &[u8], rows: &mut [u32], given: &mut [u32]) -> u64
-    ensures { λ c. ⌜ AnswersInto c given rows (deskFileVerdict (now (file .entry))) (deskReadAsked (now (file .entry))) ⌝ }
+    ensures { AnswersInto result given rows (desk_file_verdict file.now) (desk_read_asked file.now) }
 {
     if given.len() < GIVEN_SIZE {
         return short_desk_file(file);
@@ -240,7 +234,7 @@ pub extern "C" fn show_read_desk(file: &[u8], rows: &mut [u32], given: &mut [u32
 }
 
 // given: cues written, whether there are more (0 or 1)
-#[no_mangle]
+#[unsafe(no_mangle)]
 pub extern "C" fn show_list_out(
     rows: &[u32],
     v: u32,
@@ -248,7 +242,7 @@ pub extern "C" fn show_list_out(
     page: &mut [u32],
     given: &mut [u32],
 ) -> u64
-    ensures { λ c. ⌜ AnswersInto c given page (verdict (now (rows .entry))) (outAsked (now (rows .entry)) v n) ⌝ }
+    ensures { AnswersInto result given page (verdict rows.now) (out_asked rows.now v n) }
 {
     if given.len() < GIVEN_SIZE {
         return short_rows(rows);
@@ -257,7 +251,7 @@ pub extern "C" fn show_list_out(
 }
 
 // given: cues written, whether there are more (0 or 1)
-#[no_mangle]
+#[unsafe(no_mangle)]
 pub extern "C" fn show_list_in(
     rows: &[u32],
     v: u32,
@@ -265,7 +259,7 @@ pub extern "C" fn show_list_in(
     page: &mut [u32],
     given: &mut [u32],
 ) -> u64
-    ensures { λ c. ⌜ AnswersInto c given page (verdict (now (rows .entry))) (inAsked (now (rows .entry)) v n) ⌝ }
+    ensures { AnswersInto result given page (verdict rows.now) (in_asked rows.now v n) }
 {
     if given.len() < GIVEN_SIZE {
         return short_rows(rows);
@@ -274,9 +268,9 @@ pub extern "C" fn show_list_in(
 }
 
 // given: row, depth
-#[no_mangle]
+#[unsafe(no_mangle)]
 pub extern "C" fn show_row(rows: &[u32], s: u32, t: u32, path: &mut [u32], given: &mut [u32]) -> u64
-    ensures { λ c. ⌜ AnswersInto c given path (verdict (now (rows .entry))) (rowAsked (now (rows .entry)) s t) ⌝ }
+    ensures { AnswersInto result given path (verdict rows.now) (row_asked rows.now s t) }
 {
     if given.len() < GIVEN_SIZE {
         return short_rows(rows);
@@ -288,7 +282,7 @@ pub extern "C" fn show_row(rows: &[u32], s: u32, t: u32, path: &mut [u32], given
 }
 
 // given: whether there is a chain (0 or 1), which has no note, and its follow-ons (0 where there is none)
-#[no_mangle]
+#[unsafe(no_mangle)]
 pub extern "C" fn show_fewest(
     rows: &[u32],
     s: u32,
@@ -296,7 +290,7 @@ pub extern "C" fn show_fewest(
     work: &mut [u32],
     given: &mut [u32],
 ) -> u64
-    ensures { λ c. ⌜ AnswersInto c given work (verdict (now (rows .entry))) (fewestAsked (now (rows .entry)) s t) ⌝ }
+    ensures { AnswersInto result given work (verdict rows.now) (fewest_asked rows.now s t) }
 {
     if given.len() < GIVEN_SIZE {
         return short_rows(rows);
@@ -309,7 +303,7 @@ pub extern "C" fn show_fewest(
 }
 
 // given: whether there is a chain without notes (0 or 1), and the lower and the upper 32 bits of the smallest sum of waits (0 and 0 where there is none)
-#[no_mangle]
+#[unsafe(no_mangle)]
 pub extern "C" fn show_quickest(
     rows: &[u32],
     s: u32,
@@ -318,7 +312,7 @@ pub extern "C" fn show_quickest(
     work: &mut [u64],
     given: &mut [u32],
 ) -> u64
-    ensures { λ c. ⌜ AnswersInto c given work (verdict (now (rows .entry))) (quickestAsked (now (rows .entry)) s t (now (file .entry))) ⌝ }
+    ensures { AnswersInto result given work (verdict rows.now) (quickest_asked rows.now s t file.now) }
 {
     if given.len() < GIVEN_SIZE {
         return short_rows(rows);

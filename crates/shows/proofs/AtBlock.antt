@@ -1,48 +1,48 @@
 -- What each function over a list of blocks gives at the list's first block (hit) and at the blocks behind that (skip), so that no other
 -- file has to open its definition.
-use Prim.Native.Nat.{ℕ, _+_, _-_, _≤_}
+use Prim.Native.Nat.{ℕ, ◌+◌, ◌-◌, ◌≤◌}
 use native.Mathlib.Omega.{arith}
-use native.Mathlib.Decide.{ℕ-discrete}
-use mathlib.Core.Path.{_≡_, refl, _∙_, ap}
-use mathlib.Core.Logic.{_≢_}
+use native.Mathlib.Decide.{ℕ_discrete}
+use mathlib.Core.Path.{◌≡◌, refl, ◌∙◌, ap}
+use mathlib.Core.Logic.{◌≢◌}
 use mathlib.Core.Bool.{true, false}
-use mathlib.Core.List.{List, [], _∷_, _++_, map}
+use mathlib.Core.List.{List, [], ◌∷◌, ◌++◌, map}
 use lib.ListN.{length}
 use lib.Dec.{eqb}
-use borrow.Author.Tests.{eq-eqb, ne-eqb}
-use Rattle·model.specs.Choice.{ifLt}
-use Rattle·model.specs.Limits.{maxJoins, maxOwn}
-use Rattle·model.specs.Blocks.{Block, noBlock, blockAt, joinsOf, ownOf, sumOver, total}
-use Rattle·model.specs.Unfolding.{cueAt, renamed, usesLinks, links}
-use Rattle·model.specs.Paths.{copyNumber, numberIn, usesPlace, placeIn}
-use Rattle·shows·specs.specs.WellFormed.{Small, small-none, small-more}
+use borrow.Author.Tests.{eq-eqb, ne_eqb}
+use Rattle.model.specs.Choice.{if_lt}
+use Rattle.model.specs.Limits.{max_joins, max_own}
+use Rattle.model.specs.Blocks.{Block, no_block, block_at, joins_of, own_of, sum_over, total}
+use Rattle.model.specs.Unfolding.{cue_at, renamed, uses_links, links}
+use Rattle.model.specs.Paths.{copy_number, number_in, uses_place, place_in}
+use Rattle.shows.specs.WellFormed.{Small, small-none, small-more}
 
 module _ (b : Block) (earlier : List Block) (k : ℕ) where
-  pub blockAt-hit : eqb k (length earlier) ≡ true → blockAt (b ∷ earlier) k ≡ b
-  unfolding blockAt
-  blockAt-hit e = rw (e, blockAt)
+  pub block_at_hit : eqb k (length earlier) ≡ true → block_at (b ∷ earlier) k ≡ b
+  unfolding block_at
+  block_at_hit e = rw (e, block_at)
 
-  pub blockAt-skip : eqb k (length earlier) ≡ false → blockAt (b ∷ earlier) k ≡ blockAt earlier k
-  unfolding blockAt
-  blockAt-skip e = rw (e, blockAt)
+  pub block_at_skip : eqb k (length earlier) ≡ false → block_at (b ∷ earlier) k ≡ block_at earlier k
+  unfolding block_at
+  block_at_skip e = rw (e, block_at)
 
-  pub joinsOf-hit : eqb k (length earlier) ≡ true → joinsOf (b ∷ earlier) k ≡ b .joins
-  unfolding joinsOf
-  joinsOf-hit e = ap (λ (c : Block). c .joins) (blockAt-hit e)
+  pub joins_of-hit : eqb k (length earlier) ≡ true → joins_of (b ∷ earlier) k ≡ b.joins
+  unfolding joins_of
+  joins_of-hit e = ap (λ (c : Block). c.joins) (block_at_hit e)
 
-  pub joinsOf-skip : eqb k (length earlier) ≡ false → joinsOf (b ∷ earlier) k ≡ joinsOf earlier k
-  unfolding joinsOf
-  joinsOf-skip e = ap (λ (c : Block). c .joins) (blockAt-skip e)
+  pub joins_of-skip : eqb k (length earlier) ≡ false → joins_of (b ∷ earlier) k ≡ joins_of earlier k
+  unfolding joins_of
+  joins_of-skip e = ap (λ (c : Block). c.joins) (block_at_skip e)
 
-  pub ownOf-hit : eqb k (length earlier) ≡ true → ownOf (b ∷ earlier) k ≡ b .own
-  unfolding ownOf
-  ownOf-hit e = ap (λ (c : Block). c .own) (blockAt-hit e)
+  pub own_of_hit : eqb k (length earlier) ≡ true → own_of (b ∷ earlier) k ≡ b.own
+  unfolding own_of
+  own_of_hit e = ap (λ (c : Block). c.own) (block_at_hit e)
 
-  pub ownOf-skip : eqb k (length earlier) ≡ false → ownOf (b ∷ earlier) k ≡ ownOf earlier k
-  unfolding ownOf
-  ownOf-skip e = ap (λ (c : Block). c .own) (blockAt-skip e)
+  pub own_of_skip : eqb k (length earlier) ≡ false → own_of (b ∷ earlier) k ≡ own_of earlier k
+  unfolding own_of
+  own_of_skip e = ap (λ (c : Block). c.own) (block_at_skip e)
 
-  pub total-hit : eqb k (length earlier) ≡ true → total (b ∷ earlier) k ≡ b .own + sumOver (total earlier) (b .uses)
+  pub total-hit : eqb k (length earlier) ≡ true → total (b ∷ earlier) k ≡ b.own + sum_over (total earlier) b.uses
   unfolding total
   total-hit e = rw (e, total)
 
@@ -52,8 +52,8 @@ module _ (b : Block) (earlier : List Block) (k : ℕ) where
 
   pub links-hit : (base : ℕ) (met : List ℕ) → eqb k (length earlier) ≡ true
       → links (b ∷ earlier) k base met
-      ≡ map (renamed (cueAt (b .own) base met)) (b .links)
-      ++ usesLinks (total earlier) (links earlier) (cueAt (b .own) base met) (base + b .own) (b .uses)
+      ≡ map (renamed (cue_at b.own base met)) b.links
+      ++ uses_links (total earlier) (links earlier) (cue_at b.own base met) (base + b.own) b.uses
   unfolding links
   links-hit base met e = rw (e, links)
 
@@ -62,57 +62,57 @@ module _ (b : Block) (earlier : List Block) (k : ℕ) where
   unfolding links
   links-skip base met e = rw (e, links)
 
-  pub numberIn-hit : (base : ℕ) (path : List ℕ) (c : ℕ) → eqb k (length earlier) ≡ true
-      → numberIn (b ∷ earlier) k base path c ≡ copyNumber (total earlier) (numberIn earlier) b base path c
-  unfolding numberIn
-  numberIn-hit base path c e = rw (e, numberIn)
+  pub number_in_hit : (base : ℕ) (path : List ℕ) (c : ℕ) → eqb k (length earlier) ≡ true
+      → number_in (b ∷ earlier) k base path c ≡ copy_number (total earlier) (number_in earlier) b base path c
+  unfolding number_in
+  number_in_hit base path c e = rw (e, number_in)
 
-  pub numberIn-skip : (base : ℕ) (path : List ℕ) (c : ℕ) → eqb k (length earlier) ≡ false
-      → numberIn (b ∷ earlier) k base path c ≡ numberIn earlier k base path c
-  unfolding numberIn
-  numberIn-skip base path c e = rw (e, numberIn)
+  pub number_in_skip : (base : ℕ) (path : List ℕ) (c : ℕ) → eqb k (length earlier) ≡ false
+      → number_in (b ∷ earlier) k base path c ≡ number_in earlier k base path c
+  unfolding number_in
+  number_in_skip base path c e = rw (e, number_in)
 
-  pub placeIn-hit : (n : ℕ) → eqb k (length earlier) ≡ true
-      → placeIn (b ∷ earlier) k n
-      ≡ ifLt (b .own) n (usesPlace (total earlier) (placeIn earlier) 1 (n - b .own) (b .uses)) (record { path = []; block = k; own = n })
-  unfolding placeIn
-  placeIn-hit n e = rw (e, placeIn)
+  pub place_in_hit : (n : ℕ) → eqb k (length earlier) ≡ true
+      → place_in (b ∷ earlier) k n
+      ≡ if_lt b.own n (uses_place (total earlier) (place_in earlier) 1 (n - b.own) b.uses) (record { path = []; block = k; own = n })
+  unfolding place_in
+  place_in_hit n e = rw (e, place_in)
 
-  pub placeIn-skip : (n : ℕ) → eqb k (length earlier) ≡ false → placeIn (b ∷ earlier) k n ≡ placeIn earlier k n
-  unfolding placeIn
-  placeIn-skip n e = rw (e, placeIn)
+  pub place_in_skip : (n : ℕ) → eqb k (length earlier) ≡ false → place_in (b ∷ earlier) k n ≡ place_in earlier k n
+  unfolding place_in
+  place_in_skip n e = rw (e, place_in)
 
 -- The same by the number itself.
 module _ (b : Block) (earlier : List Block) (k : ℕ) where
-  pub joins-hit : k ≡ length earlier → joinsOf (b ∷ earlier) k ≡ b .joins
-  joins-hit e = joinsOf-hit b earlier k (eq-eqb k (length earlier) e)
+  pub joins-hit : k ≡ length earlier → joins_of (b ∷ earlier) k ≡ b.joins
+  joins-hit e = joins_of-hit b earlier k (eq-eqb k (length earlier) e)
 
-  pub joins-skip : k ≢ length earlier → joinsOf (b ∷ earlier) k ≡ joinsOf earlier k
-  joins-skip n = joinsOf-skip b earlier k (ne-eqb k (length earlier) n)
+  pub joins-skip : k ≢ length earlier → joins_of (b ∷ earlier) k ≡ joins_of earlier k
+  joins-skip n = joins_of-skip b earlier k (ne_eqb k (length earlier) n)
 
 -- A block that is not there has no joins; none has more than eight.
-pub joins-beyond : (bs : List Block) (k : ℕ) → length bs ≤ k → joinsOf bs k ≡ 0
-unfolding joinsOf blockAt noBlock
+pub joins-beyond : (bs : List Block) (k : ℕ) → length bs ≤ k → joins_of bs k ≡ 0
+unfolding joins_of block_at no_block
 joins-beyond [] k h = refl
 joins-beyond (b ∷ earlier) k h = joins-skip b earlier k (λ e. omega arith) ∙ joins-beyond earlier k (omega arith)
 
 -- The first of small blocks.
-pub head-small : {b : Block} {earlier : List Block} → Small (b ∷ earlier) → (b .own ≤ maxOwn) × (b .joins ≤ maxJoins)
-head-small (small-more j o gs) = (o, j)
+pub head_small : {b : Block} {earlier : List Block} → Small (b ∷ earlier) → (b.own ≤ max_own) × (b.joins ≤ max_joins)
+head_small (small-more j o gs) = (o, j)
 
-pub joins-small : {bs : List Block} (k : ℕ) → Small bs → joinsOf bs k ≤ maxJoins
-joins-small k small-none = let e : joinsOf [] k ≡ 0 = joins-beyond [] k (omega arith) in omega arith
-joins-small k (small-more {b = b} {earlier = earlier} j o gs) = go (joins-small k gs) (ℕ-discrete k (length earlier))
+pub joins-small : {bs : List Block} (k : ℕ) → Small bs → joins_of bs k ≤ max_joins
+joins-small k small-none = let e : joins_of [] k ≡ 0 = joins-beyond [] k (omega arith) in omega arith
+joins-small k (small-more {b = b} {earlier = earlier} j o gs) = go (joins-small k gs) (ℕ_discrete k (length earlier))
   where
-    go : joinsOf earlier k ≤ maxJoins → Dec (k ≡ length earlier) → joinsOf (b ∷ earlier) k ≤ maxJoins
+    go : joins_of earlier k ≤ max_joins → Dec (k ≡ length earlier) → joins_of (b ∷ earlier) k ≤ max_joins
     go below (yes e) = rw (joins-hit b earlier k e) j
     go below (no n) = rw (joins-skip b earlier k n) below
 
-pub own-small : {bs : List Block} (k : ℕ) → Small bs → ownOf bs k ≤ maxOwn
-unfolding ownOf blockAt noBlock
+pub own-small : {bs : List Block} (k : ℕ) → Small bs → own_of bs k ≤ max_own
+unfolding own_of block_at no_block
 own-small k small-none = omega arith
-own-small k (small-more {b = b} {earlier = earlier} j o gs) = go (own-small k gs) (ℕ-discrete k (length earlier))
+own-small k (small-more {b = b} {earlier = earlier} j o gs) = go (own-small k gs) (ℕ_discrete k (length earlier))
   where
-    go : ownOf earlier k ≤ maxOwn → Dec (k ≡ length earlier) → ownOf (b ∷ earlier) k ≤ maxOwn
-    go below (yes e) = rw (ownOf-hit b earlier k (eq-eqb k (length earlier) e)) o
-    go below (no n) = rw (ownOf-skip b earlier k (ne-eqb k (length earlier) n)) below
+    go : own_of earlier k ≤ max_own → Dec (k ≡ length earlier) → own_of (b ∷ earlier) k ≤ max_own
+    go below (yes e) = rw (own_of_hit b earlier k (eq-eqb k (length earlier) e)) o
+    go below (no n) = rw (own_of_skip b earlier k (ne_eqb k (length earlier) n)) below

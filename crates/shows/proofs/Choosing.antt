@@ -1,18 +1,18 @@
 -- The order of origins, and the best of some: of two lists in a row it is the winner of their best ones, and a step in front of all of them
--- changes nothing. What is known of `depthWins` stands in `depths` and `depth-step`, and holds whichever of two depths wins.
-use Prim.Native.Nat.{ℕ, suc, _<_, _≤_}
+-- changes nothing. What is known of `depth_wins` stands in `depths` and `depth-step`, and holds whichever of two depths wins.
+use Prim.Native.Nat.{ℕ, suc, ◌<◌, ◌≤◌}
 use native.Mathlib.Omega.{arith}
-use native.Mathlib.Decide.{decLt}
-use mathlib.Core.Path.{_≡_, refl, sym, _∙_, ap}
+use native.Mathlib.Decide.{dec_lt}
+use mathlib.Core.Path.{◌≡◌, refl, sym, ◌∙◌, ap}
 use mathlib.Core.Bool.{Bool, true, false, false≢true}
-use mathlib.Core.List.{List, [], _∷_, _++_, map}
+use mathlib.Core.List.{List, [], ◌∷◌, ◌++◌, map}
 use lib.ListN.{length}
 use lib.Dec.{ltb}
 use borrow.Author.Tests.{lt-ltb, le-ltb, ltb-true, ltb-false}
-use Rattle·model.specs.Choice.{ifLt, ifTrue}
-use Rattle·model.specs.Behind.{Origin, stepInto, depthWins, stepsWin, better, Behind, Stands, Missing, winner, best}
-use Rattle·basics.proofs.Choices.{true-then, true-else}
-use Rattle·shows·specs.specs.Origins.{into, own-row}
+use Rattle.model.specs.Choice.{if_lt, if_true}
+use Rattle.model.specs.Behind.{Origin, step_into, depth_wins, steps_win, better, Behind, Stands, Missing, winner, best}
+use Rattle.basics.proofs.Choices.{true_then, true_else}
+use Rattle.shows.specs.Origins.{into, own_row}
 
 -- A test of two numbers that puts all numbers in order, and what a step does to them both.
 data Three (wins : ℕ → ℕ → Bool) (a b : ℕ) : Type 0 where
@@ -22,7 +22,7 @@ data Three (wins : ℕ → ℕ → Bool) (a b : ℕ) : Type 0 where
 
 record Orders (wins : ℕ → ℕ → Bool) : Type 0 where
   three : (a b : ℕ) → Three wins a b
-  one-way : (a b : ℕ) → wins a b ≡ true → wins b a ≡ false
+  one_way_is : (a b : ℕ) → wins a b ≡ true → wins b a ≡ false
   through : (a b c : ℕ) → wins a b ≡ true → wins b c ≡ true → wins a c ≡ true
 
 not-both : {v : Bool} → v ≡ true → v ≡ false → ⊥
@@ -31,8 +31,8 @@ not-both x y = false≢true (sym y ∙ x)
 less : Orders ltb
 less =
     record {
-      three = λ a b. at a b (decLt a b) (decLt b a);
-      one-way = λ a b h. le-ltb b a (let l : a < b = ltb-true a b h in omega arith);
+      three = λ a b. at a b (dec_lt a b) (dec_lt b a);
+      one_way_is = λ a b h. le-ltb b a (let l : a < b = ltb-true a b h in omega arith);
       through = λ a b c h k. lt-ltb a c (let l : a < b = ltb-true a b h in let m : b < c = ltb-true b c k in omega arith);
     }
   where
@@ -42,12 +42,12 @@ less =
     at a b (no h) (no k) = same (omega arith)
 
 -- "the shortest path wins": the order of depths.
-depths : Orders depthWins
-unfolding depthWins
+depths : Orders depth_wins
+unfolding depth_wins
 depths = less
 
-pub depth-step : (a b : ℕ) → depthWins (suc a) (suc b) ≡ depthWins a b
-unfolding depthWins
+pub depth-step : (a b : ℕ) → depth_wins (suc a) (suc b) ≡ depth_wins a b
+unfolding depth_wins
 depth-step a b = go (ltb a b) refl
   where
     go : (t : Bool) → ltb a b ≡ t → ltb (suc a) (suc b) ≡ ltb a b
@@ -56,71 +56,71 @@ depth-step a b = go (ltb a b) refl
 
 -- The test that looks at something else where two numbers are the same.
 abbrev lexed : (ℕ → ℕ → Bool) → ℕ → ℕ → Bool → Bool
-lexed wins a b rest = ifTrue (wins a b) true (ifTrue (wins b a) false rest)
+lexed wins a b rest = if_true (wins a b) true (if_true (wins b a) false rest)
 
 module _ {wins : ℕ → ℕ → Bool} (o : Orders wins) where
   still : (a : ℕ) → wins a a ≡ false
   still a = go (wins a a) refl
     where
       go : (t : Bool) → wins a a ≡ t → wins a a ≡ false
-      go true h = o .one-way a a h
+      go true h = o.one_way_is a a h
       go false h = h
 
-  lexed-first : (a b : ℕ) (r : Bool) → wins a b ≡ true → lexed wins a b r ≡ true
-  lexed-first a b r h = true-then (wins a b) true _ h
+  lexed_first : (a b : ℕ) (r : Bool) → wins a b ≡ true → lexed wins a b r ≡ true
+  lexed_first a b r h = true_then (wins a b) true _ h
 
-  lexed-second : (a b : ℕ) (r : Bool) → wins b a ≡ true → lexed wins a b r ≡ false
-  lexed-second a b r h = true-else (wins a b) true _ (o .one-way b a h) ∙ true-then (wins b a) false r h
+  lexed_second : (a b : ℕ) (r : Bool) → wins b a ≡ true → lexed wins a b r ≡ false
+  lexed_second a b r h = true_else (wins a b) true _ (o.one_way_is b a h) ∙ true_then (wins b a) false r h
 
-  lexed-same : (a b : ℕ) (r : Bool) → a ≡ b → lexed wins a b r ≡ r
-  lexed-same a b r e = rw e (true-else (wins b b) true _ (still b) ∙ true-else (wins b b) false r (still b))
+  lexed_same : (a b : ℕ) (r : Bool) → a ≡ b → lexed wins a b r ≡ r
+  lexed_same a b r e = rw e (true_else (wins b b) true _ (still b) ∙ true_else (wins b b) false r (still b))
 
   -- What holds from a to b and from b to c holds from a to c: that the one wins, and that it doesn't.
-  lexed-chain : (v : Bool) (a b c : ℕ) (x y z : Bool) → (a ≡ b → b ≡ c → x ≡ v → y ≡ v → z ≡ v)
+  lexed_chain : (v : Bool) (a b c : ℕ) (x y z : Bool) → (a ≡ b → b ≡ c → x ≡ v → y ≡ v → z ≡ v)
       → lexed wins a b x ≡ v → lexed wins b c y ≡ v → lexed wins a c z ≡ v
-  lexed-chain v a b c x y z rest h k = go (o .three a b) (o .three b c)
+  lexed_chain v a b c x y z rest h k = go (o.three a b) (o.three b c)
     where
       go : Three wins a b → Three wins b c → lexed wins a c z ≡ v
-      go (first p) (first q) = lexed-first a c z (o .through a b c p q) ∙ sym (lexed-first a b x p) ∙ h
-      go (first p) (same q) = lexed-first a c z (rw q at p) ∙ sym (lexed-first a b x p) ∙ h
-      go (first p) (second q) = absurd (not-both (sym h ∙ lexed-first a b x p) (sym k ∙ lexed-second b c y q))
-      go (same p) (first q) = lexed-first a c z (rw p q) ∙ sym (lexed-first b c y q) ∙ k
-      go (same p) (same q) = lexed-same a c z (p ∙ q) ∙ rest p q (sym (lexed-same a b x p) ∙ h) (sym (lexed-same b c y q) ∙ k)
-      go (same p) (second q) = lexed-second a c z (rw p q) ∙ sym (lexed-second b c y q) ∙ k
-      go (second p) (first q) = absurd (not-both (sym k ∙ lexed-first b c y q) (sym h ∙ lexed-second a b x p))
-      go (second p) (same q) = lexed-second a c z (rw q at p) ∙ sym (lexed-second a b x p) ∙ h
-      go (second p) (second q) = lexed-second a c z (o .through c b a q p) ∙ sym (lexed-second a b x p) ∙ h
+      go (first p) (first q) = lexed_first a c z (o.through a b c p q) ∙ sym (lexed_first a b x p) ∙ h
+      go (first p) (same q) = lexed_first a c z (rw q at p) ∙ sym (lexed_first a b x p) ∙ h
+      go (first p) (second q) = absurd (not-both (sym h ∙ lexed_first a b x p) (sym k ∙ lexed_second b c y q))
+      go (same p) (first q) = lexed_first a c z (rw p q) ∙ sym (lexed_first b c y q) ∙ k
+      go (same p) (same q) = lexed_same a c z (p ∙ q) ∙ rest p q (sym (lexed_same a b x p) ∙ h) (sym (lexed_same b c y q) ∙ k)
+      go (same p) (second q) = lexed_second a c z (rw p q) ∙ sym (lexed_second b c y q) ∙ k
+      go (second p) (first q) = absurd (not-both (sym k ∙ lexed_first b c y q) (sym h ∙ lexed_second a b x p))
+      go (second p) (same q) = lexed_second a c z (rw q at p) ∙ sym (lexed_second a b x p) ∙ h
+      go (second p) (second q) = lexed_second a c z (o.through c b a q p) ∙ sym (lexed_second a b x p) ∙ h
 
 steps-chain : (v : Bool) (ps qs us : List ℕ) (x y z : Bool) → length ps ≡ length qs → length qs ≡ length us → (x ≡ v → y ≡ v → z ≡ v)
-    → stepsWin ps qs x ≡ v → stepsWin qs us y ≡ v → stepsWin ps us z ≡ v
-unfolding stepsWin ifLt ifTrue
+    → steps_win ps qs x ≡ v → steps_win qs us y ≡ v → steps_win ps us z ≡ v
+unfolding steps_win if_lt if_true
 steps-chain v [] [] [] x y z e f rest h k = rest h k
 steps-chain v [] [] (u ∷ us) x y z e f rest h k = absurd (omega arith)
 steps-chain v [] (q ∷ qs) us x y z e f rest h k = absurd (omega arith)
 steps-chain v (p ∷ ps) [] us x y z e f rest h k = absurd (omega arith)
 steps-chain v (p ∷ ps) (q ∷ qs) [] x y z e f rest h k = absurd (omega arith)
 steps-chain v (p ∷ ps) (q ∷ qs) (u ∷ us) x y z e f rest h k =
-    lexed-chain less v p q u (stepsWin ps qs x) (stepsWin qs us y) (stepsWin ps us z)
+    lexed_chain less v p q u (steps_win ps qs x) (steps_win qs us y) (steps_win ps us z)
     (λ a b. steps-chain v ps qs us x y z (omega arith) (omega arith) rest) h k
 
 rows-chain : (v : Bool) (a b c : ℕ) → ltb a b ≡ v → ltb b c ≡ v → ltb a c ≡ v
-rows-chain true a b c h k = less .through a b c h k
+rows-chain true a b c h k = less.through a b c h k
 rows-chain false a b c h k = le-ltb a c (let l : b ≤ a = ltb-false a b h in let m : c ≤ b = ltb-false b c k in omega arith)
 
 better-chain : (v : Bool) (x y z : Origin) → better x y ≡ v → better y z ≡ v → better x z ≡ v
 unfolding better
 better-chain v x y z h k =
-    lexed-chain depths v (length (x .path)) (length (y .path)) (length (z .path)) _ _ _
-    (λ a b. steps-chain v (x .path) (y .path) (z .path) _ _ _ a b (rows-chain v (x .row) (y .row) (z .row))) h k
+    lexed_chain depths v (length x.path) (length y.path) (length z.path) _ _ _
+    (λ a b. steps-chain v x.path y.path z.path _ _ _ a b (rows-chain v x.row y.row z.row)) h k
 
 -- The winner of two, and so of any number.
-win-first : (x y : Origin) → better y x ≡ false → winner (Stands x) (Stands y) ≡ Stands x
+win_first : (x y : Origin) → better y x ≡ false → winner (Stands x) (Stands y) ≡ Stands x
 unfolding winner
-win-first x y h = true-else (better y x) (Stands y) (Stands x) h
+win_first x y h = true_else (better y x) (Stands y) (Stands x) h
 
-win-second : (x y : Origin) → better y x ≡ true → winner (Stands x) (Stands y) ≡ Stands y
+win_second : (x y : Origin) → better y x ≡ true → winner (Stands x) (Stands y) ≡ Stands y
 unfolding winner
-win-second x y h = true-then (better y x) (Stands y) (Stands x) h
+win_second x y h = true_then (better y x) (Stands y) (Stands x) h
 
 pub winner-none : (a : Behind) → winner a Missing ≡ a
 unfolding winner
@@ -136,10 +136,10 @@ winner-assoc (Stands x) (Stands y) (Stands z) = go (better y x) (better z y) ref
   where
     go : (t u : Bool) → better y x ≡ t → better z y ≡ u
         → winner (winner (Stands x) (Stands y)) (Stands z) ≡ winner (Stands x) (winner (Stands y) (Stands z))
-    go true true h k = rw (win-second x y h, win-second y z k) (sym (win-second x z (better-chain true z y x k h)))
-    go true false h k = rw (win-second x y h, win-first y z k) (sym (win-second x y h))
-    go false true h k = rw (win-first x y h, win-second y z k) refl
-    go false false h k = rw (win-first x y h, win-first y z k) (win-first x z (better-chain false z y x k h) ∙ sym (win-first x y h))
+    go true true h k = rw (win_second x y h, win_second y z k) (sym (win_second x z (better-chain true z y x k h)))
+    go true false h k = rw (win_second x y h, win_first y z k) (sym (win_second x y h))
+    go false true h k = rw (win_first x y h, win_second y z k) refl
+    go false false h k = rw (win_first x y h, win_first y z k) (win_first x z (better-chain false z y x k h) ∙ sym (win_first x y h))
 
 pub best-append : (xs ys : List Origin) → best (xs ++ ys) ≡ winner (best xs) (best ys)
 unfolding best winner
@@ -147,10 +147,10 @@ best-append [] ys = refl
 best-append (x ∷ xs) ys = ap (winner (Stands x)) (best-append xs ys) ∙ sym (winner-assoc (Stands x) (best xs) (best ys))
 
 -- A step in front of a path, and in front of all of some.
-better-step : (p : ℕ) (x y : Origin) → better (stepInto p x) (stepInto p y) ≡ better x y
-unfolding better stepInto stepsWin ifLt ifTrue
+better-step : (p : ℕ) (x y : Origin) → better (step_into p x) (step_into p y) ≡ better x y
+unfolding better step_into steps_win if_lt if_true
 better-step p x y =
-    rw (depth-step (length (x .path)) (length (y .path)), depth-step (length (y .path)) (length (x .path)), still less p) refl
+    rw (depth-step (length x.path) (length y.path), depth-step (length y.path) (length x.path), still less p) refl
 
 into-winner : (p : ℕ) (a b : Behind) → winner (into p a) (into p b) ≡ into p (winner a b)
 unfolding into winner
@@ -159,68 +159,68 @@ into-winner p (Stands x) Missing = refl
 into-winner p (Stands x) (Stands y) = go (better y x) refl
   where
     go : (t : Bool) → better y x ≡ t
-        → winner (Stands (stepInto p x)) (Stands (stepInto p y)) ≡ into p (winner (Stands x) (Stands y))
-    go true h = rw (win-second x y h) (win-second (stepInto p x) (stepInto p y) (better-step p y x ∙ h))
-    go false h = rw (win-first x y h) (win-first (stepInto p x) (stepInto p y) (better-step p y x ∙ h))
+        → winner (Stands (step_into p x)) (Stands (step_into p y)) ≡ into p (winner (Stands x) (Stands y))
+    go true h = rw (win_second x y h) (win_second (step_into p x) (step_into p y) (better-step p y x ∙ h))
+    go false h = rw (win_first x y h) (win_first (step_into p x) (step_into p y) (better-step p y x ∙ h))
 
-pub best-into : (p : ℕ) (xs : List Origin) → best (map (stepInto p) xs) ≡ into p (best xs)
+pub best-into : (p : ℕ) (xs : List Origin) → best (map (step_into p) xs) ≡ into p (best xs)
 unfolding best into winner
 best-into p [] = refl
-best-into p (x ∷ xs) = ap (winner (Stands (stepInto p x))) (best-into p xs) ∙ into-winner p (Stands x) (best xs)
+best-into p (x ∷ xs) = ap (winner (Stands (step_into p x))) (best-into p xs) ∙ into-winner p (Stands x) (best xs)
 
 -- Of two that begin with different steps, the one with the smaller step, unless the other's depth wins.
-pub into-first : (p q : ℕ) (x y : Origin) → p < q → depthWins (length (y .path)) (length (x .path)) ≡ false
+pub into-first : (p q : ℕ) (x y : Origin) → p < q → depth_wins (length y.path) (length x.path) ≡ false
     → winner (into p (Stands x)) (into q (Stands y)) ≡ into p (Stands x)
-unfolding into better stepInto stepsWin ifLt ifTrue
-into-first p q x y l h = win-first (stepInto p x) (stepInto q y) (worse (depths .three (length (x .path)) (length (y .path))))
+unfolding into better step_into steps_win if_lt if_true
+into-first p q x y l h = win_first (step_into p x) (step_into q y) (worse (depths.three (length x.path) (length y.path)))
   where
-    worse : Three depthWins (length (x .path)) (length (y .path)) → better (stepInto q y) (stepInto p x) ≡ false
-    worse (first w) = lexed-second depths _ _ _ (depth-step (length (x .path)) (length (y .path)) ∙ w)
-    worse (same e) = lexed-same depths _ _ _ (ap suc (sym e)) ∙ lexed-second less q p _ (lt-ltb p q l)
+    worse : Three depth_wins (length x.path) (length y.path) → better (step_into q y) (step_into p x) ≡ false
+    worse (first w) = lexed_second depths _ _ _ (depth-step (length x.path) (length y.path) ∙ w)
+    worse (same e) = lexed_same depths _ _ _ (ap suc (sym e)) ∙ lexed_second less q p _ (lt-ltb p q l)
     worse (second w) = absurd (not-both w h)
 
-pub into-second : (p q : ℕ) (x y : Origin) → depthWins (length (y .path)) (length (x .path)) ≡ true
+pub into-second : (p q : ℕ) (x y : Origin) → depth_wins (length y.path) (length x.path) ≡ true
     → winner (into p (Stands x)) (into q (Stands y)) ≡ into q (Stands y)
-unfolding into better stepInto
+unfolding into better step_into
 into-second p q x y h =
-    win-second (stepInto p x) (stepInto q y)
-    (lexed-first depths _ _ _ (depth-step (length (y .path)) (length (x .path)) ∙ h))
+    win_second (step_into p x) (step_into q y)
+    (lexed_first depths _ _ _ (depth-step (length y.path) (length x.path) ∙ h))
 
 -- And of a copy's own row and one below, the own row, unless the other's depth wins.
-pub own-first : (p r : ℕ) (y : Origin) → depthWins (suc (length (y .path))) 0 ≡ false → winner (own-row r) (into p (Stands y)) ≡ own-row r
-unfolding into better stepInto
-own-first p r y h = win-first _ (stepInto p y) (worse (depths .three (suc (length (y .path))) 0))
+pub own_first : (p r : ℕ) (y : Origin) → depth_wins (suc (length y.path)) 0 ≡ false → winner (own_row r) (into p (Stands y)) ≡ own_row r
+unfolding into better step_into
+own_first p r y h = win_first _ (step_into p y) (worse (depths.three (suc (length y.path)) 0))
   where
-    worse : Three depthWins (suc (length (y .path))) 0 → better (stepInto p y) (record { path = []; row = r }) ≡ false
+    worse : Three depth_wins (suc (length y.path)) 0 → better (step_into p y) (record { path = []; row = r }) ≡ false
     worse (first w) = absurd (not-both w h)
     worse (same e) = absurd (omega arith)
-    worse (second w) = lexed-second depths _ _ _ w
+    worse (second w) = lexed_second depths _ _ _ w
 
-pub own-second : (p r : ℕ) (y : Origin) → depthWins (suc (length (y .path))) 0 ≡ true → winner (own-row r) (into p (Stands y)) ≡ into p (Stands y)
-unfolding into better stepInto
-own-second p r y h = win-second _ (stepInto p y) (lexed-first depths _ _ _ h)
+pub own-second : (p r : ℕ) (y : Origin) → depth_wins (suc (length y.path)) 0 ≡ true → winner (own_row r) (into p (Stands y)) ≡ into p (Stands y)
+unfolding into better step_into
+own-second p r y h = win_second _ (step_into p y) (lexed_first depths _ _ _ h)
 
 -- Of two own rows, the first.
-pub own-rows : (r q : ℕ) → r ≤ q → winner (own-row r) (own-row q) ≡ own-row r
-unfolding better stepsWin
-own-rows r q l = win-first _ _ (lexed-same depths 0 0 _ refl ∙ le-ltb q r l)
+pub own-rows : (r q : ℕ) → r ≤ q → winner (own_row r) (own_row q) ≡ own_row r
+unfolding better steps_win
+own-rows r q l = win_first _ _ (lexed_same depths 0 0 _ refl ∙ le-ltb q r l)
 
 -- The winner's depth, by those of the two.
-pub level-second : (x y : Origin) → depthWins (length (y .path)) (length (x .path)) ≡ true → winner (Stands x) (Stands y) ≡ Stands y
+pub level-second : (x y : Origin) → depth_wins (length y.path) (length x.path) ≡ true → winner (Stands x) (Stands y) ≡ Stands y
 unfolding better
-level-second x y h = win-second x y (lexed-first depths _ _ _ h)
+level-second x y h = win_second x y (lexed_first depths _ _ _ h)
 
-depth-beats : (x y : Origin) → depthWins (length (x .path)) (length (y .path)) ≡ true → better y x ≡ false
+depth-beats : (x y : Origin) → depth_wins (length x.path) (length y.path) ≡ true → better y x ≡ false
 unfolding better
-depth-beats x y h = lexed-second depths _ _ _ h
+depth-beats x y h = lexed_second depths _ _ _ h
 
-pub level-first : (x y : Origin) → depthWins (length (y .path)) (length (x .path)) ≡ false
-    → (o : Origin) × (winner (Stands x) (Stands y) ≡ Stands o) × (length (o .path) ≡ length (x .path))
-level-first x y h = go (depths .three (length (x .path)) (length (y .path))) (better y x) refl
+pub level-first : (x y : Origin) → depth_wins (length y.path) (length x.path) ≡ false
+    → (o : Origin) × (winner (Stands x) (Stands y) ≡ Stands o) × (length o.path ≡ length x.path)
+level-first x y h = go (depths.three (length x.path) (length y.path)) (better y x) refl
   where
-    go : Three depthWins (length (x .path)) (length (y .path)) → (t : Bool) → better y x ≡ t
-        → (o : Origin) × (winner (Stands x) (Stands y) ≡ Stands o) × (length (o .path) ≡ length (x .path))
-    go d false e = (x, win-first x y e, refl)
-    go (same l) true e = (y, win-second x y e, sym l)
+    go : Three depth_wins (length x.path) (length y.path) → (t : Bool) → better y x ≡ t
+        → (o : Origin) × (winner (Stands x) (Stands y) ≡ Stands o) × (length o.path ≡ length x.path)
+    go d false e = (x, win_first x y e, refl)
+    go (same l) true e = (y, win_second x y e, sym l)
     go (first w) true e = absurd (not-both e (depth-beats x y w))
     go (second w) true e = absurd (not-both w h)

@@ -4,23 +4,22 @@
 //
 // Of one sum: `lesser`, `sum_of`, `improve`, `put`. Of the cues that a use's row names: `put_met`,
 // `gather`. Of all of them: `clear`.
+#![tactic(auto)]
+
+ghost use Rattle.std.specs.Prelude.{◌≡◌, ◌+◌, ◌≤◌, ◌<◌, ◌⊎◌, true, false, length};
+ghost use Rattle.distances.specs.Quickest.{no_sum};
+ghost use Rattle.searches.specs.Rounds.{One, Round, Fell};
+ghost use Rattle.searches.specs.Starts.{Nowhere, Cell, Meets, MetAt, Started, Merged, Gathered};
+ghost use Rattle.searches.specs.Lines.{Capped, Even};
+
 use estimates::either;
-ghost use mathlib.Core.Path.{_≡_};
-ghost use Prim.Native.Nat.{_+_, _≤_, _<_};
-ghost use mathlib.Core.Logic.{_⊎_};
-ghost use mathlib.Core.Bool.{true, false};
-ghost use lib.ListN.{length};
-ghost use Rattle·distances.specs.Quickest.{noSum};
-ghost use Rattle·searches.specs.Rounds.{One, Round, Fell};
-ghost use Rattle·searches.specs.Starts.{Nowhere, Cell, Meets, MetAt, Started, Merged, Gathered};
-ghost use Rattle·searches.specs.Lines.{Capped, Even};
 
 // No sum: no chain is known.
 pub const NO_SUM: u64 = 18446744073709551615;
 
 // A sum and a wait, or no sum where 64 bits do not hold it.
 pub fn sum_of(x: u64, w: u64) -> u64
-    ensures { λ r. ⌜ Capped noSum x w r ⌝ }
+    ensures { Capped no_sum x w result }
 {
     let room = NO_SUM - x;
     if room < w {
@@ -32,7 +31,7 @@ pub fn sum_of(x: u64, w: u64) -> u64
 // The lesser of two sums. This and the test that follows are apart from the store, so that the
 // compiler needs no branch for them: which sums fall is not foreseeable.
 pub fn lesser(z: u64, y: u64) -> u64
-    ensures { λ r. ⌜ ((z < y) × (r ≡ z)) ⊎ ((y ≤ z) × (r ≡ y)) ⌝ }
+    ensures { ((z < y) × (result ≡ z)) ⊎ ((y ≤ z) × (result ≡ y)) }
 {
     if z < y {
         return z;
@@ -42,7 +41,7 @@ pub fn lesser(z: u64, y: u64) -> u64
 
 // The first of two sums is the lesser.
 fn falls(z: u64, y: u64) -> bool
-    ensures { λ r. ⌜ ((z < y) × (r ≡ true)) ⊎ ((y ≤ z) × (r ≡ false)) ⌝ }
+    ensures { ((z < y) × (result ≡ true)) ⊎ ((y ≤ z) × (result ≡ false)) }
 {
     if z < y {
         return true;
@@ -52,8 +51,8 @@ fn falls(z: u64, y: u64) -> bool
 
 // One edge.
 pub fn improve(d: &mut [u64], u: usize, v: usize, w: u64) -> bool
-    requires { ⌜ (u < length (now d)) × (v < length (now d)) ⌝ }
-    ensures { λ r. ⌜ Round (One u v w) (now (d .entry)) r (now (d .exit)) ⌝ }
+    requires { (u < length d.old) × (v < length d.old) }
+    ensures { Round (One u v w) d.old result d.new }
 {
     let y = d[v];
     let z = sum_of(d[u], w);
@@ -64,8 +63,8 @@ pub fn improve(d: &mut [u64], u: usize, v: usize, w: u64) -> bool
 
 // A sum to begin with, where it is less than the one there: says whether it is.
 pub fn put(d: &mut [u64], v: usize, z: u64) -> bool
-    requires { ⌜ v < length (now d) ⌝ }
-    ensures { λ r. ⌜ Merged (Cell v z) (now (d .entry)) (now (d .exit)) × Fell (now (d .entry)) r (now (d .exit)) ⌝ }
+    requires { v < length d.old }
+    ensures { Merged (Cell v z) d.old d.new × Fell d.old result d.new }
 {
     let y = d[v];
     let c = falls(z, y);
@@ -76,9 +75,9 @@ pub fn put(d: &mut [u64], v: usize, z: u64) -> bool
 // Sums to begin with at the first m cues that row r names, from place q of a list on: says whether
 // any is less than the one there.
 pub fn put_met(xs: &[u32], r: usize, kept: &[u64], q: usize, m: usize, d: &mut [u64]) -> bool
-    requires { ⌜ Meets (now xs) r m (length (now d)) × (q + m ≤ length (now kept)) ⌝ }
-    ensures { λ c. ⌜ Merged (MetAt (now (xs .entry)) r (now (kept .entry)) q m) (now (d .entry)) (now (d .exit))
-        × Fell (now (d .entry)) c (now (d .exit)) ⌝ }
+    requires { Meets xs.now r m (length d.old) × (q + m ≤ length kept.now) }
+    ensures { Merged (MetAt xs.now r kept.now q m) d.old d.new
+        × Fell d.old result d.new }
 {
     let mut fell = false;
     let mut i = 0;
@@ -92,7 +91,7 @@ pub fn put_met(xs: &[u32], r: usize, kept: &[u64], q: usize, m: usize, d: &mut [
 
 // Whether two sums differ.
 fn unlike(a: u64, b: u64) -> bool
-    ensures { λ r. ⌜ (r ≡ false → a ≡ b) ⌝ }
+    ensures { result ≡ false → a ≡ b }
 {
     if a == b {
         return false;
@@ -103,8 +102,8 @@ fn unlike(a: u64, b: u64) -> bool
 // The sums of the first m cues that row r names, into the first m of e: says whether one of them is
 // not x.
 pub fn gather(xs: &[u32], r: usize, d: &[u64], m: usize, x: u64, e: &mut [u64]) -> bool
-    requires { ⌜ Meets (now xs) r m (length (now d)) × (m ≤ length (now e)) ⌝ }
-    ensures { λ c. ⌜ Gathered (now (xs .entry)) r (now (d .entry)) m (now (e .entry)) (now (e .exit)) × Even c x (now (e .exit)) m ⌝ }
+    requires { Meets xs.now r m (length d.now) × (m ≤ length e.old) }
+    ensures { Gathered xs.now r d.now m e.old e.new × Even result x e.new m }
 {
     let mut uneven = false;
     let mut i = 0;
@@ -120,8 +119,8 @@ pub fn gather(xs: &[u32], r: usize, d: &[u64], m: usize, x: u64, e: &mut [u64]) 
 
 // No sum yet at the cues up to n.
 pub fn clear(d: &mut [u64], n: usize)
-    requires { ⌜ n < length (now d) ⌝ }
-    ensures { λ _. ⌜ Started noSum n Nowhere (now (d .exit)) ⌝ }
+    requires { n < length d.old }
+    ensures { Started no_sum n Nowhere d.new }
 {
     let mut c = 0;
     while c <= n {

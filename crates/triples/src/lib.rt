@@ -1,20 +1,17 @@
 // The links from one cue as a table of marks, without unfolding: for the program that prints them.
 // `mark_cue` makes it.
-use blocks::INDEX;
-use blocks::Place;
-use blocks::wide;
-use model::limits::MAX_DEPTH;
-use model::limits::MAX_LABEL;
-use model::limits::PRINTED_CUES;
-ghost use mathlib.Core.Path.{_≡_};
-ghost use Prim.Native.Nat.{_+_, _≤_, _<_};
-ghost use lib.ListN.{length, take};
-ghost use Rattle·model.specs.Limits.{printedCues};
-ghost use Rattle·model.specs.Blocks.{blocksOf, count};
-ghost use Rattle·model.specs.Unfolding.{showLinks};
-ghost use Rattle·lists.specs.Answer.{labelledCues};
-ghost use Rattle·blocks.specs.Loaded.{Loaded};
-ghost use Rattle·triples·specs.specs.Marks.{labelPlaces, marksSize, Blank, marksAll, PageWithin, Aims, TableTo, Marked, Says, GroupEnd};
+#![tactic(auto)]
+
+ghost use Rattle.std.specs.Prelude.{◌≡◌, ◌+◌, ◌≤◌, ◌<◌, length, take};
+ghost use Rattle.model.specs.Limits.{printed_cues};
+ghost use Rattle.model.specs.Blocks.{blocks_of, count};
+ghost use Rattle.model.specs.Unfolding.{show_links};
+ghost use Rattle.lists.specs.Answer.{labelled_cues};
+ghost use Rattle.blocks.specs.Loaded.{Loaded};
+ghost use Rattle.triples.specs.Marks.{label_places, marks_size, Blank, marks_all, PageWithin, Aims, TableTo, Marked, Says, GroupEnd};
+
+use blocks::{INDEX, Place, wide};
+use model::limits::{MAX_DEPTH, MAX_LABEL, PRINTED_CUES};
 
 // The places of a cue in a table, one for each label from 0 on; and of a table, for each cue from 0 to the most of a
 // show that is printed.
@@ -31,8 +28,8 @@ const GROUP: u32 = 16;
 
 // Marks a label of the first n cues of a page.
 fn mark_cues(page: &[u32; PRINTED_CUES_64], n: usize, label: usize, m: &mut [u8; MARKS])
-    requires { ⌜ (n ≤ printedCues) × (label < labelPlaces) × PageWithin (now page) n × (length (now m) ≡ marksSize) ⌝ }
-    ensures { λ _. ⌜ now (m .exit) ≡ marksAll (take n (now (page .entry))) label (now (m .entry)) ⌝ }
+    requires { (n ≤ printed_cues) × (label < label_places) × PageWithin page.now n × (length m.old ≡ marks_size) }
+    ensures { m.new ≡ marks_all (take n page.now) label m.old }
 {
     let mut i = 0;
     while i < n {
@@ -53,8 +50,8 @@ fn mark_label(
     label: u32,
     m: &mut [u8; MARKS],
 )
-    requires { ⌜ Aims (now xs) (now t) (now rows) place × (1 ≤ label) × (label < labelPlaces) × TableTo (now xs) (place .cue) label (now m) ⌝ }
-    ensures { λ _. ⌜ TableTo (now (xs .entry)) (place .cue) (label + 1) (now (m .exit)) ⌝ }
+    requires { Aims xs.now t.now rows.now place × (1 ≤ label) × (label < label_places) × TableTo xs.now place.cue label m.old }
+    ensures { TableTo xs.now place.cue (label + 1) m.new }
 {
     let mut page = [0u32; PRINTED_CUES_64];
     let listed = lists::list_labels(xs, t, label, label, place, rows, &mut page);
@@ -70,8 +67,8 @@ fn has_labels(
     lo: u32,
     hi: u32,
 ) -> bool
-    requires { ⌜ Aims (now xs) (now t) (now rows) place ⌝ }
-    ensures { λ r. ⌜ Says r (labelledCues lo hi (blocksOf (now (xs .entry))) (place .cue)) ⌝ }
+    requires { Aims xs.now t.now rows.now place }
+    ensures { Says result (labelled_cues lo hi (blocks_of xs.now) place.cue) }
 {
     let mut page = [0u32; 1];
     let listed = lists::list_labels(xs, t, lo, hi, place, rows, &mut page);
@@ -89,8 +86,8 @@ fn mark_labels(
     hi: u32,
     m: &mut [u8; MARKS],
 )
-    requires { ⌜ Aims (now xs) (now t) (now rows) place × (1 ≤ lo) × GroupEnd lo hi × TableTo (now xs) (place .cue) lo (now m) ⌝ }
-    ensures { λ _. ⌜ TableTo (now (xs .entry)) (place .cue) (hi + 1) (now (m .exit)) ⌝ }
+    requires { Aims xs.now t.now rows.now place × (1 ≤ lo) × GroupEnd lo hi × TableTo xs.now place.cue lo m.old }
+    ensures { TableTo xs.now place.cue (hi + 1) m.new }
 {
     let mut label = lo;
     while label <= hi {
@@ -109,8 +106,8 @@ fn mark_group(
     hi: u32,
     m: &mut [u8; MARKS],
 )
-    requires { ⌜ Aims (now xs) (now t) (now rows) place × (1 ≤ lo) × GroupEnd lo hi × TableTo (now xs) (place .cue) lo (now m) ⌝ }
-    ensures { λ _. ⌜ TableTo (now (xs .entry)) (place .cue) (hi + 1) (now (m .exit)) ⌝ }
+    requires { Aims xs.now t.now rows.now place × (1 ≤ lo) × GroupEnd lo hi × TableTo xs.now place.cue lo m.old }
+    ensures { TableTo xs.now place.cue (hi + 1) m.new }
 {
     let some = has_labels(xs, t, place, rows, lo, hi);
     if some {
@@ -120,8 +117,8 @@ fn mark_group(
 
 // The last label of the group that begins with lo.
 fn group_end(lo: u32) -> u32
-    requires { ⌜ lo < labelPlaces ⌝ }
-    ensures { λ hi. ⌜ GroupEnd lo hi ⌝ }
+    requires { lo < label_places }
+    ensures { GroupEnd lo result }
 {
     let hi = lo + (GROUP - 1);
     if MAX_LABEL < hi {
@@ -138,8 +135,8 @@ fn mark_all(
     rows: &[u32; MAX_DEPTH],
     m: &mut [u8; MARKS],
 )
-    requires { ⌜ Aims (now xs) (now t) (now rows) place × TableTo (now xs) (place .cue) 1 (now m) ⌝ }
-    ensures { λ _. ⌜ TableTo (now (xs .entry)) (place .cue) labelPlaces (now (m .exit)) ⌝ }
+    requires { Aims xs.now t.now rows.now place × TableTo xs.now place.cue 1 m.old }
+    ensures { TableTo xs.now place.cue label_places m.new }
 {
     let mut lo = 1;
     while lo <= MAX_LABEL {
@@ -153,8 +150,8 @@ fn mark_all(
 
 // A table without marks.
 fn clear(m: &mut [u8; MARKS])
-    requires { ⌜ length (now m) ≡ marksSize ⌝ }
-    ensures { λ _. ⌜ Blank (now (m .exit)) ⌝ }
+    requires { length m.old ≡ marks_size }
+    ensures { Blank m.new }
 {
     let mut i = 0;
     while i < MARKS {
@@ -165,8 +162,8 @@ fn clear(m: &mut [u8; MARKS])
 
 // Makes the table of cue u of a show with at most 1,000 cues.
 pub fn mark_cue(xs: &[u32], t: &[u32; INDEX], u: u32, m: &mut [u8; MARKS])
-    requires { ⌜ Loaded (now xs) (now t) × (1 ≤ u) × (u ≤ count (blocksOf (now xs))) × (count (blocksOf (now xs)) ≤ printedCues) × (length (now m) ≡ marksSize) ⌝ }
-    ensures { λ _. ⌜ Marked (showLinks (blocksOf (now (xs .entry)))) u (count (blocksOf (now (xs .entry)))) (now (m .exit)) ⌝ }
+    requires { Loaded xs.now t.now × (1 ≤ u) × (u ≤ count (blocks_of xs.now)) × (count (blocks_of xs.now) ≤ printed_cues) × (length m.old ≡ marks_size) }
+    ensures { Marked (show_links (blocks_of xs.now)) u (count (blocks_of xs.now)) m.new }
 {
     clear(m);
     let mut rows = [0u32; MAX_DEPTH];

@@ -1,162 +1,162 @@
 -- A value at a place of a text, digit by digit.
-use Prim.Native.Nat.{ℕ, zero, suc, _+_, _*_, _-_, _≤_, _<_}
-use mathlib.Core.Path.{_≡_, sym, _∙_}
+use Prim.Native.Nat.{ℕ, zero, suc, ◌+◌, ◌*◌, ◌-◌, ◌≤◌, ◌<◌}
+use mathlib.Core.Path.{◌≡◌, sym, ◌∙◌}
 use mathlib.Core.Bool.{Bool, true, false}
-use mathlib.Core.List.{List, [], _∷_}
+use mathlib.Core.List.{List, [], ◌∷◌}
 use native.Mathlib.Omega.{arith}
 use native.Mathlib.Numerals.{add-one}
-use native.Mathlib.Decide.{decLt}
-use lib.ListN.{length, getD, drop, drop-of-length-le}
+use native.Mathlib.Decide.{dec_lt}
+use lib.ListN.{length, get_or, drop, drop_of_length-le}
 use lib.Seq.{drop-cons}
-use Rattle·model.specs.Limits.{maxValue, maxDigits}
-use Rattle·model.specs.Choice.{ifLt, ifTrue}
-use Rattle·model.specs.Values.{digitZero, isDigit, run, decimal, isValue}
-use Rattle·basics.proofs.Choices.{lt-then, lt-else, lt-first, lt-second, true-then, true-else}
-use Rattle·basics.proofs.Digits.{digit-isDigit, is-value, decimal-first}
-use Rattle·values·specs.specs.Fields.{figure, figureAt, endedAt, valueAt}
-use Rattle·values·specs.specs.declared.Field.{Field}
-use Rattle·values·specs.specs.declared.Field.the-variants.{Bad}
+use Rattle.model.specs.Limits.{max_value, max_digits}
+use Rattle.model.specs.Choice.{if_lt, if_true}
+use Rattle.model.specs.Values.{digit_zero, is_digit, run, decimal, is_value}
+use Rattle.basics.proofs.Choices.{lt_then, lt_else, lt_first, lt_second, true_then, true_else}
+use Rattle.basics.proofs.Digits.{digit-is_digit, is-value, decimal-first}
+use Rattle.values.specs.Fields.{figure, figure_at, ended_at, value_at}
+use Rattle.values.specs.declared.Field.{Field}
+use Rattle.values.specs.declared.Field.TheVariants.{Bad}
 
 -- A byte that is a digit, and one that is not.
-figure-is : (b d : ℕ) → d ≡ figure b → d < 10 → b ≡ digitZero + d
+figure-is : (b d : ℕ) → d ≡ figure b → d < 10 → b ≡ digit_zero + d
 unfolding figure
 figure-is b d e h =
-    let (low, f) = lt-second _ _ _ _ _ ten (sym e) in
-    let (high, g) = lt-second _ _ _ _ _ ten f in
+    let (low, f) = lt_second _ _ _ _ _ ten (sym e) in
+    let (high, g) = lt_second _ _ _ _ _ ten f in
     omega arith
   where
     ten : 10 ≡ d → ⊥
     ten z = omega arith
 
-figure-not : (b : ℕ) → 10 ≤ figure b → isDigit b ≡ false
-unfolding figure isDigit
-figure-not b h = go (decLt b 48) (decLt 57 b)
+figure-not : (b : ℕ) → 10 ≤ figure b → is_digit b ≡ false
+unfolding figure is_digit
+figure-not b h = go (dec_lt b 48) (dec_lt 57 b)
   where
-    go : Dec (b < 48) → Dec (57 < b) → isDigit b ≡ false
-    go (yes l) k = lt-then _ _ _ _ l
-    go (no l) (yes k) = lt-else _ _ _ _ (omega arith) ∙ lt-then _ _ _ _ k
+    go : Dec (b < 48) → Dec (57 < b) → is_digit b ≡ false
+    go (yes l) k = lt_then _ _ _ _ l
+    go (no l) (yes k) = lt_else _ _ _ _ (omega arith) ∙ lt_then _ _ _ _ k
     go (no l) (no k) =
-        let e : figure b ≡ b - 48 = lt-else _ _ _ _ (omega arith) ∙ lt-else _ _ _ _ (omega arith) in
+        let e : figure b ≡ b - 48 = lt_else _ _ _ _ (omega arith) ∙ lt_else _ _ _ _ (omega arith) in
         absurd (omega arith)
 
 -- The run of digits from a place on.
-module _ (f : List ℕ) (i d : ℕ) (e : d ≡ figureAt f i) where
-  found : d < 10 → (i < length f) × (d ≡ figure (getD f i 0))
-  unfolding figureAt
-  found h = let (k, g) = lt-first _ _ _ _ _ ten (sym e) in (k, sym g)
+module _ (f : List ℕ) (i d : ℕ) (e : d ≡ figure_at f i) where
+  found : d < 10 → (i < length f) × (d ≡ figure (get_or f i 0))
+  unfolding figure_at
+  found h = let (k, g) = lt_first _ _ _ _ _ ten (sym e) in (k, sym g)
     where
       ten : 10 ≡ d → ⊥
       ten z = omega arith
 
-  run-on : d < 10 → run (drop i f) ≡ d ∷ run (drop (i + 1) f)
+  run_on : d < 10 → run (drop i f) ≡ d ∷ run (drop (i + 1) f)
   unfolding run
-  run-on h =
+  run_on h =
       let (k, g) = found h in
-      let b : getD f i 0 ≡ digitZero + d = figure-is _ d g h in
-      let t : isDigit (getD f i 0) ≡ true = rw b (digit-isDigit d h) in
-      let m : getD f i 0 - digitZero ≡ d = omega arith in
+      let b : get_or f i 0 ≡ digit_zero + d = figure-is _ d g h in
+      let t : is_digit (get_or f i 0) ≡ true = rw b (digit-is_digit d h) in
+      let m : get_or f i 0 - digit_zero ≡ d = omega arith in
       rw (add-one, drop-cons f i 0 k, run, t, m)
 
   run-off : 10 ≤ d → run (drop i f) ≡ []
-  unfolding run figureAt
-  run-off h = go (decLt i (length f))
+  unfolding run figure_at
+  run-off h = go (dec_lt i (length f))
     where
       go : Dec (i < length f) → run (drop i f) ≡ []
       go (yes k) =
-          let g : d ≡ figure (getD f i 0) = e ∙ lt-then _ _ _ _ k in
-          rw (drop-cons f i 0 k, figure-not (getD f i 0) (rw g at h), run)
-      go (no k) = rw (drop-of-length-le f {i = i} (omega arith))
+          let g : d ≡ figure (get_or f i 0) = e ∙ lt_then _ _ _ _ k in
+          rw (drop-cons f i 0 k, figure-not (get_or f i 0) (rw g at h), run)
+      go (no k) = rw (drop_of_length-le f {i = i} (omega arith))
 
   pub next-in : d < 10 → i + 1 ≤ length f
   next-in h = let (k, g) = found h in omega arith
 
 -- What is left of a value whose first n digits, from place at on, stand for v, where ds are the digits behind them.
-unfoldable pub valueRest : List ℕ → ℕ → ℕ → ℕ → ℕ → List ℕ → Field
-valueRest f e at n v ds =
-    ifLt maxDigits (n + length ds) Bad (ifLt maxValue (decimal v ds) Bad (endedAt f e (at + (n + length ds)) (decimal v ds)))
+unfoldable pub value_rest : List ℕ → ℕ → ℕ → ℕ → ℕ → List ℕ → Field
+value_rest f e at n v ds =
+    if_lt max_digits (n + length ds) Bad (if_lt max_value (decimal v ds) Bad (ended_at f e (at + (n + length ds)) (decimal v ds)))
 
 -- 10 to the power n. A number of n digits is below it, and one of five digits is no large number.
 unfoldable pub tens : ℕ → ℕ
 tens zero = 1
 tens (suc n) = tens n * 10
 
-pub tens-first : (d : ℕ) → d < 10 → d < tens 1
+pub tens_first : (d : ℕ) → d < 10 → d < tens 1
 unfolding tens
-tens-first d h = omega arith
+tens_first d h = omega arith
 
-pub tens-more : (n v d : ℕ) → v < tens n → d < 10 → v * 10 + d < tens (n + 1)
+pub tens_more : (n v d : ℕ) → v < tens n → d < 10 → v * 10 + d < tens (n + 1)
 unfolding tens
-tens-more n v d h k = let e : n + 1 ≡ suc n = omega arith in rw e (omega arith)
+tens_more n v d h k = let e : n + 1 ≡ suc n = omega arith in rw e (omega arith)
 
-pub tens-few : (n v : ℕ) → v < tens n → n ≤ maxDigits → v < 100000
+pub tens_few : (n v : ℕ) → v < tens n → n ≤ max_digits → v < 100000
 unfolding tens
-tens-few zero v h k = omega arith
-tens-few (suc zero) v h k = omega arith
-tens-few (suc (suc zero)) v h k = omega arith
-tens-few (suc (suc (suc zero))) v h k = omega arith
-tens-few (suc (suc (suc (suc zero)))) v h k = omega arith
-tens-few (suc (suc (suc (suc (suc zero))))) v h k = omega arith
-tens-few (suc (suc (suc (suc (suc (suc n)))))) v h k = absurd (omega arith)
+tens_few zero v h k = omega arith
+tens_few (suc zero) v h k = omega arith
+tens_few (suc (suc zero)) v h k = omega arith
+tens_few (suc (suc (suc zero))) v h k = omega arith
+tens_few (suc (suc (suc (suc zero)))) v h k = omega arith
+tens_few (suc (suc (suc (suc (suc zero))))) v h k = omega arith
+tens_few (suc (suc (suc (suc (suc (suc n)))))) v h k = absurd (omega arith)
 
 -- A run of some digits by the two tests of a value.
 value-tests : (ds : List ℕ) (x : Field) → 1 ≤ length ds
-    → ifTrue (isValue ds) x Bad ≡ ifLt maxDigits (length ds) Bad (ifLt maxValue (decimal 0 ds) Bad x)
-unfolding isValue
-value-tests ds x some = go (decLt maxDigits (length ds)) (decLt maxValue (decimal 0 ds))
+    → if_true (is_value ds) x Bad ≡ if_lt max_digits (length ds) Bad (if_lt max_value (decimal 0 ds) Bad x)
+unfolding is_value
+value-tests ds x some = go (dec_lt max_digits (length ds)) (dec_lt max_value (decimal 0 ds))
   where
-    on : (y : Bool) → ifLt (length ds) 1 false y ≡ y
-    on y = lt-else (length ds) 1 false y some
+    on : (y : Bool) → if_lt (length ds) 1 false y ≡ y
+    on y = lt_else (length ds) 1 false y some
 
-    go : Dec (maxDigits < length ds) → Dec (maxValue < decimal 0 ds)
-        → ifTrue (isValue ds) x Bad ≡ ifLt maxDigits (length ds) Bad (ifLt maxValue (decimal 0 ds) Bad x)
-    go (yes k) m = true-else _ _ _ (on _ ∙ lt-then _ _ _ _ k) ∙ sym (lt-then _ _ _ _ k)
+    go : Dec (max_digits < length ds) → Dec (max_value < decimal 0 ds)
+        → if_true (is_value ds) x Bad ≡ if_lt max_digits (length ds) Bad (if_lt max_value (decimal 0 ds) Bad x)
+    go (yes k) m = true_else _ _ _ (on _ ∙ lt_then _ _ _ _ k) ∙ sym (lt_then _ _ _ _ k)
     go (no k) (yes m) =
-        let few : length ds ≤ maxDigits = omega arith in
-        true-else _ _ _ (on _ ∙ lt-else _ _ _ _ few ∙ lt-then _ _ _ _ m) ∙ sym (lt-else _ _ _ _ few ∙ lt-then _ _ _ _ m)
+        let few : length ds ≤ max_digits = omega arith in
+        true_else _ _ _ (on _ ∙ lt_else _ _ _ _ few ∙ lt_then _ _ _ _ m) ∙ sym (lt_else _ _ _ _ few ∙ lt_then _ _ _ _ m)
     go (no k) (no m) =
-        let few : length ds ≤ maxDigits = omega arith in
-        let small : decimal 0 ds ≤ maxValue = omega arith in
-        true-then _ _ _ (is-value ds some few small) ∙ sym (lt-else _ _ _ _ few ∙ lt-else _ _ _ _ small)
+        let few : length ds ≤ max_digits = omega arith in
+        let small : decimal 0 ds ≤ max_value = omega arith in
+        true_then _ _ _ (is-value ds some few small) ∙ sym (lt_else _ _ _ _ few ∙ lt_else _ _ _ _ small)
 
 -- A value begins with a digit, and goes on from there.
-module _ (f : List ℕ) (e at d : ℕ) (p : d ≡ figureAt f at) where
-  pub value-none : 10 ≤ d → Bad ≡ valueAt f e at
-  unfolding valueAt isValue
-  value-none h = rw (run-off f at d p h) (sym (true-else _ _ _ (lt-then _ _ _ _ (omega arith))))
+module _ (f : List ℕ) (e at d : ℕ) (p : d ≡ figure_at f at) where
+  pub value_none : 10 ≤ d → Bad ≡ value_at f e at
+  unfolding value_at is_value
+  value_none h = rw (run-off f at d p h) (sym (true_else _ _ _ (lt_then _ _ _ _ (omega arith))))
 
-  pub value-begin : d < 10 → valueAt f e at ≡ valueRest f e at 1 d (run (drop (at + 1) f))
-  unfolding valueAt valueRest
+  pub value-begin : d < 10 → value_at f e at ≡ value_rest f e at 1 d (run (drop (at + 1) f))
+  unfolding value_at value_rest
   value-begin h =
       let ds : List ℕ = run (drop (at + 1) f) in
       let n : suc (length ds) ≡ 1 + length ds = omega arith in
-      rw (run-on f at d p h) (value-tests (d ∷ ds) _ (omega arith) ∙ rw (decimal-first d ds, n))
+      rw (run_on f at d p h) (value-tests (d ∷ ds) _ (omega arith) ∙ rw (decimal-first d ds, n))
 
 -- It has n digits so far, and d stands behind them.
-module _ (f : List ℕ) (at n d : ℕ) (q : d ≡ figureAt f (at + n)) (h : d < 10) where
+module _ (f : List ℕ) (at n d : ℕ) (q : d ≡ figure_at f (at + n)) (h : d < 10) where
   pub more-in : at + (n + 1) ≤ length f
   more-in = omega (arith, next-in f (at + n) d q h)
 
   pub less-in : length f - (at + (n + 1)) < length f - (at + n)
   less-in = omega (arith, more-in)
 
-module _ (f : List ℕ) (e at n v d : ℕ) (p : valueAt f e at ≡ valueRest f e at n v (run (drop (at + n) f))) (q : d ≡ figureAt f (at + n)) where
-  pub value-turn : d < 10 → valueAt f e at ≡ valueRest f e at (n + 1) (v * 10 + d) (run (drop (at + (n + 1)) f))
-  unfolding valueRest decimal
+module _ (f : List ℕ) (e at n v d : ℕ) (p : value_at f e at ≡ value_rest f e at n v (run (drop (at + n) f))) (q : d ≡ figure_at f (at + n)) where
+  pub value-turn : d < 10 → value_at f e at ≡ value_rest f e at (n + 1) (v * 10 + d) (run (drop (at + (n + 1)) f))
+  unfolding value_rest decimal
   value-turn h =
       let i : at + n + 1 ≡ at + (n + 1) = omega arith in
       let k : n + suc (length (run (drop (at + (n + 1)) f))) ≡ n + 1 + length (run (drop (at + (n + 1)) f)) = omega arith in
-      p ∙ rw (run-on f (at + n) d q h, i, k)
+      p ∙ rw (run_on f (at + n) d q h, i, k)
 
-  pub value-long : d < 10 → maxDigits ≤ n → Bad ≡ valueAt f e at
-  unfolding valueRest
-  value-long h b = sym (value-turn h ∙ lt-then _ _ _ _ (omega arith))
+  pub value-long : d < 10 → max_digits ≤ n → Bad ≡ value_at f e at
+  unfolding value_rest
+  value-long h b = sym (value-turn h ∙ lt_then _ _ _ _ (omega arith))
 
-  pub value-big : 10 ≤ d → n ≤ maxDigits → maxValue < v → Bad ≡ valueAt f e at
-  unfolding valueRest decimal
-  value-big h k b = sym (p ∙ rw (run-off f (at + n) d q h) (lt-else _ _ _ _ (omega arith) ∙ lt-then _ _ _ _ b))
+  pub value-big : 10 ≤ d → n ≤ max_digits → max_value < v → Bad ≡ value_at f e at
+  unfolding value_rest decimal
+  value-big h k b = sym (p ∙ rw (run-off f (at + n) d q h) (lt_else _ _ _ _ (omega arith) ∙ lt_then _ _ _ _ b))
 
-  pub value-done : (r : Field) → 10 ≤ d → n ≤ maxDigits → v ≤ maxValue → r ≡ endedAt f e (at + n) v → r ≡ valueAt f e at
-  unfolding valueRest decimal
+  pub value-done : (r : Field) → 10 ≤ d → n ≤ max_digits → v ≤ max_value → r ≡ ended_at f e (at + n) v → r ≡ value_at f e at
+  unfolding value_rest decimal
   value-done r h k b g =
       let m : n + 0 ≡ n = omega arith in
-      g ∙ sym (p ∙ rw (run-off f (at + n) d q h, m) (lt-else _ _ _ _ k ∙ lt-else _ _ _ _ b))
+      g ∙ sym (p ∙ rw (run-off f (at + n) d q h, m) (lt_else _ _ _ _ k ∙ lt_else _ _ _ _ b))

@@ -1,162 +1,162 @@
 -- The verdict of the code is the model's verdict, and its table the index of accepted rows.
-use Prim.Native.Nat.{ℕ, _*_, _-_, _/_, _%_, _≤_, _<_}
+use Prim.Native.Nat.{ℕ, ◌*◌, ◌/◌, ◌%◌, ◌≤◌, ◌<◌}
 use native.Mathlib.Omega.{arith}
-use native.Mathlib.Decide.{ℕ-discrete, decLt}
-use mathlib.Core.Path.{_≡_, refl, sym, _∙_, ap}
+use native.Mathlib.Decide.{ℕ_discrete, dec_lt}
+use mathlib.Core.Path.{◌≡◌, refl, sym, ◌∙◌, ap}
 use mathlib.Core.List.{List, []}
 use lib.ListN.{length, replicate}
-use Rattle·model.specs.Choice.{ifEq, ifLt}
-use Rattle·model.specs.Limits.{rowSize, maxRows}
-use Rattle·model.specs.Rows.{rowsFrom, rowCount, rowsOf}
-use Rattle·model.specs.Rules.{start}
-use Rattle·model.specs.Blocks.{addRows, blocksOf, count}
-use Rattle·model.specs.Verdicts.{refused, andThen, checkLength, checkRows, verdict}
-use Rattle·model.specs.declared.Verdict.{Verdict}
-use Rattle·model.specs.declared.Verdict.the-variants.{Accepted}
-use Rattle·basics.proofs.Choices.{eq-then, eq-else, lt-then, lt-else}
-use Rattle·shows.proofs.Accepted.{accepted-show, not-accepted, both-accepted}
-use Rattle·verdicts·specs.specs.Index.{indexSize, Indexed}
-use Rattle·verdicts·specs.specs.Passing.{placed, rowsIn, judged, Fine, blocksTo, Scanned, IsChecked}
-use Rattle·verdicts·specs.specs.declared.Scan.{Scan}
-use Rattle·verdicts·proofs.proofs.Known.{known, blocks-all}
-use Rattle·verdicts·proofs.proofs.Openings.{indexed, ends-law, totals-law}
+use Rattle.model.specs.Choice.{if_eq, if_lt}
+use Rattle.model.specs.Limits.{row_size, max_rows}
+use Rattle.model.specs.Rows.{rows_from, row_count, rows_of}
+use Rattle.model.specs.Rules.{start}
+use Rattle.model.specs.Blocks.{add_rows, blocks_of}
+use Rattle.model.specs.Verdicts.{refused, and_then, check_length, check_rows, verdict}
+use Rattle.model.specs.declared.Verdict.{Verdict}
+use Rattle.model.specs.declared.Verdict.TheVariants.{Accepted}
+use Rattle.basics.proofs.Choices.{eq_then, eq_else, lt_then, lt_else}
+use Rattle.shows.proofs.Accepted.{accepted-show, not-accepted, both_accepted}
+use Rattle.verdicts.specs.Index.{index_size, Indexed}
+use Rattle.verdicts.specs.Passing.{placed, rows_in, judged, Fine, blocks_to, Scanned, IsChecked}
+use Rattle.verdicts.specs.declared.Scan.{Scan}
+use Rattle.verdicts.proofs.Known.{known, blocks-all}
+use Rattle.verdicts.proofs.Openings.{indexed, ends-law, totals-law}
 
 -- Check 4.
-rows-fit : (xs : List ℕ) → (rowsIn xs ≡ 0 → checkLength xs ≡ refused 4 0) × ((rowsIn xs ≡ 0 → ⊥) → (checkLength xs ≡ Accepted) × (rowsIn xs ≡ rowCount xs))
-unfolding rowsIn checkLength rowCount
-rows-fit xs = go (ℕ-discrete (length xs % rowSize) 0) (decLt maxRows (length xs / rowSize)) (decLt (length xs / rowSize) 1)
+rows_fit : (xs : List ℕ) → (rows_in xs ≡ 0 → check_length xs ≡ refused 4 0) × ((rows_in xs ≡ 0 → ⊥) → (check_length xs ≡ Accepted) × (rows_in xs ≡ row_count xs))
+unfolding rows_in check_length row_count
+rows_fit xs = go (ℕ_discrete (length xs % row_size) 0) (dec_lt max_rows (length xs / row_size)) (dec_lt (length xs / row_size) 1)
   where
     n : ℕ
-    n = length xs / rowSize
+    n = length xs / row_size
 
     Goal : Type 0
     Goal =
-        (ifEq (length xs % rowSize) 0 (ifLt maxRows n 0 n) 0 ≡ 0 → ifEq (length xs % rowSize) 0 (ifLt n 1 (refused 4 0) (ifLt maxRows n (refused 4 0) Accepted)) (refused 4 0) ≡ refused 4 0)
-        × ((ifEq (length xs % rowSize) 0 (ifLt maxRows n 0 n) 0 ≡ 0 → ⊥)
-        → (ifEq (length xs % rowSize) 0 (ifLt n 1 (refused 4 0) (ifLt maxRows n (refused 4 0) Accepted)) (refused 4 0) ≡ Accepted)
-        × (ifEq (length xs % rowSize) 0 (ifLt maxRows n 0 n) 0 ≡ n))
+        (if_eq (length xs % row_size) 0 (if_lt max_rows n 0 n) 0 ≡ 0 → if_eq (length xs % row_size) 0 (if_lt n 1 (refused 4 0) (if_lt max_rows n (refused 4 0) Accepted)) (refused 4 0) ≡ refused 4 0)
+        × ((if_eq (length xs % row_size) 0 (if_lt max_rows n 0 n) 0 ≡ 0 → ⊥)
+        → (if_eq (length xs % row_size) 0 (if_lt n 1 (refused 4 0) (if_lt max_rows n (refused 4 0) Accepted)) (refused 4 0) ≡ Accepted)
+        × (if_eq (length xs % row_size) 0 (if_lt max_rows n 0 n) 0 ≡ n))
 
-    go : Dec (length xs % rowSize ≡ 0) → Dec (maxRows < n) → Dec (n < 1) → Goal
-    go (no a) b c = (λ e. eq-else _ _ _ _ a, λ m. absurd (m (eq-else _ _ _ _ a)))
+    go : Dec (length xs % row_size ≡ 0) → Dec (max_rows < n) → Dec (n < 1) → Goal
+    go (no a) b c = (λ e. eq_else _ _ _ _ a, λ m. absurd (m (eq_else _ _ _ _ a)))
     go (yes a) (yes b) (yes c) = absurd (omega arith)
-    go (yes a) (yes b) (no c) = (λ e. eq-then _ _ _ _ a ∙ lt-else _ _ _ _ (omega arith) ∙ lt-then _ _ _ _ b, λ m. absurd (m (eq-then _ _ _ _ a ∙ lt-then _ _ _ _ b)))
+    go (yes a) (yes b) (no c) = (λ e. eq_then _ _ _ _ a ∙ lt_else _ _ _ _ (omega arith) ∙ lt_then _ _ _ _ b, λ m. absurd (m (eq_then _ _ _ _ a ∙ lt_then _ _ _ _ b)))
     go (yes a) (no b) (yes c) =
-        (λ e. eq-then _ _ _ _ a ∙ lt-then _ _ _ _ c, λ m. absurd (m (eq-then _ _ _ _ a ∙ lt-else _ _ _ _ (omega arith) ∙ omega arith)))
+        (λ e. eq_then _ _ _ _ a ∙ lt_then _ _ _ _ c, λ m. absurd (m (eq_then _ _ _ _ a ∙ lt_else _ _ _ _ (omega arith) ∙ omega arith)))
     go (yes a) (no b) (no c) = (
-      λ e. absurd (omega (arith, sym (eq-then (length xs % rowSize) 0 (ifLt maxRows n 0 n) 0 a ∙ lt-else maxRows n 0 n (omega arith)) ∙ e)),
-      λ m. (eq-then _ _ _ _ a ∙ lt-else _ _ _ _ (omega arith) ∙ lt-else _ _ _ _ (omega arith), eq-then _ _ _ _ a ∙ lt-else _ _ _ _ (omega arith)),
+      λ e. absurd (omega (arith, sym (eq_then (length xs % row_size) 0 (if_lt max_rows n 0 n) 0 a ∙ lt_else max_rows n 0 n (omega arith)) ∙ e)),
+      λ m. (eq_then _ _ _ _ a ∙ lt_else _ _ _ _ (omega arith) ∙ lt_else _ _ _ _ (omega arith), eq_then _ _ _ _ a ∙ lt_else _ _ _ _ (omega arith)),
     )
 
-pub rows-many : (xs : List ℕ) → (rowsIn xs * rowSize ≤ length xs) × (rowsIn xs ≤ maxRows)
-unfolding rowsIn
-rows-many xs = go (ℕ-discrete (length xs % rowSize) 0) (decLt maxRows (length xs / rowSize))
+pub rows-many : (xs : List ℕ) → (rows_in xs * row_size ≤ length xs) × (rows_in xs ≤ max_rows)
+unfolding rows_in
+rows-many xs = go (ℕ_discrete (length xs % row_size) 0) (dec_lt max_rows (length xs / row_size))
   where
-    go : Dec (length xs % rowSize ≡ 0) → Dec (maxRows < length xs / rowSize)
-        → (ifEq (length xs % rowSize) 0 (ifLt maxRows (length xs / rowSize) 0 (length xs / rowSize)) 0 * rowSize ≤ length xs)
-        × (ifEq (length xs % rowSize) 0 (ifLt maxRows (length xs / rowSize) 0 (length xs / rowSize)) 0 ≤ maxRows)
-    go (no a) b = rw (eq-else (length xs % rowSize) 0 (ifLt maxRows (length xs / rowSize) 0 (length xs / rowSize)) 0 a) (omega arith)
-    go (yes a) (yes b) = rw (eq-then (length xs % rowSize) 0 (ifLt maxRows (length xs / rowSize) 0 (length xs / rowSize)) 0 a, lt-then maxRows (length xs / rowSize) 0 (length xs / rowSize) b) (omega arith)
-    go (yes a) (no b) = rw (eq-then (length xs % rowSize) 0 (ifLt maxRows (length xs / rowSize) 0 (length xs / rowSize)) 0 a, lt-else maxRows (length xs / rowSize) 0 (length xs / rowSize) (omega arith)) (omega arith)
+    go : Dec (length xs % row_size ≡ 0) → Dec (max_rows < length xs / row_size)
+        → (if_eq (length xs % row_size) 0 (if_lt max_rows (length xs / row_size) 0 (length xs / row_size)) 0 * row_size ≤ length xs)
+        × (if_eq (length xs % row_size) 0 (if_lt max_rows (length xs / row_size) 0 (length xs / row_size)) 0 ≤ max_rows)
+    go (no a) b = rw (eq_else (length xs % row_size) 0 (if_lt max_rows (length xs / row_size) 0 (length xs / row_size)) 0 a) (omega arith)
+    go (yes a) (yes b) = rw (eq_then (length xs % row_size) 0 (if_lt max_rows (length xs / row_size) 0 (length xs / row_size)) 0 a, lt_then max_rows (length xs / row_size) 0 (length xs / row_size) b) (omega arith)
+    go (yes a) (no b) = rw (eq_then (length xs % row_size) 0 (if_lt max_rows (length xs / row_size) 0 (length xs / row_size)) 0 a, lt_else max_rows (length xs / row_size) 0 (length xs / row_size) (omega arith)) (omega arith)
 
 -- One check after another.
-passes-first : (v : Verdict) → andThen Accepted v ≡ v
-unfolding andThen
+passes-first : (v : Verdict) → and_then Accepted v ≡ v
+unfolding and_then
 passes-first v = refl
 
-refuses-first : (k p : ℕ) (v : Verdict) → andThen (refused k p) v ≡ refused k p
-unfolding andThen refused
-refuses-first k p v = refl
+refuses_first : (k p : ℕ) (v : Verdict) → and_then (refused k p) v ≡ refused k p
+unfolding and_then refused
+refuses_first k p v = refl
 
-both-placed : (p q : ℕ) → andThen (placed 9 p) (placed 10 q) ≡ ifEq p 0 (ifEq q 0 Accepted (refused 10 q)) (refused 9 p)
+both_placed : (p q : ℕ) → and_then (placed 9 p) (placed 10 q) ≡ if_eq p 0 (if_eq q 0 Accepted (refused 10 q)) (refused 9 p)
 unfolding placed
-both-placed p q = go (ℕ-discrete p 0)
+both_placed p q = go (ℕ_discrete p 0)
   where
-    go : Dec (p ≡ 0) → andThen (ifEq p 0 Accepted (refused 9 p)) (ifEq q 0 Accepted (refused 10 q)) ≡ ifEq p 0 (ifEq q 0 Accepted (refused 10 q)) (refused 9 p)
-    go (yes e) = rw (eq-then p 0 Accepted (refused 9 p) e, eq-then p 0 (ifEq q 0 Accepted (refused 10 q)) (refused 9 p) e) (passes-first _)
-    go (no n) = rw (eq-else p 0 Accepted (refused 9 p) n, eq-else p 0 (ifEq q 0 Accepted (refused 10 q)) (refused 9 p) n) (refuses-first 9 p _)
+    go : Dec (p ≡ 0) → and_then (if_eq p 0 Accepted (refused 9 p)) (if_eq q 0 Accepted (refused 10 q)) ≡ if_eq p 0 (if_eq q 0 Accepted (refused 10 q)) (refused 9 p)
+    go (yes e) = rw (eq_then p 0 Accepted (refused 9 p) e, eq_then p 0 (if_eq q 0 Accepted (refused 10 q)) (refused 9 p) e) (passes-first _)
+    go (no n) = rw (eq_else p 0 Accepted (refused 9 p) n, eq_else p 0 (if_eq q 0 Accepted (refused 10 q)) (refused 9 p) n) (refuses_first 9 p _)
 
 -- The verdict is what the pass and the table say.
-module _ (xs t : List ℕ) (s : Scan) (S : Scanned xs (rowsIn xs) t s) where
-  none-law : rowsIn xs ≡ 0 → judged xs t (rowsIn xs) (s .fault) (s .row) (s .blocks) ≡ verdict xs
+module _ (xs t : List ℕ) (s : Scan) (S : Scanned xs (rows_in xs) t s) where
+  none-law : rows_in xs ≡ 0 → judged xs t (rows_in xs) s.fault s.row s.blocks ≡ verdict xs
   unfolding judged verdict
-  none-law e = rw (rows-fit xs .0 e) (eq-then _ _ _ _ e ∙ sym (refuses-first 4 0 _))
+  none-law e = rw ((rows_fit xs).0 e) (eq_then _ _ _ _ e ∙ sym (refuses_first 4 0 _))
 
-  module _ (some : rowsIn xs ≡ 0 → ⊥) where
-    length-fits : checkLength xs ≡ Accepted
-    length-fits = rows-fit xs .1 some .0
+  module _ (some : rows_in xs ≡ 0 → ⊥) where
+    length-fits : check_length xs ≡ Accepted
+    length-fits = ((rows_fit xs).1 some).0
 
-    count-is : rowsIn xs ≡ rowCount xs
-    count-is = rows-fit xs .1 some .1
+    count-is : rows_in xs ≡ row_count xs
+    count-is = ((rows_fit xs).1 some).1
 
-    rows-are : rowsFrom xs 0 (rowsIn xs) ≡ rowsOf xs
-    unfolding rowsOf
-    rows-are = rw count-is
+    rows_are : rows_from xs 0 (rows_in xs) ≡ rows_of xs
+    unfolding rows_of
+    rows_are = rw count-is
 
-    pub says : (s .fault ≡ 0 → ⊥) → verdict xs ≡ refused (s .fault) (s .row)
+    pub says : (s.fault ≡ 0 → ⊥) → verdict xs ≡ refused s.fault s.row
     unfolding verdict
     says n =
-        let e : checkRows start 1 (rowsOf xs) ≡ refused (s .fault) (s .row) = rw rows-are at (S .found n) in
-        rw (length-fits, e) (passes-first _ ∙ refuses-first _ _ _)
+        let e : check_rows start 1 (rows_of xs) ≡ refused s.fault s.row = rw rows_are at (S.found n) in
+        rw (length-fits, e) (passes-first _ ∙ refuses_first _ _ _)
 
-    found-law : (s .fault ≡ 0 → ⊥) → judged xs t (rowsIn xs) (s .fault) (s .row) (s .blocks) ≡ verdict xs
+    found-law : (s.fault ≡ 0 → ⊥) → judged xs t (rows_in xs) s.fault s.row s.blocks ≡ verdict xs
     unfolding judged
-    found-law n = eq-else _ _ _ _ some ∙ eq-else _ _ _ _ n ∙ sym (says n)
+    found-law n = eq_else _ _ _ _ some ∙ eq_else _ _ _ _ n ∙ sym (says n)
 
-    blocks-are : s .fault ≡ 0 → s .blocks ≡ length (blocksTo xs (rowsIn xs))
-    blocks-are z = let k = known xs (rowsIn xs) (S .fine z) in S .blocks z ∙ k .blocks ∙ k .tracks .count
+    blocks-are : s.fault ≡ 0 → s.blocks ≡ length (blocks_to xs (rows_in xs))
+    blocks-are z = let k = known xs (rows_in xs) (S.fine z) in S.blocks z ∙ k.blocks ∙ k.tracks.count
 
-    blocks-of : blocksTo xs (rowsIn xs) ≡ blocksOf xs
-    unfolding blocksOf
-    blocks-of = sym (blocks-all xs (rowsIn xs)) ∙ ap (addRows []) rows-are
+    blocks-of : blocks_to xs (rows_in xs) ≡ blocks_of xs
+    unfolding blocks_of
+    blocks-of = sym (blocks-all xs (rows_in xs)) ∙ ap (add_rows []) rows_are
 
-    fine-law : s .fault ≡ 0 → judged xs t (rowsIn xs) (s .fault) (s .row) (s .blocks) ≡ verdict xs
+    fine-law : s.fault ≡ 0 → judged xs t (rows_in xs) s.fault s.row s.blocks ≡ verdict xs
     unfolding judged verdict
     fine-law z =
-        let few : rowsIn xs ≤ maxRows = rows-many xs .1 in
-        let r : checkRows start 1 (rowsOf xs) ≡ Accepted = rw rows-are at (S .passed z) in
-        let e9 = rw (rows-are, blocks-of) at (ends-law xs (rowsIn xs) (S .fine z) few) in
-        let e10 = rw (rows-are, blocks-of) at (totals-law xs (rowsIn xs) (S .fine z) few) in
-        eq-else _ _ _ _ some ∙ eq-then _ _ _ _ z
-        ∙ rw (length-fits, r, e9, e10, S .table z, blocks-are z, blocks-of) (sym (passes-first _ ∙ passes-first _ ∙ both-placed _ _))
+        let few : rows_in xs ≤ max_rows = (rows-many xs).1 in
+        let r : check_rows start 1 (rows_of xs) ≡ Accepted = rw rows_are at (S.passed z) in
+        let e9 = rw (rows_are, blocks-of) at (ends-law xs (rows_in xs) (S.fine z) few) in
+        let e10 = rw (rows_are, blocks-of) at (totals-law xs (rows_in xs) (S.fine z) few) in
+        eq_else _ _ _ _ some ∙ eq_then _ _ _ _ z
+        ∙ rw (length-fits, r, e9, e10, S.table z, blocks-are z, blocks-of) (sym (passes-first _ ∙ passes-first _ ∙ both_placed _ _))
 
-  pub judged-law : judged xs t (rowsIn xs) (s .fault) (s .row) (s .blocks) ≡ verdict xs
-  judged-law = go (ℕ-discrete (rowsIn xs) 0) (ℕ-discrete (s .fault) 0)
+  pub judged-law : judged xs t (rows_in xs) s.fault s.row s.blocks ≡ verdict xs
+  judged-law = go (ℕ_discrete (rows_in xs) 0) (ℕ_discrete s.fault 0)
     where
-      go : Dec (rowsIn xs ≡ 0) → Dec (s .fault ≡ 0) → judged xs t (rowsIn xs) (s .fault) (s .row) (s .blocks) ≡ verdict xs
+      go : Dec (rows_in xs ≡ 0) → Dec (s.fault ≡ 0) → judged xs t (rows_in xs) s.fault s.row s.blocks ≡ verdict xs
       go (yes e) d = none-law e
       go (no n) (yes z) = fine-law n z
       go (no n) (no m) = found-law n m
 
   -- Accepted rows have no fault, and are not none.
-  accepted-some : verdict xs ≡ Accepted → rowsIn xs ≡ 0 → ⊥
+  accepted-some : verdict xs ≡ Accepted → rows_in xs ≡ 0 → ⊥
   unfolding verdict
-  accepted-some v e = not-accepted 4 0 (sym (rows-fit xs .0 e) ∙ both-accepted (checkLength xs) _ v .0)
+  accepted-some v e = not-accepted 4 0 (sym ((rows_fit xs).0 e) ∙ (both_accepted (check_length xs) _ v).0)
 
-  accepted-fine : verdict xs ≡ Accepted → s .fault ≡ 0
-  accepted-fine v = go (ℕ-discrete (s .fault) 0)
+  accepted-fine : verdict xs ≡ Accepted → s.fault ≡ 0
+  accepted-fine v = go (ℕ_discrete s.fault 0)
     where
-      go : Dec (s .fault ≡ 0) → s .fault ≡ 0
+      go : Dec (s.fault ≡ 0) → s.fault ≡ 0
       go (yes z) = z
-      go (no n) = absurd (not-accepted (s .fault) (s .row) (sym (found-says n) ∙ v))
+      go (no n) = absurd (not-accepted s.fault s.row (sym (found-says n) ∙ v))
         where
-          found-says : (s .fault ≡ 0 → ⊥) → verdict xs ≡ refused (s .fault) (s .row)
+          found-says : (s.fault ≡ 0 → ⊥) → verdict xs ≡ refused s.fault s.row
           found-says m = says (accepted-some v) m
 
-  table-is : verdict xs ≡ Accepted → Indexed xs t
-  table-is a =
+  table_is : verdict xs ≡ Accepted → Indexed xs t
+  table_is a =
       let z = accepted-fine a in
       let c = count-is (accepted-some a) in
-      let f : Fine xs (rowCount xs) = rw c at (S .fine z) in
-      rw (S .table z, c) (indexed xs f (accepted-show xs a .totals))
+      let f : Fine xs (row_count xs) = rw c at (S.fine z) in
+      rw (S.table z, c) (indexed xs f (accepted-show xs a).totals)
 
-  pub is-checked : (v : Verdict) → v ≡ judged xs t (rowsIn xs) (s .fault) (s .row) (s .blocks)
+  pub is-checked : (v : Verdict) → v ≡ judged xs t (rows_in xs) s.fault s.row s.blocks
       → IsChecked xs t v
-  is-checked v e = record { said = e ∙ judged-law; table = λ a. table-is a }
+  is-checked v e = record { said = e ∙ judged-law; table = λ a. table_is a }
 
 -- The same with the number of rows under another name.
-pub pass-asks : (xs t : List ℕ) (n : ℕ) → n ≡ rowsIn xs → t ≡ replicate indexSize 0 → (n * rowSize ≤ length xs) × (n ≤ maxRows) × (t ≡ replicate indexSize 0)
-pass-asks xs t n e empty = let m = rows-many xs in (rw e (m .0), rw e (m .1), empty)
+pub pass_asks : (xs t : List ℕ) (n : ℕ) → n ≡ rows_in xs → t ≡ replicate index_size 0 → (n * row_size ≤ length xs) × (n ≤ max_rows) × (t ≡ replicate index_size 0)
+pass_asks xs t n e empty = let m = rows-many xs in (rw e m.0, rw e m.1, empty)
 
-pub checked-of : (xs t : List ℕ) (n : ℕ) (s : Scan) (v : Verdict) → n ≡ rowsIn xs → Scanned xs n t s
-    → v ≡ judged xs t n (s .fault) (s .row) (s .blocks) → IsChecked xs t v
-checked-of xs t n s v e S j = is-checked xs t s (rw e at S) v (rw e at j)
+pub checked_of : (xs t : List ℕ) (n : ℕ) (s : Scan) (v : Verdict) → n ≡ rows_in xs → Scanned xs n t s
+    → v ≡ judged xs t n s.fault s.row s.blocks → IsChecked xs t v
+checked_of xs t n s v e S j = is-checked xs t s (rw e at S) v (rw e at j)

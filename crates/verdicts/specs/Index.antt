@@ -1,48 +1,45 @@
 -- What the index of blocks says of lent rows. Rows are counted from 0 here.
-use Prim.Native.Nat.{ℕ, zero, suc, _+_, _*_, _-_, _≤_, _<_}
-use mathlib.Core.Path.{_≡_}
-use mathlib.Core.List.{List, [], _∷_}
-use lib.ListN.{length, getD, take}
-use Rattle·model.specs.Limits.{maxBlocks}
-use Rattle·model.specs.Rows.{cell, rowAt, rowCount}
-use Rattle·model.specs.Blocks.{Link, Use, Block, blockAt, joinsOf, total, blocksOf}
-use Rattle·model.specs.Behind.{openingRow}
+use Rattle.std.specs.Prelude.{ℕ, zero, suc, ◌+◌, ◌*◌, ◌-◌, ◌≤◌, ◌<◌, ◌≡◌, List, [], ◌∷◌, length, get_or, take}
+use Rattle.model.specs.Limits.{max_blocks}
+use Rattle.model.specs.Rows.{cell, row_at, row_count}
+use Rattle.model.specs.Blocks.{Link, Use, Block, block_at, joins_of, total, blocks_of}
+use Rattle.model.specs.Behind.{opening_row}
 
 -- The link of row r, and those of n rows from r on.
-unfoldable pub linkAt : List ℕ → ℕ → Link
-linkAt xs r = record { from = cell xs r 3; to = cell xs r 4; label = cell xs r 2 }
+unfoldable pub link_at : List ℕ → ℕ → Link
+link_at xs r = record { from = cell xs r 3; to = cell xs r 4; label = cell xs r 2 }
 
-unfoldable pub linksFrom : List ℕ → ℕ → ℕ → List Link
-linksFrom xs r zero = []
-linksFrom xs r (suc n) = linkAt xs r ∷ linksFrom xs (r + 1) n
+unfoldable pub links_from : List ℕ → ℕ → ℕ → List Link
+links_from xs r zero = []
+links_from xs r (suc n) = link_at xs r ∷ links_from xs (r + 1) n
 
 -- The use of row r among some blocks, and those of n rows from r on.
-unfoldable pub useAt : List ℕ → List Block → ℕ → Use
-useAt xs bs r = record { block = cell xs r 2; at = take (joinsOf bs (cell xs r 2)) (rowAt xs r .columns) }
+unfoldable pub use_at : List ℕ → List Block → ℕ → Use
+use_at xs bs r = record { block = cell xs r 2; at = take (joins_of bs (cell xs r 2)) (row_at xs r).columns }
 
-unfoldable pub usesFrom : List ℕ → List Block → ℕ → ℕ → List Use
-usesFrom xs bs r zero = []
-usesFrom xs bs r (suc n) = useAt xs bs r ∷ usesFrom xs bs (r + 1) n
+unfoldable pub uses_from : List ℕ → List Block → ℕ → ℕ → List Use
+uses_from xs bs r zero = []
+uses_from xs bs r (suc n) = use_at xs bs r ∷ uses_from xs bs (r + 1) n
 
 -- The block that row f opens, whose links end before row u and whose uses end before row e.
-unfoldable pub blockFrom : List ℕ → List Block → ℕ → ℕ → ℕ → Block
-blockFrom xs bs f u e =
-    record { joins = cell xs f 2; own = cell xs f 3; links = linksFrom xs (f + 1) (u - (f + 1)); uses = usesFrom xs bs u (e - u) }
+unfoldable pub block_from : List ℕ → List Block → ℕ → ℕ → ℕ → Block
+block_from xs bs f u e =
+    record { joins = cell xs f 2; own = cell xs f 3; links = links_from xs (f + 1) (u - (f + 1)); uses = uses_from xs bs u (e - u) }
 
 -- The numbers of the index: four for each of the most blocks.
-abbrev pub indexSize : ℕ
-indexSize = 4 * maxBlocks
+abbrev pub index_size : ℕ
+index_size = 4 * max_blocks
 
 -- The four numbers of block k. The model counts rows from 1.
 pub record IndexedBlock (xs t : List ℕ) (k : ℕ) : Type 0 where
-  pub opening : openingRow xs k ≡ getD t (4 * k) 0 + 1
-  pub opens : getD t (4 * k) 0 < getD t (4 * k + 1) 0
-  pub links : getD t (4 * k + 1) 0 ≤ getD t (4 * k + 2) 0
-  pub ends : getD t (4 * k + 2) 0 ≤ rowCount xs
-  pub block : blockAt (blocksOf xs) k ≡ blockFrom xs (blocksOf xs) (getD t (4 * k) 0) (getD t (4 * k + 1) 0) (getD t (4 * k + 2) 0)
-  pub total : getD t (4 * k + 3) 0 ≡ total (blocksOf xs) k
+  pub opening : opening_row xs k ≡ get_or t (4 * k) 0 + 1
+  pub opens : get_or t (4 * k) 0 < get_or t (4 * k + 1) 0
+  pub links : get_or t (4 * k + 1) 0 ≤ get_or t (4 * k + 2) 0
+  pub ends : get_or t (4 * k + 2) 0 ≤ row_count xs
+  pub block : block_at (blocks_of xs) k ≡ block_from xs (blocks_of xs) (get_or t (4 * k) 0) (get_or t (4 * k + 1) 0) (get_or t (4 * k + 2) 0)
+  pub total : get_or t (4 * k + 3) 0 ≡ total (blocks_of xs) k
 
 -- The table of accepted rows.
 pub record Indexed (xs t : List ℕ) : Type 0 where
-  pub size : length t ≡ indexSize
-  pub at : (k : ℕ) → k < length (blocksOf xs) → IndexedBlock xs t k
+  pub size : length t ≡ index_size
+  pub at : (k : ℕ) → k < length (blocks_of xs) → IndexedBlock xs t k

@@ -2,22 +2,16 @@
 //
 // The index is one table of four numbers for each block k, at 4 * k and on: the row that opens it, the first row behind its links, the
 // first row behind its uses, and its total. Rows are counted from 0 here. A total that is too large is kept as 2,147,483,648.
-ghost use mathlib.Core.Path.{_≡_};
-ghost use mathlib.Core.Bool.{true};
-ghost use Prim.Native.Nat.{_+_, _*_, _-_, _≤_, _<_};
-ghost use lib.ListN.{length, getD, replicate};
-ghost use Rattle·verdicts·specs.specs.Index.{indexSize};
-ghost use Rattle·verdicts·specs.specs.Passing.{capped, joinsAt, manyOf, Many, cuesOf, putAt, openIndexed, useIndexed, rowIndexed, nextState, Scanned, ownAt, standsAt, passesAt, rowNumber, placeFrom, rowsIn, judged, IsChecked};
-ghost use Rattle·model.specs.Limits.{rowSize, maxRows};
-ghost use Rattle·model.specs.Verdicts.{refused};
-use model::Refusal;
-use model::Verdict;
-use model::limits::MAX_BLOCKS;
-use model::limits::MAX_JOINS;
-use model::limits::MAX_OWN;
-use model::limits::MAX_ROWS;
-use model::limits::MAX_TOTAL;
-use model::limits::ROW_SIZE;
+#![tactic(auto)]
+
+ghost use Rattle.std.specs.Prelude.{◌≡◌, true, ◌+◌, ◌*◌, ◌-◌, ◌≤◌, ◌<◌, length, get_or, replicate};
+ghost use Rattle.verdicts.specs.Index.{index_size};
+ghost use Rattle.verdicts.specs.Passing.{capped, joins_at, many_of, Many, cues_of, put_at, open_indexed, use_indexed, row_indexed, next_state, Scanned, own_at, stands_at, passes_at, row_number_of, place_from, rows_in, judged, IsChecked};
+ghost use Rattle.model.specs.Limits.{row_size, max_rows};
+ghost use Rattle.model.specs.Verdicts.{refused};
+
+use model::limits::{MAX_BLOCKS, MAX_JOINS, MAX_OWN, MAX_ROWS, MAX_TOTAL, ROW_SIZE};
+use model::{Refusal, Verdict};
 
 // Limits in the other widths that the code compares them in.
 const MAX_TOTAL_64: u64 = MAX_TOTAL as u64;
@@ -35,6 +29,7 @@ pub const ENTRY: usize = 4;
 pub const INDEX: usize = ENTRY * MAX_BLOCKS as usize;
 
 // What is carried from row to row: how many blocks are open, how many cues the last of them has, the kind of the last row.
+#[derive(Drop)]
 pub struct State {
     pub blocks: u32,
     pub cues: u32,
@@ -42,6 +37,7 @@ pub struct State {
 }
 
 // The first fault of 5 to 8 that was found, or 0, and its row, counted from 1; and how many blocks were opened.
+#[derive(Drop)]
 pub struct Scan {
     pub fault: u32,
     pub row: u32,
@@ -49,27 +45,27 @@ pub struct Scan {
 }
 
 fn wide(x: u32) -> usize
-    ensures { λ r. ⌜ (r ≡ x) × (r < 4294967296) ⌝ }
+    ensures { (result ≡ x) × (result < 4294967296) }
 {
     x as usize
 }
 
 fn long(x: u32) -> u64
-    ensures { λ r. ⌜ (r ≡ x) × (r < 4294967296) ⌝ }
+    ensures { (result ≡ x) × (result < 4294967296) }
 {
     x as u64
 }
 
 // A number by its place, 0 past the end.
 pub fn get(xs: &[u32], i: usize) -> u32
-    ensures { λ r. ⌜ r ≡ getD (now (xs .entry)) i 0 ⌝ }
+    ensures { result ≡ get_or xs.now i 0 }
 {
     if i < xs.len() { xs[i] } else { 0 }
 }
 
 // A number of the table put in at its place.
 fn put(t: &mut [u32; INDEX], i: usize, v: u32)
-    ensures { λ _. ⌜ now (t .exit) ≡ putAt (now (t .entry)) i v ⌝ }
+    ensures { t.new ≡ put_at t.old i v }
 {
     if i < INDEX {
         t[i] = v;
@@ -78,7 +74,7 @@ fn put(t: &mut [u32; INDEX], i: usize, v: u32)
 
 // The sum of two totals, held to one more than the largest.
 fn add_totals(a: u32, b: u32) -> u32
-    ensures { λ r. ⌜ r ≡ capped (a + b) ⌝ }
+    ensures { result ≡ capped (a + b) }
 {
     let sum = long(a) + long(b);
     if MAX_TOTAL_64 < sum {
@@ -89,7 +85,7 @@ fn add_totals(a: u32, b: u32) -> u32
 
 // The joins of block k, which the row that opens it has.
 fn joins_at(xs: &[u32], t: &[u32; INDEX], k: u32) -> usize
-    ensures { λ r. ⌜ r ≡ joinsAt (now (xs .entry)) (now (t .entry)) k ⌝ }
+    ensures { result ≡ joins_at xs.now t.now k }
 {
     let f = wide(get(t, wide(k) * ENTRY));
     wide(get(xs, f * ROW_SIZE + 2))
@@ -97,7 +93,7 @@ fn joins_at(xs: &[u32], t: &[u32; INDEX], k: u32) -> usize
 
 // The own cues of block k.
 fn own_at(xs: &[u32], t: &[u32; INDEX], k: u32) -> u32
-    ensures { λ r. ⌜ r ≡ ownAt (now (xs .entry)) (now (t .entry)) k ⌝ }
+    ensures { result ≡ own_at xs.now t.now k }
 {
     let f = wide(get(t, wide(k) * ENTRY));
     get(xs, f * ROW_SIZE + 3)
@@ -105,8 +101,8 @@ fn own_at(xs: &[u32], t: &[u32; INDEX], k: u32) -> u32
 
 // How many joins the block has that a use at p names.
 fn many_of(xs: &[u32], t: &[u32; INDEX], p: usize, blocks: u32) -> usize
-    requires { ⌜ p + rowSize ≤ length (now xs) ⌝ }
-    ensures { λ r. ⌜ Many (manyOf (now (xs .entry)) (now (t .entry)) p blocks) r ⌝ }
+    requires { p + row_size ≤ length xs.now }
+    ensures { Many (many_of xs.now t.now p blocks) result }
 {
     if xs[p + 1] != 2 {
         return 0;
@@ -124,7 +120,7 @@ fn many_of(xs: &[u32], t: &[u32; INDEX], p: usize, blocks: u32) -> usize
 
 // How many cues a block has.
 fn cues_of(own: u32, joins: u32) -> u32
-    ensures { λ r. ⌜ r ≡ cuesOf own joins ⌝ }
+    ensures { result ≡ cues_of own joins }
 {
     if MAX_OWN < own {
         return 0;
@@ -137,8 +133,8 @@ fn cues_of(own: u32, joins: u32) -> u32
 
 // What an opening at row r puts into the table.
 fn index_open(t: &mut [u32; INDEX], at: usize, r: u32, own: u32)
-    requires { ⌜ (r < maxRows) × (at < 17179869184) ⌝ }
-    ensures { λ _. ⌜ now (t .exit) ≡ openIndexed (now (t .entry)) at r own ⌝ }
+    requires { (r < max_rows) × (at < 17179869184) }
+    ensures { t.new ≡ open_indexed t.old at r own }
 {
     put(t, at, r);
     put(t, at + 1, r + 1);
@@ -148,8 +144,8 @@ fn index_open(t: &mut [u32; INDEX], at: usize, r: u32, own: u32)
 
 // What a use of block k adds to the total.
 fn index_use(t: &mut [u32; INDEX], at: usize, k: usize)
-    requires { ⌜ (at < 17179869184) × (k < 4294967296) ⌝ }
-    ensures { λ _. ⌜ now (t .exit) ≡ useIndexed (now (t .entry)) at k ⌝ }
+    requires { (at < 17179869184) × (k < 4294967296) }
+    ensures { t.new ≡ use_indexed t.old at k }
 {
     let used = get(t, k * ENTRY + 3);
     let total = add_totals(get(t, at + 3), used);
@@ -158,8 +154,8 @@ fn index_use(t: &mut [u32; INDEX], at: usize, k: usize)
 
 // The table after row r, which has passed.
 fn index_row(t: &mut [u32; INDEX], block: u32, kind: u32, label: u32, own: u32, r: u32)
-    requires { ⌜ r < maxRows ⌝ }
-    ensures { λ _. ⌜ now (t .exit) ≡ rowIndexed (now (t .entry)) block kind label own r ⌝ }
+    requires { r < max_rows }
+    ensures { t.new ≡ row_indexed t.old block kind label own r }
 {
     let at = block as usize * ENTRY;
     if kind == 0 {
@@ -176,8 +172,8 @@ fn index_row(t: &mut [u32; INDEX], block: u32, kind: u32, label: u32, own: u32, 
 
 // What is carried on after the row at p, which has passed.
 fn next_state(xs: &[u32], p: usize, s: State) -> State
-    requires { ⌜ (p + rowSize ≤ length (now xs)) × (s .blocks ≤ maxRows) ⌝ }
-    ensures { λ r. ⌜ r ≡ nextState (now (xs .entry)) p s ⌝ }
+    requires { (p + row_size ≤ length xs.now) × (s.blocks ≤ max_rows) }
+    ensures { result ≡ next_state xs.now p s }
 {
     let kind = xs[p + 1];
     if kind == 0 {
@@ -196,7 +192,7 @@ fn next_state(xs: &[u32], p: usize, s: State) -> State
 
 // The row before row r, or the first.
 fn row_before(r: usize) -> usize
-    ensures { λ p. ⌜ p ≡ r - 1 ⌝ }
+    ensures { result ≡ r - 1 }
 {
     if r == 0 {
         return 0;
@@ -206,8 +202,8 @@ fn row_before(r: usize) -> usize
 
 // Checks 5 to 8 of n rows in one pass, with the index of what was read in a table that was empty.
 pub fn pass(xs: &[u32], n: usize, t: &mut [u32; INDEX]) -> Scan
-    requires { ⌜ (n * rowSize ≤ length (now xs)) × (n ≤ maxRows) × (now t ≡ replicate indexSize 0) ⌝ }
-    ensures { λ r. ⌜ Scanned (now (xs .entry)) n (now (t .exit)) r ⌝ }
+    requires { (n * row_size ≤ length xs.now) × (n ≤ max_rows) × (t.old ≡ replicate index_size 0) }
+    ensures { Scanned xs.now n t.new result }
 {
     let mut s = State {
         blocks: 0,
@@ -247,8 +243,8 @@ pub fn pass(xs: &[u32], n: usize, t: &mut [u32; INDEX]) -> Scan
 
 // Check 9 of block k.
 fn stands(xs: &[u32], t: &[u32; INDEX], blocks: u32, k: u32) -> bool
-    requires { ⌜ k < 4294967295 ⌝ }
-    ensures { λ r. ⌜ r ≡ standsAt (now (xs .entry)) (now (t .entry)) blocks k ⌝ }
+    requires { k < 4294967295 }
+    ensures { result ≡ stands_at xs.now t.now blocks k }
 {
     let joins = joins_at(xs, t, k);
     if k + 1 != blocks {
@@ -262,8 +258,8 @@ fn stands(xs: &[u32], t: &[u32; INDEX], blocks: u32, k: u32) -> bool
 
 // Check 9 or 10 of block k.
 fn passes(xs: &[u32], t: &[u32; INDEX], blocks: u32, k: u32, number: u32) -> bool
-    requires { ⌜ k < 4294967295 ⌝ }
-    ensures { λ r. ⌜ r ≡ passesAt number (now (xs .entry)) (now (t .entry)) blocks k ⌝ }
+    requires { k < 4294967295 }
+    ensures { result ≡ passes_at number xs.now t.now blocks k }
 {
     if number == 9 {
         return stands(xs, t, blocks, k);
@@ -276,7 +272,7 @@ fn passes(xs: &[u32], t: &[u32; INDEX], blocks: u32, k: u32, number: u32) -> boo
 
 // The number of a row that has so many rows before it.
 fn row_number(r: u32) -> u32
-    ensures { λ p. ⌜ p ≡ rowNumber r ⌝ }
+    ensures { result ≡ row_number_of r }
 {
     if r < MAX_ROWS_32 {
         return r + 1;
@@ -286,7 +282,7 @@ fn row_number(r: u32) -> u32
 
 // The opening row of the first block that fails check 9 or 10, or 0.
 fn check_blocks(xs: &[u32], t: &[u32; INDEX], blocks: u32, number: u32) -> u32
-    ensures { λ p. ⌜ p ≡ placeFrom (passesAt number (now (xs .entry)) (now (t .entry)) blocks) (now (t .entry)) 0 blocks ⌝ }
+    ensures { result ≡ place_from (passes_at number xs.now t.now blocks) t.now 0 blocks }
 {
     let mut k = 0;
     while k < blocks {
@@ -301,7 +297,7 @@ fn check_blocks(xs: &[u32], t: &[u32; INDEX], blocks: u32, number: u32) -> u32
 
 // How many rows are lent: 0 if they meet refusal 4.
 fn rows_in(xs: &[u32]) -> usize
-    ensures { λ n. ⌜ n ≡ rowsIn (now (xs .entry)) ⌝ }
+    ensures { result ≡ rows_in xs.now }
 {
     if xs.len() % ROW_SIZE != 0 {
         return 0;
@@ -313,7 +309,7 @@ fn rows_in(xs: &[u32]) -> usize
 }
 
 fn refuse(number: u32, place: u32) -> Verdict
-    ensures { λ v. ⌜ v ≡ refused number place ⌝ }
+    ensures { result ≡ refused number place }
 {
     Verdict::Refused(Refusal {
         number: number,
@@ -323,7 +319,7 @@ fn refuse(number: u32, place: u32) -> Verdict
 
 // The verdict on n rows, after the pass over them.
 fn judge(xs: &[u32], t: &[u32; INDEX], n: usize, fault: u32, row: u32, blocks: u32) -> Verdict
-    ensures { λ v. ⌜ v ≡ judged (now (xs .entry)) (now (t .entry)) n fault row blocks ⌝ }
+    ensures { result ≡ judged xs.now t.now n fault row blocks }
 {
     if n == 0 {
         return refuse(4, 0);
@@ -344,8 +340,8 @@ fn judge(xs: &[u32], t: &[u32; INDEX], n: usize, fault: u32, row: u32, blocks: u
 
 // The verdict on lent rows, and the index of their blocks in a table that was empty.
 pub fn check(xs: &[u32], t: &mut [u32; INDEX]) -> Verdict
-    requires { ⌜ now t ≡ replicate indexSize 0 ⌝ }
-    ensures { λ v. ⌜ IsChecked (now (xs .entry)) (now (t .exit)) v ⌝ }
+    requires { t.old ≡ replicate index_size 0 }
+    ensures { IsChecked xs.now t.new result }
 {
     let n = rows_in(xs);
     let s = pass(xs, n, t);

@@ -1,15 +1,13 @@
 // The wait file, read in one pass to a table of waits. Others call read.
-use lines::Line;
-use lines::small;
-use model::limits::MAX_FOLLOWED;
-use model::limits::MAX_WAIT;
-ghost use mathlib.Core.Path.{_≡_};
-ghost use mathlib.Core.Bool.{true};
-ghost use Prim.Native.Nat.{_+_, _<_};
-ghost use lib.ListN.{set};
-ghost use Rattle·model.specs.Waits.{waitNames, isOutside, noWaits, waitFile};
-ghost use Rattle·lines.specs.Scanning.{startsWith};
-ghost use Rattle·waits·specs.specs.Passing.{earliest, isLow, withLine, judged, SaysWaits};
+#![tactic(auto)]
+
+ghost use Rattle.std.specs.Prelude.{◌≡◌, true, ◌+◌, ◌<◌, set};
+ghost use Rattle.model.specs.Waits.{wait_names, is_outside, no_waits, wait_file};
+ghost use Rattle.lines.specs.Scanning.{starts_with};
+ghost use Rattle.waits.specs.Passing.{earliest, is_low, with_line, judged, SaysWaits};
+
+use lines::{Line, small};
+use model::limits::{MAX_FOLLOWED, MAX_WAIT};
 
 // A wait for each of the labels 0 to 254.
 pub const WAITS: usize = MAX_FOLLOWED as usize + 1;
@@ -20,12 +18,14 @@ const NAMES: [u8; NAMES_SIZE] = *b"label,wait\n";
 const NAMES_SIZE: usize = 11;
 
 // What a wait file says: it is lawful, or a refusal's number and line.
+#[derive(Drop)]
 pub enum WaitsRead {
     Lawful,
     Unfit(u32, u64),
 }
 
 // What is known of the lines read so far: the number of the next, the label of the last, and the first lines that refusals 16 and 17 are for, 0 for none.
+#[derive(Drop)]
 struct Seen {
     line: usize,
     before: u32,
@@ -35,7 +35,7 @@ struct Seen {
 
 // A label or a wait is outside its range.
 fn is_outside(label: u32, wait: u32) -> bool
-    ensures { λ r. ⌜ r ≡ isOutside label wait ⌝ }
+    ensures { result ≡ is_outside label wait }
 {
     if label < 1 {
         return true;
@@ -48,7 +48,7 @@ fn is_outside(label: u32, wait: u32) -> bool
 
 // A label isn't above the one before.
 fn is_low(label: u32, before: u32) -> bool
-    ensures { λ r. ⌜ r ≡ isLow before label ⌝ }
+    ensures { result ≡ is_low before label }
 {
     if before < label {
         return false;
@@ -58,7 +58,7 @@ fn is_low(label: u32, before: u32) -> bool
 
 // The first line of a kind: the one that is known, else this one if it is of the kind.
 fn earliest(known: usize, is: bool, line: usize) -> usize
-    ensures { λ r. ⌜ r ≡ earliest known is line ⌝ }
+    ensures { result ≡ earliest known is line }
 {
     if known == 0 {
         if is {
@@ -70,8 +70,8 @@ fn earliest(known: usize, is: bool, line: usize) -> usize
 
 // What is known behind one line more. The number of lines has 64 bits.
 fn with_line(seen: Seen, label: u32, wait: u32) -> Seen
-    requires { ⌜ seen .line < 18446744073709551615 ⌝ }
-    ensures { λ r. ⌜ r ≡ withLine seen label wait ⌝ }
+    requires { seen.line < 18446744073709551615 }
+    ensures { result ≡ with_line seen label wait }
 {
     Seen {
         line: seen.line + 1,
@@ -83,7 +83,7 @@ fn with_line(seen: Seen, label: u32, wait: u32) -> Seen
 
 // A label's wait to its place, if there is one.
 fn put_wait(waits: &mut [u32], label: u32, wait: u32)
-    ensures { λ _. ⌜ now (waits .exit) ≡ set (now (waits .entry)) label wait ⌝ }
+    ensures { waits.new ≡ set waits.old label wait }
 {
     let i = label as usize;
     if i < waits.len() {
@@ -93,14 +93,14 @@ fn put_wait(waits: &mut [u32], label: u32, wait: u32)
 
 // A refusal, its line in 64 bits.
 fn unfit(number: u32, line: usize) -> WaitsRead
-    ensures { λ r. ⌜ r ≡ WaitsRead.Unfit number line ⌝ }
+    ensures { result ≡ WaitsRead.Unfit number line }
 {
     WaitsRead::Unfit(number, line as u64)
 }
 
 // 16, then 17, or none of them.
 fn judge(seen: Seen) -> WaitsRead
-    ensures { λ r. ⌜ r ≡ judged seen ⌝ }
+    ensures { result ≡ judged seen }
 {
     if seen.outside != 0 {
         return unfit(16, seen.outside);
@@ -113,8 +113,8 @@ fn judge(seen: Seen) -> WaitsRead
 
 // The lines behind the names: the first malformed one ends the pass, the first lines of 16 and 17 are kept.
 fn read_lines(file: &[u8], waits: &mut [u32]) -> WaitsRead
-    requires { ⌜ (now waits ≡ noWaits) × (startsWith waitNames (now file) ≡ true) ⌝ }
-    ensures { λ r. ⌜ SaysWaits (waitFile (now (file .entry))) r (now (waits .exit)) ⌝ }
+    requires { (waits.old ≡ no_waits) × (starts_with wait_names file.now ≡ true) }
+    ensures { SaysWaits (wait_file file.now) result waits.new }
 {
     let mut row = [0u32; 2];
     let mut seen = Seen {
@@ -137,8 +137,8 @@ fn read_lines(file: &[u8], waits: &mut [u32]) -> WaitsRead
 
 // Reads a wait file to a table of zeros. What a refused file leaves there is left open.
 pub fn read(file: &[u8], waits: &mut [u32]) -> WaitsRead
-    requires { ⌜ now waits ≡ noWaits ⌝ }
-    ensures { λ r. ⌜ SaysWaits (waitFile (now (file .entry))) r (now (waits .exit)) ⌝ }
+    requires { waits.old ≡ no_waits }
+    ensures { SaysWaits (wait_file file.now) result waits.new }
 {
     if lines::starts(file, &NAMES) {
         return read_lines(file, waits);

@@ -4,8 +4,8 @@
 
 use std::process::ExitCode;
 
-use second::compare::checker::{Census, Checker, Failure};
-use second::compare::{fixed, random, report};
+use second::compare::checker::{Census, Checker, Kinds};
+use second::compare::{broken, fixed, random, report};
 use second::library;
 use second::limits::REFUSALS;
 use second::subject::{self, Subject};
@@ -50,6 +50,7 @@ struct Tally {
     passed: u64,
     failed: u64,
     census: Census,
+    kinds: Kinds,
 }
 
 impl Tally {
@@ -57,24 +58,47 @@ impl Tally {
         let mut checker = Checker::new(subject);
         case(&mut checker);
         self.census.iter_mut().zip(checker.census).for_each(|(all, calls)| *all += calls);
-        match &checker.failure {
+        let kinds = self.kinds.as_flattened_mut().iter_mut();
+        kinds.zip(checker.kinds.as_flattened()).for_each(|(all, shows)| *all += shows);
+        let calls: u64 = checker.census.iter().sum();
+        let first = checker.failure.as_ref().map(|failure| report::text(failure));
+        match first {
+            Some(text) => {
+                let differing = checker.differing;
+                self.fail(name, &format!("{differing} of {calls} calls differ, the first:\n{text}"))
+            }
+            None if calls == 0 => self.fail(name, "nothing was asked"),
             None => self.passed += 1,
-            Some(failure) => self.fail(name, failure),
         }
     }
 
-    fn fail(&mut self, name: &str, failure: &Failure) {
+    fn fail(&mut self, name: &str, text: &str) {
         self.failed += 1;
-        println!("FAILED: seed {}, case {name}\n{}", self.seed, report::text(failure));
+        println!("FAILED: seed {}, case {name}\n{text}", self.seed);
+    }
+
+    /// Rows broken in every way, and that every refusal of rows was given where it can be.
+    fn run_broken(&mut self, subject: &Subject) {
+        for (name, case) in broken::cases(self.seed) {
+            self.run(subject, &name, case);
+        }
+        for (name, as_wanted) in broken::noted(&self.kinds) {
+            match as_wanted {
+                true => self.passed += 1,
+                false => self.fail(&name, "not where it can be given, or where it cannot"),
+            }
+        }
     }
 }
 
 fn compare(words: &Words) -> Result<Tally, String> {
     let subject = words.subject()?;
-    let mut tally = Tally { seed: words.seed, passed: 0, failed: 0, census: [0; REFUSALS + 1] };
+    let (census, kinds) = ([0; REFUSALS + 1], Kinds::default());
+    let mut tally = Tally { seed: words.seed, passed: 0, failed: 0, census, kinds };
     let cases = match words.case {
         Some(case) => case..case + 1,
         None => {
+            tally.run_broken(&subject);
             for (name, case) in fixed() {
                 tally.run(&subject, name, case);
             }
@@ -92,6 +116,10 @@ fn main() -> ExitCode {
     match Words::parse().and_then(|words| compare(&words)) {
         Ok(tally) => {
             println!("calls answered, then refused by 1 to {REFUSALS}: {:?}", tally.census);
+            println!(
+                "broken shows refused by 4 to 10, by the kind of the row: {:?}",
+                &tally.kinds[4..]
+            );
             println!("{} passed, {} failed", tally.passed, tally.failed);
             ExitCode::from(u8::from(tally.failed > 0))
         }

@@ -17,16 +17,25 @@ pub struct Failure {
 /// How many calls had an answer (0) or were refused (by number).
 pub type Census = [u64; REFUSALS + 1];
 
-/// Asks the questions of a case and keeps the first failure.
+/// How many broken shows the naive tool refused: by number, then by the kind of the row at the
+/// place. The last are rows of no kind, and refusal 4, which has no row.
+pub type Kinds = [[u64; 4]; 11];
+
+/// Asks the questions of a case, counts the calls that came out differently and keeps the first.
 pub struct Checker<'a> {
     pub subject: &'a Subject,
     pub census: Census,
+    pub kinds: Kinds,
+    /// How many shows that may be broken were asked about.
+    pub turn: usize,
+    pub differing: u64,
     pub failure: Option<Box<Failure>>,
 }
 
 impl<'a> Checker<'a> {
     pub fn new(subject: &'a Subject) -> Checker<'a> {
-        Checker { subject, census: [0; REFUSALS + 1], failure: None }
+        let (census, kinds) = ([0; REFUSALS + 1], Kinds::default());
+        Checker { subject, census, kinds, turn: 0, differing: 0, failure: None }
     }
 
     /// Compares a call with a result that is known. Gives what the call left; nothing if the
@@ -56,9 +65,12 @@ impl<'a> Checker<'a> {
     fn hold(&mut self, input: &Input, call: Call, expected: Outcome) -> Option<Outcome> {
         let actual = Outcome::actual(self.subject, input, &call)?;
         self.census[(expected.returned >> 32) as usize] += 1;
-        if actual != expected && self.failure.is_none() {
-            let (input, actual) = (input.clone(), actual.clone());
-            self.failure = Some(Box::new(Failure { input, call, expected, actual }));
+        if actual != expected {
+            self.differing += 1;
+            self.failure.get_or_insert_with(|| {
+                let (input, actual) = (input.clone(), actual.clone());
+                Box::new(Failure { input, call, expected, actual })
+            });
         }
         Some(actual)
     }

@@ -2,8 +2,10 @@
 
 pub mod behind;
 pub mod big;
+pub mod broken;
 pub mod checker;
 pub mod desk;
+pub mod faults;
 pub mod notes;
 pub mod outcome;
 pub mod padded;

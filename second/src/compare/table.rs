@@ -30,7 +30,7 @@ pub fn difference(source: &str, printed: &[u8]) -> Option<String> {
     })
 }
 
-/// The rows of the constant: each below its line of a show file, one number to a line.
+/// The rows of the constant: each below its line of a show file, its numbers on one line or on several.
 fn in_source(source: &str) -> Result<Vec<Row>, String> {
     let mut lines = source.lines().zip(1..);
     let begins = |line: &str| line.trim_start_matches("pub ").starts_with(BEGIN);
@@ -42,19 +42,30 @@ fn in_source(source: &str) -> Result<Vec<Row>, String> {
         if line == END {
             return Ok(rows);
         }
-        let below: Vec<&str> = lines.by_ref().take(COLUMNS).map(|(below, _)| below).collect();
+        let below = numbers_below(lines.by_ref().map(|(below, _)| below));
         let wrong = format!("the source: line {number} is no row above its numbers: '{line}'");
         rows.push(row_of(line, &below).ok_or(wrong)?);
     }
     Err(format!("the source: no line '{END}' ends the rows"))
 }
 
+/// The next numbers, as many as a row has, or fewer where a line has none.
+fn numbers_below<'a>(lines: impl Iterator<Item = &'a str>) -> Vec<&'a str> {
+    let mut numbers = Vec::new();
+    for line in lines {
+        let Some(some) = line.trim_start().strip_suffix(',') else { break };
+        numbers.extend(some.split(", "));
+        if numbers.len() >= COLUMNS {
+            break;
+        }
+    }
+    numbers
+}
+
 /// The row that a comment and the numbers below it say, if both say the same.
 fn row_of(comment: &str, below: &[&str]) -> Option<Row> {
     let said = row_in(comment.trim_start().strip_prefix("// ")?.split(','))?;
-    let numbers: Option<Vec<&str>> =
-        below.iter().map(|line| line.trim_start().strip_suffix(',')).collect();
-    (row_in(numbers?.into_iter()) == Some(said)).then_some(said)
+    (row_in(below.iter().copied()) == Some(said)).then_some(said)
 }
 
 fn row_in<'a>(values: impl Iterator<Item = &'a str>) -> Option<Row> {

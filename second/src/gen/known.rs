@@ -165,15 +165,22 @@ pub fn tower_with_one_more() -> Vec<u32> {
     rows
 }
 
-/// An unused block that is too large, below a show of one cue.
-pub fn unused_tower() -> Vec<u32> {
+/// So many blocks of the tower, all with a join: block k has 2^(k + 1) - 1 cues, and opens at row
+/// 3 k - 1 if it is not the first.
+pub fn tower_below(blocks: u32) -> Build {
     let mut build = Build::default();
     build.open(1, 1);
-    for k in 0..31 {
+    for k in 1..blocks {
         build.open(1, 1);
-        build.take(k, &[1]);
-        build.take(k, &[1]);
+        build.take(k - 1, &[1]);
+        build.take(k - 1, &[1]);
     }
+    build
+}
+
+/// An unused block that is too large, below a show of one cue.
+pub fn unused_tower() -> Vec<u32> {
+    let mut build = tower_below(32);
     build.open(0, 1);
     build.numbers()
 }

@@ -1,7 +1,9 @@
 //! Shows to ask about: the named ones, random ones, those with notes, those on the desk's blocks,
-//! padded files, damaged files and rows, and wait files.
+//! padded files, damaged files and rows, rows broken in every way, and wait files.
 
+pub mod accepted;
 pub mod behind;
+pub mod broken;
 pub mod build;
 pub mod damage;
 pub mod desk;

@@ -1,0 +1,22 @@
+-- `answers::read_in`: the sizes of a loaded show are small.
+use borrow.Author.Rules.{rules}
+use native.Mathlib.Omega.{arith}
+use Rattle.blocks.proofs.Loaded.{loaded-show}
+use Rattle.answers.proofs.Answering.{read-room, read_done, rows_few}
+use Rattle.answers.proofs.read_in.Goals as goal
+
+pub returns-then-rows-numbers : goal.returns-then-rows-numbers
+returns-then-rows-numbers c = search (read-room, rules)
+
+pub narrow-many-requires : goal.narrow-many-requires
+narrow-many-requires c = omega (arith, rows_few _ c.requires.accepted)
+
+pub overflow_add-last : goal.overflow_add-last
+overflow_add-last c = omega (arith, c.last.ensures.1, (loaded-show c.requires).blocks)
+
+pub narrow-blocks-requires : goal.narrow-blocks-requires
+narrow-blocks-requires c =
+    omega (arith, c.last.ensures.1, (loaded-show c.requires).blocks)
+
+pub returns : goal.returns
+returns c = search (read_done, rules)

@@ -1,0 +1,16 @@
+-- `join_at`: no join before i meets the cue.
+use borrow.Author.Rules.{rules}
+use Rattle.blocks.proofs.Meeting.{sought_begin, sought_on, join_at_stop, join_at_done}
+use Rattle.blocks.proofs.join_at.Goals as goal
+
+pub loop-i-init : goal.loop-i-init
+loop-i-init c = search (sought_begin, rules)
+
+pub returns-then-column-c : goal.returns-then-column-c
+returns-then-column-c c = search (join_at_stop, rules)
+
+pub loop-i-preserved : goal.loop-i-preserved
+loop-i-preserved c = search (sought_on, rules)
+
+pub returns : goal.returns
+returns c = search (join_at_done, rules)

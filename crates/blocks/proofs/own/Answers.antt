@@ -1,0 +1,15 @@
+-- `own`: a value of the row that opens the block.
+use borrow.Author.Rules.{rules}
+use Rattle.blocks.proofs.Loaded.{block-few, opening-read, own_read}
+use Rattle.blocks.proofs.own.Goals as goal
+
+pub entry-requires : goal.entry-requires
+entry-requires c = search (block-few, rules)
+
+pub value-requires : goal.value-requires
+value-requires c = search (opening-read, rules)
+
+pub returns : goal.returns
+returns c =
+    let p = c.requires in
+    own_read p.0 _ p.1 _ _ _ c.entry.ensures c.wide.ensures.0 c.value.ensures

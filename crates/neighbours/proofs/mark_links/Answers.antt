@@ -1,0 +1,13 @@
+-- `mark_links`: the loop marks by one row more each turn.
+use borrow.Author.Rules.{rules}
+use Rattle.neighbours.proofs.Marks.{links-begin, links-on, links-done, added-long}
+use Rattle.neighbours.proofs.mark_links.Goals as goal
+
+pub loop-r-init : goal.loop-r-init
+loop-r-init c = search (links-begin, rules)
+
+pub loop-r-preserved : goal.loop-r-preserved
+loop-r-preserved c = search (links-on, added-long, rules)
+
+pub returns : goal.returns
+returns c = search (links-done, rules)

@@ -1,0 +1,9 @@
+-- `printing::put_count` meets its contract: the title is copied, and the line of the count goes behind it.
+use borrow.Author.Rules.{rules}
+use Rattle.model.specs.Printed.{cues_title}
+use Rattle.printing.proofs.Lines.{titled, value-long}
+use Rattle.printing.proofs.put_count.Goals as goal
+
+pub returns : goal.returns
+unfolding cues_title
+returns c = titled cues_title _ _ _ _ _ _ 11 c.put_bytes-at.ensures c.put_one.ensures (value-long _) (search rules)

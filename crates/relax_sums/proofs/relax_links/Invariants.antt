@@ -1,0 +1,14 @@
+-- `relax_sums::relax_links` meets its contract. The invariant: a round over the link rows passed.
+use Prim.Native.Nat.{◌-◌, ◌≤◌}
+use mathlib.Core.Path.{◌≡◌}
+use lib.ListN.{length}
+use Rattle.distances.specs.Quickest.{priced}
+use Rattle.searches.proofs.Edges.{LinksOver}
+use Rattle.relax_sums.proofs.relax_links.Given as goal
+
+abbrev pub invariant-loop-r : goal.invariant-loop-r
+invariant-loop-r l =
+    (l.rows.first ≤ l.r) × (l.r ≤ l.rows.end) × (length l.d ≡ length l.initial.d) × LinksOver (priced l.waits) l.xs l.rows.first l.r l.initial.d l.changed l.d
+
+abbrev pub decreases-loop-r : goal.decreases-loop-r
+decreases-loop-r l = l.rows.end - l.r

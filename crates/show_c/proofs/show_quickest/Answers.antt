@@ -1,0 +1,30 @@
+-- `show_c::show_quickest` meets its contract.
+use borrow.Author.Rules.{rules}
+use mathlib.Core.Path.{refl}
+use Rattle.model.specs.Answers.{halves, of_quickest}
+use Rattle.model.specs.declared.QuickestAnswer.TheVariants.{None}
+use Rattle.show_c.proofs.Telling.{wrote_short, wrote, told-value, told-tenths, told-placed}
+use Rattle.show_c.proofs.show_quickest.Goals as goal
+
+pub returns-then-given-lt-GIVEN_SIZE : goal.returns-then-given-lt-GIVEN_SIZE
+returns-then-given-lt-GIVEN_SIZE c = wrote_short _ _ _ _ _ (search rules) (search rules)
+
+-- t is the place behind the telling.
+pub returns-in-Tenths : goal.returns-in-Tenths
+returns-in-Tenths c =
+    let asked = c.quickest in
+    wrote _ _ _ _ _ _ _ _ (search rules) asked.ensures
+    (told-tenths asked.result c.in-Tenths.n _ _ _ _ _ c.tell_3.ensures (search rules) (search rules) (search rules))
+
+pub returns-in-None : goal.returns-in-None
+unfolding of_quickest halves
+returns-in-None c =
+    let asked = c.quickest in
+    wrote _ _ _ _ _ _ _ _ (search rules) asked.ensures
+    (told-value of_quickest asked.result None _ _ _ _ c.tell_3-in-None.ensures refl (search rules))
+
+pub returns-in-Refused : goal.returns-in-Refused
+returns-in-Refused c =
+    let asked = c.quickest in
+    wrote _ _ _ _ _ _ _ _ (search rules) asked.ensures
+    (told-placed _ _ _ _ _ _ (search rules) c.refused_at.ensures (search rules))
