@@ -1,13 +1,17 @@
 -- The digits of a number, one and two at a time.
 use Prim.Native.Nat.{ℕ, ◌+◌, ◌/◌, ◌≤◌, ◌<◌}
-use mathlib.Core.Path.{◌≡◌, ◌∙◌}
+use mathlib.Core.Path.{◌≡◌, refl, ◌∙◌}
+use mathlib.Core.Bool.{Bool, true, false}
+use lib.Dec.{leb}
+use mir.Val.{bool_byte}
+use borrow.Author.Tests.{leb-true, leb-false}
 use mathlib.Core.List.{List, [], ◌∷◌, ◌++◌}
 use native.Mathlib.Omega.{arith}
 use native.Mathlib.Decide.{dec_lt}
 use lib.ListN.{length, set, length-append}
 use Rattle.model.specs.Choice.{if_lt}
 use Rattle.model.specs.Values.{digit_at, digits}
-use Rattle.basics.proofs.Choices.{lt_then, lt_else}
+use Rattle.basics.proofs.Choices.{lt_yes, lt_no, lt_then, lt_else}
 use Rattle.codec.specs.Writing.{one, two, value_text, Puts}
 use Rattle.codec.proofs.Stores.{puts-byte, puts-both, puts-as, puts-long}
 
@@ -104,6 +108,14 @@ module _ (v at i : ℕ) (o p : List ℕ) (s : Puts (digits v) o at i p) where
   pub puts-value : (e : ℕ) → Puts (value_text v e) o at (i + 1) (set p i e)
   unfolding value_text
   puts-value e = puts-both s (puts-byte p i e)
+
+-- 1 where a limit is reached.
+pub reach_value : (r v l : ℕ) → r ≡ bool_byte (leb l v) → r ≡ if_lt v l 0 1
+reach_value r v l e = go (leb l v) refl e
+  where
+    go : (t : Bool) → leb l v ≡ t → r ≡ bool_byte t → r ≡ if_lt v l 0 1
+    go true t e = lt_no v l 0 1 r (leb-true l v t) e
+    go false t e = lt_yes v l 0 1 r (leb-false l v t) e
 
 -- How many digits: one, and one more for each limit that is reached.
 pub width_sum : (v a b c d : ℕ) → a ≡ if_lt v 10 0 1 → b ≡ if_lt v 100 0 1 → c ≡ if_lt v 1000 0 1 → d ≡ if_lt v 10000 0 1

@@ -4,8 +4,8 @@ use mathlib.Core.Path.{◌≡◌, refl, sym, ◌∙◌, ap}
 use mathlib.Core.List.{List, [], ◌∷◌, ◌++◌, append_assoc}
 use native.Mathlib.Omega.{arith}
 use native.Mathlib.Numerals.{add-one}
-use lib.ListN.{length, get_or, take, drop, set, length-append, length-drop, take-append-drop, drop_of_length-le}
-use lib.Seq.{length-take-le, drop-cons, drop-drop, take-add, take_all, take-suc, get_or-take, get_or-drop}
+use lib.ListN.{length, get_or, take, drop, length-append, length-drop, take-append-drop, drop_of_length-le}
+use lib.Seq.{length-take-le, drop-cons, drop-drop, take-add, take-suc, get_or-take, get_or-drop}
 use Rattle.model.specs.Limits.{row_size}
 use Rattle.model.specs.Values.{digits}
 use Rattle.model.specs.Text.{comma, line_feed, names, ends, line_text}
@@ -16,16 +16,7 @@ use Rattle.codec.specs.Scanning.{names_size}
 use Rattle.codec.specs.Writing.{value_text, row_text, Puts, Spills}
 use Rattle.codec.proofs.Ends.{comma-at, feed_at}
 use Rattle.codec.proofs.Spills.{Spilled, spilled_begin, spilled_on, spilled_end, spilled_room, text-some}
-use Rattle.codec.proofs.Stores.{
-  puts-byte,
-  puts-both,
-  puts-over,
-  room_next,
-  Stored,
-  stored-begin,
-  stored_on,
-  stored-room,
-}
+use Rattle.codec.proofs.Stores.{puts-both, puts-over, room_next, Stored, stored-begin, stored_on, stored-room}
 
 -- A row's values are eleven of the lent numbers.
 moved : (xs : List ℕ) (r : ℕ) → row_at (drop (r * row_size) xs) 0 ≡ row_at xs r
@@ -111,14 +102,6 @@ module _
       row-end q next t =
           spilled_end _ _ _ _ o p from at last (text-some (get_or xs (r * row_size + 10) 0) line_feed) s q next (row_done xs r row_size (omega arith)) t
 
--- Bytes that are copied from the start on.
-pub copy-turn : (bs o p : List ℕ) (i : ℕ) → i < length bs → Puts (take i bs) o 0 i p
-    → Puts (take (i + 1) bs) o 0 (i + 1) (set p i (get_or bs i 0))
-copy-turn bs o p i h s = rw (add-one i, take-suc bs i 0 h, ← add-one i) (puts-both s (puts-byte p i (get_or bs i 0)))
-
-pub copy-end : (bs o p : List ℕ) (i : ℕ) → length bs ≤ i → Puts (take i bs) o 0 i p → Puts bs o 0 i p
-copy-end bs o p i h s = rw (take_all i bs h) at s
-
 -- What is left of the lines of n rows from row r on.
 rows_next : (xs : List ℕ) (r n : ℕ) → r < n
     → row_lines (rows_from xs r (n - r)) ≡ row_text xs r ++ row_lines (rows_from xs (r + 1) (n - (r + 1)))
@@ -195,16 +178,19 @@ pub width_begin : (xs : List ℕ) → names_size ≡ names_size + text_width (ta
 unfolding text_width
 width_begin xs = refl
 
-pub width_turn : (xs : List ℕ) (sum i w m : ℕ) → sum ≡ names_size + text_width (take i xs) → i < m → m ≤ length xs → w ≡ length (digits (get_or xs i 0))
-    → sum + w + 1 ≡ names_size + text_width (take (i + 1) xs)
-unfolding text_width
-width_turn xs sum i w m p h k e =
-    rw (add-one i, take-suc xs i 0 (omega arith), width_both (take i xs) (get_or xs i 0 ∷ [])) (omega arith)
+module _ (xs : List ℕ) (sum i : ℕ) (p : sum ≡ names_size + text_width (take i xs)) where
+  pub width_turn : (m w : ℕ) → i < length (take m xs) → m ≤ length xs → w ≡ length (digits (get_or (take m xs) i 0))
+      → sum + (w + 1) ≡ names_size + text_width (take (i + 1) xs)
+  unfolding text_width
+  width_turn m w h k e =
+      let l = length-take-le m xs k in
+      let v : w ≡ length (digits (get_or xs i 0)) = e ∙ rw (get_or-take m xs i 0 (omega arith)) in
+      rw (add-one i, take-suc xs i 0 (omega arith), width_both (take i xs) (get_or xs i 0 ∷ [])) (omega arith)
 
-pub width_end : (xs : List ℕ) (sum i n w : ℕ) → sum ≡ names_size + text_width (take i xs) → i ≤ n * row_size → n * row_size ≤ i → n * row_size ≤ length xs
-    → w ≡ sum → w ≡ length (file_text (rows_from xs 0 n))
-unfolding file_text names
-width_end xs sum i n w p h k l f =
-    let e : i ≡ n * row_size = omega arith in
-    let g : length (row_lines (rows_from xs 0 n)) ≡ text_width (take (n * row_size) xs) = rows-width xs 0 n (omega arith) in
-    f ∙ p ∙ rw (e, length-append names (row_lines (rows_from xs 0 n)), g)
+  pub width_end : (n : ℕ) → length (take (n * row_size) xs) ≤ i → i ≤ length (take (n * row_size) xs) → n * row_size ≤ length xs
+      → sum ≡ length (file_text (rows_from xs 0 n))
+  unfolding file_text names
+  width_end n h k l =
+      let e : i ≡ n * row_size = omega (arith, length-take-le (n * row_size) xs l) in
+      let g : length (row_lines (rows_from xs 0 n)) ≡ text_width (take (n * row_size) xs) = rows-width xs 0 n (omega arith) in
+      p ∙ rw (e, length-append names (row_lines (rows_from xs 0 n)), g)

@@ -3,7 +3,7 @@ use Prim.Native.Nat.{ℕ, suc, ◌+◌, ◌≤◌}
 use mathlib.Core.Path.{◌≡◌, refl, sym, ◌∙◌, ap}
 use mathlib.Core.List.{List, [], ◌∷◌, ◌++◌, append-nil, append_assoc}
 use native.Mathlib.Omega.{arith}
-use lib.ListN.{length, set, length-append}
+use lib.ListN.{length, set, drop, length-append}
 use lib.Seq.{sets, length-sets, sets-eq}
 use Rattle.model.specs.Lists.{overwrite}
 use Rattle.codec.specs.Writing.{Puts}
@@ -79,3 +79,12 @@ unfolding overwrite
 puts-over w o p next h s =
     let k : 0 + length w ≡ length w = omega arith in
     s.bytes ∙ sets-eq w o 0 (omega arith) ∙ rw k
+
+-- And one that overwrites the beginning is stored from the start on.
+pub puts_start : (w o zs : List ℕ) → length w ≤ length o → zs ≡ w → Puts w o 0 (length w) (zs ++ drop (length w) o)
+puts_start w o zs h e =
+    let k : 0 + length w ≡ length w = omega arith in
+    record {
+      place = omega arith;
+      bytes = rw e (sym (sets-eq w o 0 (omega arith) ∙ rw k));
+    }

@@ -38,10 +38,8 @@ fn put_own_links(k: u32, numbers: &mut [u32], n: usize) -> usize
     ensures { PutsRows (own_links k 1 k) numbers.old n result numbers.new }
 {
     let mut r = n;
-    let mut c = 1;
-    while c <= k {
+    for c in 1..k + 1 {
         r = put_link(k, c, c + 1, numbers, r);
-        c += 1;
     }
     r
 }
@@ -63,10 +61,8 @@ fn put_runs(numbers: &mut [u32])
     ensures { numbers.new ≡ built_in_numbers }
 {
     let mut n = 0;
-    let mut k = 0;
-    while k < DESK_BLOCKS {
+    for k in 0..DESK_BLOCKS {
         n = put_run(k, numbers, n);
-        k += 1;
     }
 }
 

@@ -2,12 +2,12 @@
 #![tactic(auto)]
 
 ghost use Rattle.std.specs.Prelude.{◌≡◌, [], ◌∷◌, ◌++◌, ◌+◌, ◌≤◌, ◌<◌, ◌%◌, length};
+ghost use Rattle.model.specs.Verdicts.{refusal};
 ghost use Rattle.model.specs.Printed.{number_text, values_text, links_title, cues_title, refusal_text};
 ghost use Rattle.codec.specs.Writing.{Puts};
 ghost use Rattle.printing.specs.Stream.{ended_text, line_of, FirstMark, Fills, StartsWith};
 ghost use Rattle.triples.specs.Marks.{marks_size};
 
-use model::Refusal;
 use triples::{LABEL_PLACES, MARKS};
 
 // The titles.
@@ -16,6 +16,11 @@ const LINKS: [u8; 14] = *b"from,to,label\n";
 const CUES: [u8; 5] = *b"cues\n";
 
 const REFUSAL: [u8; 14] = *b"refusal,place\n";
+
+// The byte behind a line's last value, and behind the others.
+const LINE_FEED: u8 = b'\n';
+
+const COMMA: u8 = b',';
 
 // The longest line: three numbers of ten digits, each with a byte behind it.
 const LINE: usize = 33;
@@ -31,7 +36,7 @@ pub struct Filled {
 fn digit(n: u32) -> u8
     ensures { result ≡ 48 + n % 10 }
 {
-    (n % 10) as u8 + 48
+    (n % 10) as u8 + b'0'
 }
 
 // Writes a number's digits.
@@ -63,14 +68,14 @@ pub fn put_one(a: u32, out: &mut [u8], at: usize) -> usize
     requires { at + 11 ≤ length out.old }
     ensures { Puts (values_text (a ∷ [])) out.old at result out.new }
 {
-    put_ended(a, 10, out, at)
+    put_ended(a, LINE_FEED, out, at)
 }
 
 pub fn put_pair(a: u32, b: u32, out: &mut [u8], at: usize) -> usize
     requires { at + 22 ≤ length out.old }
     ensures { Puts (values_text (a ∷ b ∷ [])) out.old at result out.new }
 {
-    let i = put_ended(a, 44, out, at);
+    let i = put_ended(a, COMMA, out, at);
     put_one(b, out, i)
 }
 
@@ -78,7 +83,7 @@ pub fn put_line(from: u32, to: u32, label: u32, out: &mut [u8], at: usize) -> us
     requires { at + 33 ≤ length out.old }
     ensures { Puts (values_text (from ∷ to ∷ label ∷ [])) out.old at result out.new }
 {
-    let i = put_ended(from, 44, out, at);
+    let i = put_ended(from, COMMA, out, at);
     put_pair(to, label, out, i)
 }
 
@@ -97,12 +102,10 @@ fn next(m: &[u8; MARKS], p: usize, e: usize) -> usize
     requires { (p ≤ e) × (e ≤ marks_size) }
     ensures { FirstMark m.now p e result }
 {
-    let mut i = p;
-    while i < e {
+    for i in p..e {
         if m[i] == 1 {
             return i;
         }
-        i += 1;
     }
     e
 }
@@ -140,11 +143,9 @@ pub fn put_count(cues: u32, out: &mut [u8; 64]) -> usize
 }
 
 // Puts a refusal there, with its title.
-pub fn put_refusal(refusal: Refusal, out: &mut [u8; 64]) -> usize
-    ensures { StartsWith (refusal_text refusal) result out.new }
+pub fn put_refusal(number: u32, place: u32, out: &mut [u8; 64]) -> usize
+    ensures { StartsWith (refusal_text (refusal number place)) result out.new }
 {
-    let number = refusal.number;
-    let place = refusal.place;
     let at = codec::put_bytes(&REFUSAL, out);
     put_pair(number, place, out, at)
 }

@@ -13,11 +13,7 @@ pub fn copy(from: &[u32], to: &mut [u32])
     requires { length from.now ≤ length to.old }
     ensures { to.new ≡ overwrite from.now to.old }
 {
-    let mut i = 0;
-    while i < from.len() {
-        to[i] = from[i];
-        i += 1;
-    }
+    to[..from.len()].copy_from_slice(from);
 }
 
 // A row's numbers written as row r, counted from 0.
@@ -27,5 +23,5 @@ pub fn set_row(row: &[u32], r: usize, numbers: &mut [u32])
 {
     let a = r * ROW_SIZE;
     let e = a + ROW_SIZE;
-    copy(row, &mut numbers[a..e]);
+    numbers[a..e].copy_from_slice(row);
 }

@@ -2,6 +2,7 @@
 use Prim.Native.Nat.{ℕ, suc, ◌+◌, ◌*◌, ◌-◌, ◌≤◌, ◌<◌}
 use native.Mathlib.Omega.{arith}
 use native.Mathlib.Decide.{ℕ_discrete}
+use Rattle.std.specs.Prelude.{min}
 use mathlib.Core.Path.{◌≡◌, refl, sym, ◌∙◌, ap}
 use mathlib.Core.Logic.{◌⊎◌, inl, inr, ◌≢◌}
 use mathlib.Core.List.{List}
@@ -34,16 +35,12 @@ pub joins-on : (p : ℕ) (e : List ℕ) (i : ℕ) {d g f : List ℕ} → Merged 
 unfolding JoinsAt
 joins-on p e i s t = each_on (λ i. Cell (p + i) (get_or e i 0)) i s t
 
-pub joins-done : (p : ℕ) (e : List ℕ) (i m : ℕ) {d g : List ℕ} → Merged (JoinsAt p e i) d g → i ≤ m → m ≤ i → Merged (JoinsAt p e m) d g
-joins-done p e i m s h k = let q : i ≡ m = omega arith in rw q at s
-
 -- A row of numbers.
 pub row-begin : (v : List ℕ) (i : ℕ) (d : List ℕ) (p : ℕ) → RowKept v i d p 0 v
 row-begin v i d p = record { at = λ j h. absurd (omega arith); else = λ x h. refl }
 
-pub row_on : (n : ℕ) {v e : List ℕ} (i : ℕ) {d : List ℕ} (p m : ℕ) → summary_width * i + n ≤ length v → m < n → length e ≡ length v
-    → RowKept v i d p m e → RowKept v i d p (m + 1) (set e (summary_width * i + m) (get_or d (p + m) 0))
-row_on n {v} {e} i {d} p m long less same r = record { at = λ j l. at j l (ℕ_discrete j m); else = λ x l. else x l }
+pub row_on : {v e : List ℕ} (i : ℕ) {d : List ℕ} (p m : ℕ) → summary_width * i + m < length e → RowKept v i d p m e → RowKept v i d p (m + 1) (set e (summary_width * i + m) (get_or d (p + m) 0))
+row_on {v} {e} i {d} p m long r = record { at = λ j l. at j l (ℕ_discrete j m); else = λ x l. else x l }
   where
     at : (j : ℕ) → j < m + 1 → Dec (j ≡ m)
         → get_or (set e (summary_width * i + m) (get_or d (p + m) 0)) (summary_width * i + j) 0 ≡ get_or d (p + j) 0
@@ -56,9 +53,6 @@ row_on n {v} {e} i {d} p m long less same r = record { at = λ j l. at j l (ℕ_
         → get_or (set e (summary_width * i + m) (get_or d (p + m) 0)) x 0 ≡ get_or v x 0
     else x (inl l) = get_or-set_other e (summary_width * i + m) x (get_or d (p + m) 0) 0 (λ q. omega arith) ∙ r.else x (inl l)
     else x (inr l) = get_or-set_other e (summary_width * i + m) x (get_or d (p + m) 0) 0 (λ q. omega arith) ∙ r.else x (inr (omega arith))
-
-pub row_done : {v : List ℕ} {i : ℕ} {d : List ℕ} {p j m : ℕ} {e : List ℕ} → RowKept v i d p j e → j ≤ m → m ≤ j → RowKept v i d p m e
-row_done {j = j} {m} r h k = let q : j ≡ m = omega arith in rw q at r
 
 -- The row has the estimates at a block's joins, by the numbers that the code has of the block.
 pub joins-kept : (bs : List Block) (k : ℕ) {w o m : ℕ} {v : List ℕ} {l : ℕ} {d e : List ℕ} → RowKept v l d (o + 1) m e → o ≡ w
@@ -196,11 +190,8 @@ same-on {a} {b} {i} s e = record { at = λ j h. go j h (ℕ_discrete j i) }
 
 -- No more of them are.
 module _ {a b : List ℕ} {n m i : ℕ} (s : SameRows a b i) (h : i ≤ n) (k : i ≤ m) where
-  pub common_all : n ≤ i → Common a n b m i
+  pub common_all : i ≡ min n m → Common a n b m i
   common_all l = record { first = h; second = k; same = s.at; differ = λ x y. absurd (omega arith) }
-
-  pub common_short : i ≡ m → Common a n b m i
-  common_short e = record { first = h; second = k; same = s.at; differ = λ x y. absurd (omega arith) }
 
   pub common_differ : get_or a i 0 ≢ get_or b i 0 → Common a n b m i
   common_differ d = record { first = h; second = k; same = s.at; differ = λ x y. d }

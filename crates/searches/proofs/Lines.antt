@@ -12,26 +12,10 @@ use Rattle.model.specs.Limits.{summary_width, max_joins}
 use Rattle.blocks.specs.Loaded.{column_at}
 use Rattle.searches.specs.Rounds.{orb, Lowered, more, Still, Round, quiet, moved, Fell, same, less}
 use Rattle.searches.specs.Starts.{Meets, MetAt, Merged, Gathered}
-use Rattle.searches.specs.Lines.{Least, Capped, Line, Lines, Alike, Even}
+use Rattle.searches.specs.Lines.{Least, Line, Lines, Alike, Even}
 use Rattle.searches.specs.Edges.{Mesh}
 use Rattle.searches.proofs.Lowering.{true_not_false}
 use Rattle.searches.proofs.Rounds.{runs-begin}
-
--- The smaller of an estimate and a sum that is cut off at inf.
-pub least-sum : (inf y x w room s r : ℕ) → y ≤ inf → room + x ≡ inf → (s ≤ w) × (s ≤ room) × ((s ≡ w) ⊎ ((s ≡ room) × (room < w)))
-    → (r ≤ y) × (r ≤ x + s) × ((r ≡ y) ⊎ ((r ≡ x + s) × (x + s < y))) → Least inf y x w r
-least-sum inf y x w room s r h e (sw, sr, S) (ry, rs, R) = record { old = ry; new = omega arith; from = from R S }
-  where
-    from : (r ≡ y) ⊎ ((r ≡ x + s) × (x + s < y)) → (s ≡ w) ⊎ ((s ≡ room) × (room < w)) → (r ≡ y) ⊎ ((r ≡ x + w) × (r < inf))
-    from (inl p) q = inl p
-    from (inr (p, l)) (inl q) = inr (omega arith, omega arith)
-    from (inr (p, l)) (inr (q, k)) = absurd (omega arith)
-
-pub least-capped : (inf y x w z r : ℕ) → y ≤ inf → Capped inf x w z → ((z < y) × (r ≡ z)) ⊎ ((y ≤ z) × (r ≡ y)) → Least inf y x w r
-least-capped inf y x w z r h (inl e) (inl (l, f)) = record { old = omega arith; new = omega arith; from = inr (omega arith, omega arith) }
-least-capped inf y x w z r h (inl e) (inr (l, f)) = record { old = omega arith; new = omega arith; from = inl f }
-least-capped inf y x w z r h (inr (e, k)) (inl (l, f)) = absurd (omega arith)
-least-capped inf y x w z r h (inr (e, k)) (inr (l, f)) = record { old = omega arith; new = omega arith; from = inl f }
 
 -- An estimate from inf on lowers no other.
 pub line_skip : (inf n : ℕ) (work : List ℕ) (q x : ℕ) (d : List ℕ) → inf ≤ x → ((c : ℕ) → get_or d c 0 ≤ inf) → Line inf work q x d n d
@@ -54,10 +38,6 @@ line_on inf work q x d n e y w r l least ey ew h = record { at = λ j k. at j k 
 
     else : (j : ℕ) → n + 1 ≤ j → get_or (set e n r) j 0 ≡ get_or d j 0
     else j k = get_or-set_other e n j r 0 (λ p. omega arith) ∙ l.else j (omega arith)
-
-pub line_done : {inf : ℕ} {work : List ℕ} {q x : ℕ} {d : List ℕ} {m n : ℕ} {e : List ℕ} → Line inf work q x d m e → m ≤ n → n ≤ m
-    → Line inf work q x d n e
-line_done {m = m} {n} l h g = let e : m ≡ n = omega arith in rw e at l
 
 pub lines-begin : (inf width : ℕ) (work : List ℕ) (q : ℕ) (g d : List ℕ) → Lines inf width work q g d 0 d
 lines-begin inf width work q g d =
@@ -83,17 +63,12 @@ lines-on inf width work q g d n e f x s l ex =
     from j h (inl p) (inl q) = inl (p ∙ q)
     from j h (inl p) (inr (i, k, q, m)) = inr (i, omega arith, p ∙ q, omega arith)
 
-pub lines-done : {inf width : ℕ} {work : List ℕ} {q : ℕ} {g d : List ℕ} {m n : ℕ} {e : List ℕ} → Lines inf width work q g d m e → m ≤ n
-    → n ≤ m → Lines inf width work q g d n e
-lines-done {m = m} {n} l h g = let e : m ≡ n = omega arith in rw e at l
-
 -- Two lists, one place more.
 pub alike_begin : (t : Bool) (a b : List ℕ) → Alike t a b 0
 alike_begin t a b = record { same = λ e j h. absurd (omega arith) }
 
 pub alike_on : (s u t : Bool) (a b : List ℕ) (i x y : ℕ) → Alike s a b i → t ≡ orb s u → (u ≡ false → x ≡ y) → x ≡ get_or a i 0 → y ≡ get_or b i 0
     → Alike t a b (i + 1)
-unfolding orb
 alike_on true u t a b i x y s o p ex ey = record { same = λ e j h. absurd (true_not_false o e) }
 alike_on false u t a b i x y s o p ex ey = record { same = λ e j h. go e j h (ℕ_discrete j i) }
   where
@@ -101,25 +76,18 @@ alike_on false u t a b i x y s o p ex ey = record { same = λ e j h. go e j h (�
     go e j h (yes q) = rw q (sym ex ∙ p (sym o ∙ e) ∙ ey)
     go e j h (no n) = s.same refl j (omega arith)
 
-pub alike_done : {t : Bool} {a b : List ℕ} {m n : ℕ} → Alike t a b m → m ≤ n → n ≤ m → Alike t a b n
-alike_done {m = m} {n} l h g = let e : m ≡ n = omega arith in rw e at l
-
 -- A list against one number, one place more.
 pub even_begin : (t : Bool) (x : ℕ) (a : List ℕ) → Even t x a 0
 even_begin t x a = record { same = λ e j h. absurd (omega arith) }
 
-pub even_on : (s : Bool) {u t : Bool} {x i m n y : ℕ} {a : List ℕ} → Even s x a i → (u ≡ false → y ≡ x) → t ≡ orb s u → length a ≡ n
-    → m ≤ n → i < m → Even t x (set a i y) (i + 1)
-unfolding orb
-even_on true s p o size few l = record { same = λ e j h. absurd (true_not_false o e) }
-even_on false {t = t} {x} {i} {y = y} {a = a} s p o size few l = record { same = λ e j h. go e j h (ℕ_discrete j i) }
+pub even_on : (s : Bool) {u t : Bool} {x i y : ℕ} {a : List ℕ} → Even s x a i → (u ≡ false → y ≡ x) → t ≡ orb s u → i < length a
+    → Even t x (set a i y) (i + 1)
+even_on true s p o l = record { same = λ e j h. absurd (true_not_false o e) }
+even_on false {t = t} {x} {i} {y = y} {a = a} s p o l = record { same = λ e j h. go e j h (ℕ_discrete j i) }
   where
     go : t ≡ false → (j : ℕ) → j < i + 1 → Dec (j ≡ i) → get_or (set a i y) j 0 ≡ x
     go e j h (yes q) = rw q (get_or-set_same a i y 0 (omega arith) ∙ p (sym o ∙ e))
     go e j h (no n) = get_or-set_other a i j y 0 n ∙ s.same refl j (omega arith)
-
-pub even_done : {t : Bool} {x i m : ℕ} {a : List ℕ} → Even t x a i → i ≤ m → m ≤ i → Even t x a m
-even_done {i = i} {m} s h l = let z : i ≡ m = omega arith in rw z at s
 
 -- Cues that have all the same estimate improve none.
 pub round_even : {xs : List ℕ} (work : List ℕ) {r : ℕ} (q : ℕ) {m x : ℕ} {d g₀ g : List ℕ} {t : Bool} → Gathered xs r d m g₀ g → Even t x g m

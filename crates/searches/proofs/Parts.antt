@@ -61,7 +61,7 @@ module _ (w v : List ℕ) (k : ℕ) (long : summary_size * k + summary_size ≤ 
     with_with u = rw (with_before, rest)
 
     -- What stands in the part, and what stands elsewhere.
-    with_in : (x : ℕ) → x < summary_size → get_or (with_part w k v) (summary_size * k + x) 0 ≡ get_or v x 0
+    pub with_in : (x : ℕ) → x < summary_size → get_or (with_part w k v) (summary_size * k + x) 0 ≡ get_or v x 0
     with_in x h =
         sym (get_or-drop (summary_size * k) (with_part w k v) x 0) ∙ ap (λ (z : List ℕ). get_or z x 0) behind
         ∙ get_or-append v (drop (summary_size * k + summary_size) w) 0 x (omega arith)

@@ -3,38 +3,25 @@
 use Prim.Native.Nat.{ℕ, ◌+◌, ◌≤◌, ◌<◌}
 use native.Mathlib.Omega.{arith}
 use native.Mathlib.Decide.{ℕ_discrete}
-use mathlib.Core.Path.{◌≡◌, refl, sym, ◌∙◌, ap}
+use mathlib.Core.Path.{◌≡◌, refl, ◌∙◌, ap}
 use mathlib.Core.Logic.{◌⊎◌, inl, inr}
-use mathlib.Core.List.{List}
-use lib.ListN.{length, get_or, set, replicate, length-replicate, get_or-replicate}
-use lib.Seq.{get_or-set_same, get_or-set_other, ext_get_or}
-use Rattle.model.specs.Limits.{max_joins}
+use mathlib.Core.List.{List, ◌++◌}
+use lib.ListN.{length, get_or, set, replicate, length-replicate, get_or-replicate, get_or-append}
+use lib.Seq.{get_or-set_same, get_or-set_other}
 use Rattle.blocks.specs.Loaded.{column_at}
 use Rattle.searches.specs.Starts.{Beginnings, Nowhere, Cell, Either, EachOf, Meets, MetAt, Started, Merged, Gathered}
 use Rattle.searches.proofs.Lowering.{inside, set_same}
 
--- The first i numbers of a list are x; all of them.
-pub record FilledTo (x i : ℕ) (d : List ℕ) : Type 0 where
-  pub at : (a : ℕ) → a < i → get_or d a 0 ≡ x
-
-pub fill_begin : (x : ℕ) (d : List ℕ) → FilledTo x 0 d
-fill_begin x d = record { at = λ a h. absurd (omega arith) }
-
-pub fill_on : {x i : ℕ} {d : List ℕ} → FilledTo x i d → i < length d → FilledTo x (i + 1) (set d i x)
-fill_on {x} {i} {d} f h = record { at = λ a l. go a l (ℕ_discrete a i) }
-  where
-    go : (a : ℕ) → a < i + 1 → Dec (a ≡ i) → get_or (set d i x) a 0 ≡ x
-    go a l (yes e) = rw e (get_or-set_same d i x 0 h)
-    go a l (no m) = get_or-set_other d i a x 0 m ∙ f.at a (omega arith)
-
-pub fill_done : {x i n : ℕ} {d : List ℕ} → FilledTo x i d → length d ≤ i → length d ≡ n → d ≡ replicate n x
-fill_done {x} {i} {n} {d} f h e =
-    ext_get_or 0 d (replicate n x) (e ∙ sym (length-replicate n x))
-    (λ a k. f.at a (omega arith) ∙ sym (get_or-replicate n a x 0 (omega arith)))
-
-pub started_blank : {inf n i : ℕ} {d : List ℕ} → FilledTo inf i d → n < i → Started inf n Nowhere d
-started_blank f h =
-    record { fallen = λ a x l b. absurd b; attained = λ a l k. absurd (omega (arith, f.at a (omega arith))) }
+-- No estimate yet.
+pub started_blank : (inf n k : ℕ) (rest : List ℕ) → n < k → Started inf n Nowhere (replicate k inf ++ rest)
+started_blank inf n k rest h =
+    record {
+      fallen = λ a x l b. absurd b;
+      attained = λ a l m.
+          absurd
+          (omega
+          (arith, get_or-append (replicate k inf) rest 0 a (omega (arith, length-replicate k inf)), get_or-replicate k a inf 0 (omega arith)));
+    }
 
 -- An estimate put in, or not.
 pub merged_put : (v y : ℕ) (d : List ℕ) → y < get_or d v 0 → Merged (Cell v y) d (set d v y)
@@ -113,10 +100,6 @@ pub met-on : (xs : List ℕ) (r : ℕ) (kept : List ℕ) (q i : ℕ) {c v : ℕ}
 unfolding MetAt
 met-on xs r kept q i s ec ev t = each_on (λ i. Cell (column_at xs r i) (get_or kept (q + i) 0)) i s (rw (ev, ec) at t)
 
-pub met-done : (xs : List ℕ) (r : ℕ) (kept : List ℕ) (q : ℕ) {i m : ℕ} {d e : List ℕ} → Merged (MetAt xs r kept q i) d e → i ≤ m → m ≤ i
-    → Merged (MetAt xs r kept q m) d e
-met-done xs r kept q {i} {m} s h l = let z : i ≡ m = omega arith in rw z at s
-
 module _ {inf n : ℕ} {begun : Beginnings} where
   pub started_merged : {S : Beginnings} {d e : List ℕ} → Started inf n begun d → Merged S d e → Started inf n (Either begun S) e
   started_merged {S} {d} {e} s m =
@@ -146,16 +129,10 @@ started_first {S = S} s m = started_same (λ a x b. to a x b) (λ a x b. inr b) 
 
 -- A row that names cues: one of its columns, and the cue read there, which has an estimate in a list of that length.
 module _ {xs : List ℕ} {r m n : ℕ} where
-  pub column-few : {i : ℕ} → Meets xs r m n → i < m → i < max_joins
-  column-few h l = omega (arith, h.few)
-
   pub column-within : (i : ℕ) {c v l : ℕ} → v ≡ c → c ≡ column_at xs r i → Meets xs r m n → i < m → l ≡ n → v < l
   column-within i w e h l k = omega (arith, h.within i l)
 
-  -- Their number by another name, and fewer of them.
-  pub meets-as : {k : ℕ} → Meets xs r m n → m ≡ k → Meets xs r k n
-  meets-as h e = rw e at h
-
+  -- Fewer of them.
   pub meets-fewer : {k : ℕ} (i : ℕ) → Meets xs r m n → i ≤ m → k ≡ n → Meets xs r i k
   meets-fewer i h l e = record { there = h.there; few = omega (arith, h.few); within = λ j k. omega (arith, h.within j (omega arith)) }
 
@@ -163,9 +140,9 @@ module _ {xs : List ℕ} {r m n : ℕ} where
 pub gathered_begin : (xs : List ℕ) (r : ℕ) (d e : List ℕ) → Gathered xs r d 0 e e
 gathered_begin xs r d e = record { at = λ i h. absurd (omega arith); else = λ i h. refl }
 
-pub gathered_on : {xs : List ℕ} {r : ℕ} {d : List ℕ} (i : ℕ) {m : ℕ} {e₀ e : List ℕ} {c v : ℕ} → Gathered xs r d i e₀ e → v ≡ c
-    → c ≡ column_at xs r i → length e ≡ length e₀ → m ≤ length e₀ → i < m → Gathered xs r d (i + 1) e₀ (set e i (get_or d v 0))
-gathered_on {xs} {r} {d} i {e₀ = e₀} {e} {v = v} g ev ec size few h = record { at = λ j l. at j l (ℕ_discrete j i); else = else }
+pub gathered_on : {xs : List ℕ} {r : ℕ} {d : List ℕ} (i : ℕ) {e₀ e : List ℕ} {c v : ℕ} → Gathered xs r d i e₀ e → v ≡ c
+    → c ≡ column_at xs r i → i < length e → Gathered xs r d (i + 1) e₀ (set e i (get_or d v 0))
+gathered_on {xs} {r} {d} i {e₀ = e₀} {e} {v = v} g ev ec h = record { at = λ j l. at j l (ℕ_discrete j i); else = else }
   where
     x : ℕ
     x = get_or d v 0
@@ -176,6 +153,3 @@ gathered_on {xs} {r} {d} i {e₀ = e₀} {e} {v = v} g ev ec size few h = record
 
     else : (j : ℕ) → i + 1 ≤ j → get_or (set e i x) j 0 ≡ get_or e₀ j 0
     else j l = get_or-set_other e i j x 0 (λ q. omega arith) ∙ g.else j (omega arith)
-
-pub gathered_done : {xs d e₀ e : List ℕ} {r i m : ℕ} → Gathered xs r d i e₀ e → i ≤ m → m ≤ i → Gathered xs r d m e₀ e
-gathered_done {i = i} {m} g h l = let z : i ≡ m = omega arith in rw z at g

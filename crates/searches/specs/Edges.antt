@@ -40,6 +40,11 @@ Between xs work r q i j u v w =
 unfoldable pub LinkEdge : Price → Link → Edges
 LinkEdge price l u v w = (l.from ≡ u) × (l.to ≡ v) × price l.label w
 
+-- A label's links weigh w, and nothing else.
+pub record Weighs (price : Price) (label w : ℕ) : Type 0 where
+  pub is : price label w
+  pub only : (v : ℕ) → price label v → v ≡ w
+
 -- Row r is there, and the ends of its link have estimates among the n of a list.
 pub record LinkEnds (xs : List ℕ) (r n : ℕ) : Type 0 where
   pub there : IsRow xs r
@@ -65,7 +70,7 @@ pub record SettledOver (W : Edges) (d e : List ℕ) : Type 0 where
 
 -- What settling the estimates d of block k asks for: a loaded show, the numbers of the lower blocks in the work area, and an estimate for each cue that
 -- a block may have.
-pub record MaySettle (xs t : List ℕ) (k : ℕ) (work d : List ℕ) : Type 0 where
+pub record MaySettle {A : Type 0} (xs t : List ℕ) (k : ℕ) (work d : List A) : Type 0 where
   pub loaded : Loaded xs t
   pub block : IsBlock xs k
   pub room : summary_size * k ≤ length work

@@ -1,11 +1,13 @@
 -- `answers::behind_of`: the larger cue's place is found, and the other cue is not above it.
 use borrow.Author.Rules.{rules}
-use mathlib.Core.Path.{refl}
-use Rattle.answers.proofs.RowsBehind.{behind-in, behind-out}
+use Rattle.model.specs.Choice.{if_true}
+use Rattle.behind.specs.Ways.{source_of, target_of}
 use Rattle.answers.proofs.behind_of.Goals as goal
 
 pub returns-then-s-t : goal.returns-then-s-t
-returns-then-s-t c = (behind-in _ refl c.find-place.ensures.0 c.behind.ensures, search rules)
+unfolding source_of target_of if_true
+returns-then-s-t c = (rw c.find-place.ensures.0 at c.behind.ensures, search rules)
 
 pub returns : goal.returns
-returns c = (behind-out _ refl c.find-place-2.ensures.0 c.behind-2.ensures, search rules)
+unfolding source_of target_of if_true
+returns c = (rw c.find-place-2.ensures.0 at c.behind-2.ensures, search rules)

@@ -21,7 +21,7 @@ returns-then-not-known c = no_cues _ _ _ (omega arith) _ _ _ _ _ c.are_cues-know
 pub least-requires : goal.least-requires
 least-requires c =
     let (s, t) = cues-yes _ _ _ _ _ c.are_cues-known.ensures c.count.ensures c.if-not-known.false in
-    (c.requires, s, t, omega arith)
+    (s, t, omega arith)
 
 pub returns : goal.returns
 unfolding fewest_in between

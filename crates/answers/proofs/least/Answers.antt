@@ -6,7 +6,7 @@ use Rattle.answers.proofs.least.Goals as goal
 -- m is the place behind the summaries, g the one behind the second place.
 pub fewest-steps-requires : goal.fewest-steps-requires
 fewest-steps-requires c =
-    search_asks _ _ _ _ _ _ _ _ c.requires.0 c.find-from.ensures.1 c.find-to.ensures.1 c.summarise.ensures
+    search_asks _ _ _ _ _ _ _ _ c.find-from.ensures.1 c.find-to.ensures.1 c.summarise.ensures
 
 pub returns-then-steps-lt-NO_CHAIN : goal.returns-then-steps-lt-NO_CHAIN
 returns-then-steps-lt-NO_CHAIN c =

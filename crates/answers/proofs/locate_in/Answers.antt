@@ -9,18 +9,18 @@ returns-then-path-lt-MAX_DEPTH c = search (locate-room, rules)
 
 pub returns-then-not-known : goal.returns-then-not-known
 returns-then-not-known c =
-    let p = c.requires in
+    let p = c.args.show.now.loaded in
     locate-no _ _ p _ _ _ c.is_cue-known.ensures c.count.ensures _ (omega arith) c.if-not-known.true
 
 pub locate-place-requires : goal.locate-place-requires
 locate-place-requires c =
-    locate-asks _ _ c.requires _ _ _ c.is_cue-known.ensures c.count.ensures c.args.path.now (omega arith) c.if-not-known.false
+    locate-asks _ _ c.args.show.now.loaded _ _ _ c.is_cue-known.ensures c.count.ensures c.args.path.now (omega arith) c.if-not-known.false
 
 pub narrow-requires : goal.narrow-requires
 narrow-requires c =
     omega (
       arith,
-      found-few _ _ c.requires _ _ _ c.is_cue-known.ensures c.count.ensures c.args.path.now (omega arith) _ c.if-not-known.false
+      found-few _ _ c.args.show.now.loaded _ _ _ c.is_cue-known.ensures c.count.ensures c.args.path.now (omega arith) _ c.if-not-known.false
           c.locate-place.ensures.value,
     )
 
@@ -28,11 +28,11 @@ pub narrow-requires-2 : goal.narrow-requires-2
 narrow-requires-2 c =
     omega (
       arith,
-      found-few _ _ c.requires _ _ _ c.is_cue-known.ensures c.count.ensures c.args.path.now (omega arith) _ c.if-not-known.false
+      found-few _ _ c.args.show.now.loaded _ _ _ c.is_cue-known.ensures c.count.ensures c.args.path.now (omega arith) _ c.if-not-known.false
           c.locate-place.ensures.value,
     )
 
 pub returns : goal.returns
 returns c =
-    locate-found _ _ c.requires _ _ _ c.is_cue-known.ensures c.count.ensures c.args.path.now (omega arith) _ _ _ _
+    locate-found _ _ c.args.show.now.loaded _ _ _ c.is_cue-known.ensures c.count.ensures c.args.path.now (omega arith) _ _ _ _
     c.if-not-known.false c.locate-place.ensures.value c.narrow.ensures c.narrow-2.ensures c.locate-place.ensures.path_after

@@ -11,8 +11,8 @@ read-requires c = search rules
 pub quickest_with-requires : goal.quickest_with-requires
 quickest_with-requires c = search (read-fit, rules)
 
-pub returns-in-Lawful : goal.returns-in-Lawful
-returns-in-Lawful c = search (under_lawful, rules)
+pub returns-in-Ok : goal.returns-in-Ok
+returns-in-Ok c = search (under_lawful, rules)
 
-pub returns-in-Unfit : goal.returns-in-Unfit
-returns-in-Unfit c = search (under_unfit, rules)
+pub returns-in-Err : goal.returns-in-Err
+returns-in-Err c = search (under_unfit, rules)

@@ -1,28 +1,25 @@
 -- `answers::row_behind`: the rows of the uses turned into their positions, and these copied.
 use native.Mathlib.Omega.{arith}
+use mathlib.Core.Path.{sym}
+use lib.Seq.{length-take-le}
 use Rattle.answers.proofs.RowsBehind.{row-none, stands-down, path-few, row-stands}
 use Rattle.answers.proofs.row_behind.Goals as goal
 
-pub returns-then-at-eq0 : goal.returns-then-at-eq0
-returns-then-at-eq0 c = row-none _ _ _ _ _ _ _ c.behind_of-at.ensures.0 c.if-at-eq0.true
+pub returns-in_default : goal.returns-in_default
+returns-in_default c = row-none _ _ _ _ (c.in_default.ensures.0)
 
--- e is the place behind the test of the row, b the one behind the row.
 pub positions-requires : goal.positions-requires
-positions-requires c =
-    (c.requires.0, stands-down (c.behind_of-at.ensures.0.some c.if-at-eq0.false))
+positions-requires c = stands-down c.in-Some.ensures.0.1
 
 pub slice_bounds-copy-end : goal.slice_bounds-copy-end
 slice_bounds-copy-end c =
-    omega (arith, (stands-down (c.behind_of-at.ensures.0.some c.if-at-eq0.false)).long, c.positions.ensures.long)
+    sym (length-take-le c.in-Some.at.depth c.positions.new.rows (omega (arith, (stands-down c.in-Some.ensures.0.1).long, c.positions.ensures.long)))
 
 pub copy-requires : goal.copy-requires
-copy-requires c =
-    omega (arith, path-few (c.behind_of-at.ensures.0.some c.if-at-eq0.false) _ c.positions.ensures, c.requires.3)
+copy-requires c = omega (arith, path-few c.in-Some.ensures.0.1 _ c.positions.ensures, c.requires.2)
 
 pub narrow-requires : goal.narrow-requires
-narrow-requires c =
-    omega (arith, (stands-down (c.behind_of-at.ensures.0.some c.if-at-eq0.false)).deep)
+narrow-requires c = omega (arith, (stands-down c.in-Some.ensures.0.1).deep)
 
 pub returns : goal.returns
-returns c =
-    row-stands (c.behind_of-at.ensures.0.some c.if-at-eq0.false) _ c.positions.ensures _ _ _ c.narrow.ensures c.copy.ensures
+returns c = row-stands c.in-Some.ensures.0.1 _ c.positions.ensures _ _ _ c.narrow.ensures c.copy.ensures

@@ -20,7 +20,7 @@ returns-then-not-known c = no_cues _ _ _ (omega arith) _ _ _ _ _ c.are_cues-know
 pub row_behind-requires : goal.row_behind-requires
 row_behind-requires c =
     let (s, t) = cues-yes _ _ _ _ _ c.are_cues-known.ensures c.count.ensures c.if-not-known.false in
-    (c.requires, s, t, omega arith)
+    (s, t, omega arith)
 
 pub returns : goal.returns
 unfolding row_in

@@ -9,8 +9,8 @@ copy_four-requires c = (search (four_room, rules), search (comma-room, rules))
 pub bounds-texts-i : goal.bounds-texts-i
 bounds-texts-i c = search (size_room, rules)
 
-pub number_of-requires : goal.number_of-requires
-number_of-requires c = search (size-digit, rules)
+pub overflow_sub-texts : goal.overflow_sub-texts
+overflow_sub-texts c = search (size-digit, rules)
 
 pub returns-then-v-lt-TABLE : goal.returns-then-v-lt-TABLE
 returns-then-v-lt-TABLE c = search (comma-short, rules)

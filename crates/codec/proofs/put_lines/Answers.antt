@@ -5,13 +5,13 @@ use Rattle.codec.proofs.Stores.{stored-end}
 use Rattle.codec.proofs.put_lines.Goals as goal
 
 pub loop-r-init : goal.loop-r-init
-loop-r-init c = (search rules, search rules, search (rows-begin, rules))
+loop-r-init c = (search rules, search (rows-begin, rules))
 
 pub put_row-at-requires : goal.put_row-at-requires
 put_row-at-requires c = (search rules, search rules, search (rows-room, rules))
 
 pub loop-r-preserved : goal.loop-r-preserved
-loop-r-preserved c = (search rules, search rules, search (rows_on, rules))
+loop-r-preserved c = (search rules, search (rows_on, rules))
 
 pub returns : goal.returns
 returns c = search (stored-end, rows-done, rules)

@@ -1,5 +1,5 @@
 -- The lines of rows are stored row by row. The loop's invariant: what is left of them from row r on.
-use Prim.Native.Nat.{◌-◌, ◌≤◌}
+use Prim.Native.Nat.{◌-◌}
 use mathlib.Core.Path.{◌≡◌}
 use lib.ListN.{length}
 use Rattle.model.specs.Rows.{rows_from, row_lines}
@@ -8,8 +8,5 @@ use Rattle.codec.proofs.put_lines.Given as goal
 
 abbrev pub invariant-loop-r : goal.invariant-loop-r
 invariant-loop-r l =
-    (l.r ≤ l.n) × (length l.out ≡ length l.initial.out)
+    (length l.out ≡ length l.initial.out)
     × Stored (row_lines (rows_from l.xs 0 l.n)) (row_lines (rows_from l.xs l.r (l.n - l.r))) l.initial.out l.from l.at l.out
-
-abbrev pub decreases-loop-r : goal.decreases-loop-r
-decreases-loop-r l = l.n - l.r

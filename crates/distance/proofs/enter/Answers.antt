@@ -1,19 +1,10 @@
 -- `distance::enter` meets its contract.
-use borrow.Author.Rules.{rules}
-use Rattle.searches.proofs.Joins.{use_there, level-block, level-meets, entered_on}
+use Rattle.std.proofs.Common.{rules}
+use Rattle.searches.proofs.Joins.{level-meets, entered_on}
 use Rattle.distance.proofs.enter.Goals as goal
 
-pub used-k-requires : goal.used-k-requires
-used-k-requires c = search (use_there, rules)
-
-pub own-requires : goal.own-requires
-own-requires c = (search rules, search (level-block, rules))
-
-pub joins-m-requires : goal.joins-m-requires
-joins-m-requires c = (search rules, search (level-block, rules))
-
 pub gather-requires : goal.gather-requires
-gather-requires c = (search (level-meets, rules), search rules)
+gather-requires g c = (search (level-meets, rules), search rules)
 
 pub returns : goal.returns
-returns c = search (entered_on, rules)
+returns g c = search (entered_on, rules)

@@ -1,5 +1,5 @@
 -- `distance::summarise_join` meets its contract.
-use borrow.Author.Rules.{rules}
+use Rattle.std.proofs.Common.{rules}
 use Rattle.distance.proofs.Summaries.{join_filled}
 use Rattle.distance.proofs.summarise_join.Goals as goal
 

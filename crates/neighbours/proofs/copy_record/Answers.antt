@@ -1,13 +1,14 @@
--- `copy_record`: the loop copies one byte more each turn.
-use borrow.Author.Rules.{rules}
-use Rattle.neighbours.proofs.Tables.{copied_begin, copied_on, copied_done}
+-- `copy_record`: the bytes of the record stand in the table.
+use native.Mathlib.Omega.{arith}
+use Prim.Native.Nat.{◌+◌, ◌-◌}
+use Rattle.std.proofs.lemmas.Slice.{put_mid-paste}
+use Rattle.neighbours.specs.Records.{record_size}
+use Rattle.neighbours.proofs.Tables.{copied}
 use Rattle.neighbours.proofs.copy_record.Goals as goal
 
-pub loop-j-init : goal.loop-j-init
-loop-j-init c = search (copied_begin, rules)
-
-pub loop-j-preserved : goal.loop-j-preserved
-loop-j-preserved c = search (copied_on, rules)
-
 pub returns : goal.returns
-returns c = search (copied_done, rules)
+returns c =
+    let s = c.args.s.now in
+    let at = c.args.at in
+    let e = put_mid-paste at (at + 41 - at) c.args.m.now c.copy_from_slice.new.self s record_size c.copy_from_slice.ensures.after (omega arith) (omega (arith, c.told-s)) in
+    rw e (copied s c.args.m.now at c.told-s c.requires)

@@ -1,5 +1,5 @@
 -- The links are put one by one. The loop's invariant: what is left of them from cue c on.
-use Prim.Native.Nat.{◌+◌, ◌*◌, ◌-◌}
+use Prim.Native.Nat.{◌*◌}
 use mathlib.Core.Path.{◌≡◌}
 use mathlib.Core.List.{flat_map}
 use lib.ListN.{length}
@@ -14,6 +14,3 @@ abbrev pub invariant-loop-c : goal.invariant-loop-c
 invariant-loop-c l =
     (length l.numbers ≡ length l.initial.numbers)
     × Stored (flat_map row_values (own_links l.k 1 l.k)) (own_links_left l.k l.c) l.initial.numbers (l.n * row_size) (l.r * row_size) l.numbers
-
-abbrev pub decreases-loop-c : goal.decreases-loop-c
-decreases-loop-c l = l.k + 1 - l.c

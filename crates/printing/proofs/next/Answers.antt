@@ -7,7 +7,7 @@ pub returns-then-m-i-eq1 : goal.returns-then-m-i-eq1
 returns-then-m-i-eq1 c = search (marks-hit, rules)
 
 pub loop-i-preserved : goal.loop-i-preserved
-loop-i-preserved c = (search rules, search rules, search (marks-skip, rules))
+loop-i-preserved c = search (marks-skip, rules)
 
 pub returns : goal.returns
 returns c = search (marks-end, rules)

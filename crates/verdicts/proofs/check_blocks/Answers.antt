@@ -1,17 +1,17 @@
 -- `verdicts::check_blocks` meets its contract.
-use borrow.Author.Rules.{rules}
 use native.Mathlib.Omega.{arith}
-use Rattle.verdicts.proofs.Steps.{place-begin, place-on, place-stop, place-done}
+use Rattle.verdicts.specs.Passing.{passes_at, check_number}
+use Rattle.verdicts.proofs.Steps.{place-on, place-stop, place-done}
 use Rattle.verdicts.proofs.check_blocks.Goals as goal
 
-pub loop-k-init : goal.loop-k-init
-loop-k-init c = search (place-begin, rules)
-
-pub returns-then-not-fine : goal.returns-then-not-fine
-returns-then-not-fine c = place-stop _ _ _ _ _ _ c.loop-k.invariant.1 (omega arith) c.passes-fine.ensures c.if-not-fine.true (cc)
+pub returns-then-not-passes-clause-number : goal.returns-then-not-passes-clause-number
+returns-then-not-passes-clause-number c =
+    place-stop (passes_at (check_number c.args.check) c.args.xs.now c.args.t.now c.args.blocks) _ _ _ _ _ c.loop-k.invariant (omega arith) c.passes.ensures c.if-not-passes.true (cc)
 
 pub loop-k-preserved : goal.loop-k-preserved
-loop-k-preserved c = (omega arith, place-on _ _ _ _ _ c.loop-k.invariant.1 (omega arith) c.passes-fine.ensures c.if-not-fine.false)
+loop-k-preserved c =
+    place-on (passes_at (check_number c.args.check) c.args.xs.now c.args.t.now c.args.blocks) _ _ _ _ c.loop-k.invariant (omega arith) c.passes.ensures c.if-not-passes.false
 
-pub returns : goal.returns
-returns c = search (place-done, rules)
+pub returns-clause-number : goal.returns-clause-number
+returns-clause-number c =
+    place-done (passes_at (check_number c.args.check) c.args.xs.now c.args.t.now c.args.blocks) c.args.t.now c.args.blocks _ c.loop-k.invariant (omega arith)

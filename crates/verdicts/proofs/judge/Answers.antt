@@ -1,26 +1,27 @@
 -- `verdicts::judge` meets its contract.
+use mathlib.Core.Path.{refl}
 use borrow.Author.Rules.{rules}
-use Rattle.basics.proofs.Choices.{eq_yes, eq_no, ifs}
+use Rattle.basics.proofs.Choices.{ifs}
 use Rattle.verdicts.specs.Passing.{judged}
 use Rattle.verdicts.proofs.Steps.{eq-yes', eq-no'}
+use Rattle.verdicts.proofs.Checking.{judged_fault, judged_ends, judged_totals, judged_fine}
 use Rattle.verdicts.proofs.judge.Goals as goal
 
 pub returns-then-n-eq0 : goal.returns-then-n-eq0
 unfolding judged
 returns-then-n-eq0 c = search (ifs, eq-yes', eq-no', rules) depth 14
 
-pub returns-then-fault-ne0 : goal.returns-then-fault-ne0
-unfolding judged
-returns-then-fault-ne0 c = search (ifs, eq-yes', eq-no', rules) depth 14
+pub returns-in-Err : goal.returns-in-Err
+returns-in-Err c = judged_fault _ _ _ c.if-n-eq0.false _ _ _ _ c.in-Err.is c.from.ensures c.refuse-in-Err.ensures
 
-pub returns-then-ends-ne0 : goal.returns-then-ends-ne0
-unfolding judged
-returns-then-ends-ne0 c = eq_no _ _ _ _ _ c.if-n-eq0.false (eq_yes _ _ _ _ _ c.if-fault-ne0.false (eq-no' _ _ _ _ _ _ c.check_blocks-ends.ensures c.if-ends-ne0.true (cc)))
+pub returns-in-Some : goal.returns-in-Some
+returns-in-Some c = judged_ends _ _ _ c.if-n-eq0.false _ _ _ c.in-Ok.is _ c.in-Some.ensures.number c.in-Some.ensures.some c.refuse-in-Some.ensures
 
-pub returns-then-totals-ne0 : goal.returns-then-totals-ne0
-unfolding judged
-returns-then-totals-ne0 c = eq_no _ _ _ _ _ c.if-n-eq0.false (eq_yes _ _ _ _ _ c.if-fault-ne0.false (eq-yes' _ _ _ _ _ _ c.check_blocks-ends.ensures c.if-ends-ne0.false (eq-no' _ _ _ _ _ _ c.check_blocks-totals.ensures c.if-totals-ne0.true (cc))))
+pub returns-in-Some-check_blocks : goal.returns-in-Some-check_blocks
+returns-in-Some-check_blocks c =
+    judged_totals _ _ _ c.if-n-eq0.false _ _ _ c.in-Ok.is 0 c.in_default.ensures.number refl _ c.in-Some-check_blocks.ensures.number c.in-Some-check_blocks.ensures.some
+    c.refuse-in-Some-check_blocks.ensures
 
 pub returns : goal.returns
-unfolding judged
-returns c = search (ifs, eq-yes', eq-no', rules) depth 14
+returns c =
+    judged_fine _ _ _ c.if-n-eq0.false _ _ _ c.in-Ok.is 0 c.in_default.ensures.number refl 0 (c.in_default-check_blocks).ensures.number refl refl

@@ -1,20 +1,16 @@
 -- `verdicts::passes` meets its contract.
-use borrow.Author.Rules.{rules}
-use mathlib.Core.Path.{refl}
+use native.Mathlib.Omega.{arith}
+use mathlib.Core.Path.{ap}
 use Rattle.model.specs.Limits.{max_total}
-use Rattle.basics.proofs.Choices.{eq_no, ifs}
-use Rattle.verdicts.specs.Passing.{passes_at, fits_at}
-use Rattle.verdicts.proofs.Steps.{lt-yes', lt-no'}
+use Rattle.basics.proofs.Choices.{eq_yes, eq_no}
+use Rattle.verdicts.specs.Passing.{passes_at, fits_at, check_number}
+use Rattle.verdicts.proofs.Steps.{le_bool}
 use Rattle.verdicts.proofs.passes.Goals as goal
 
-pub returns-then-number-eq9 : goal.returns-then-number-eq9
+pub returns-in-Ends : goal.returns-in-Ends
 unfolding passes_at
-returns-then-number-eq9 c = search (ifs, rules) depth 14
+returns-in-Ends c = eq_yes _ _ _ _ _ (ap check_number c.in-Ends.is) c.stands.ensures
 
-pub returns-then-get-gt-MAX_TOTAL : goal.returns-then-get-gt-MAX_TOTAL
+pub returns-in-Total : goal.returns-in-Total
 unfolding passes_at fits_at
-returns-then-get-gt-MAX_TOTAL c = eq_no _ _ _ _ _ c.if-number-eq9.false (lt-yes' max_total _ _ _ _ _ (cc) c.if-get-gt-MAX_TOTAL.true refl)
-
-pub returns : goal.returns
-unfolding passes_at fits_at
-returns c = eq_no _ _ _ _ _ c.if-number-eq9.false (lt-no' max_total _ _ _ _ _ (cc) c.if-get-gt-MAX_TOTAL.false refl)
+returns-in-Total c = eq_no _ _ _ _ _ (λ e. omega (arith, ap check_number c.in-Total.is, e)) (le_bool max_total _ _ c.get.ensures)
