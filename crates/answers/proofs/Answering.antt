@@ -5,7 +5,8 @@ use mathlib.Core.Path.{◌≡◌, refl, sym, ◌∙◌, ap}
 use mathlib.Core.Bool.{Bool, true, false}
 use mathlib.Core.List.{List}
 use lib.ListN.{length}
-use Rattle.std.specs.Prelude.{Ok, Err}
+use Rattle.std.specs.Prelude.{Option, None, Some, IfSome, unwrap_or, Ok, Err}
+use Rattle.std.specs.Option.{ok_or}
 use Rattle.model.specs.Limits.{row_size, max_rows, max_bytes, max_depth, max_blocks}
 use Rattle.model.specs.Rows.{rows_from, row_count, rows_of, file_text}
 use Rattle.model.specs.Rules.{is_cue}
@@ -13,7 +14,7 @@ use Rattle.model.specs.Blocks.{Block, blocks_of, last_block, count}
 use Rattle.model.specs.Verdicts.{refusal, verdict, Accepted}
 use Rattle.model.specs.Paths.{place_in}
 use Rattle.model.specs.Lists.{overwrite}
-use Rattle.model.specs.Answers.{of_read, of_write, of_locate, of_number, show_size, cue_place}
+use Rattle.model.specs.Answers.{of_read, of_write, of_locate, of_number, NumberAnswer, show_size, cue_place}
 use Rattle.model.specs.Questions.{outcome, refuse, answer, read_into, write_into, located, locate_in, numbered}
 use Rattle.shows.specs.Numbering.{IsPlace}
 use Rattle.basics.proofs.Choices.{eq_then, eq_else}
@@ -60,14 +61,12 @@ module _ (xs t : List ℕ) (g : Loaded xs t) (n cues : ℕ) (b : Bool) (q : b �
       let c = cue-yes (blocks_of xs) n cues b q e k in
       rw (ed, em, f, a) (sym (has_room max_depth path _ room ∙ has-cue (blocks_of xs) n path _ c.0 c.1))
 
--- Numbering: n is what was found.
-pub number-none : (n m : ℕ) → n ≡ m → n ≡ 0 → of_number (Err (record { number = 13; place = 0 })) ≡ numbered m
+-- Numbering: what was found, if anything.
+pub number-told : (o : Option ℕ) (r : NumberAnswer) (m : ℕ) → r ≡ ok_or o (record { number = 13; place = 0 }) → unwrap_or o 0 ≡ m → IfSome o (λ n. 0 < n)
+    → of_number r ≡ numbered m
 unfolding of_number numbered refusal
-number-none n m q e = sym (eq_then _ _ _ _ (sym q ∙ e))
-
-pub number-some : (n m : ℕ) → n ≡ m → (n ≡ 0 → ⊥) → of_number (Ok n) ≡ numbered m
-unfolding of_number numbered
-number-some n m q e = rw (← q) (sym (eq_else _ _ _ _ e))
+number-told None r m a b c = rw a (sym (eq_then _ _ _ _ (sym b)))
+number-told (Some n) r m a b c = rw (a, ← b) (sym (eq_else _ _ _ _ (λ e. omega (arith, c))))
 
 -- Writing.
 abbrev text : List ℕ → List ℕ

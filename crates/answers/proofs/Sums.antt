@@ -8,7 +8,7 @@ use Rattle.model.specs.Blocks.{Block, count}
 use Rattle.model.specs.Unfolding.{show_links}
 use Rattle.model.specs.Waits.{WaitFile, WaitTable, Unfit, wait_file}
 use Rattle.model.specs.Quickest.{quickest}
-use Rattle.model.specs.Answers.{of_quickest, line_refusal}
+use Rattle.model.specs.Answers.{of_quickest}
 use Rattle.model.specs.Questions.{Outcome, outcome, answer, refuse, sum_values, cleared, quickest_under}
 use Rattle.distances.specs.Tells.{told}
 use Rattle.distances.specs.Quickest.{no_sum}

@@ -4,19 +4,19 @@
 // `read_in`, `write_rows`, `locate_in`, `number_in`, `list_of`, `row_in`, `fewest_in`, `quickest_in`.
 #![tactic(auto)]
 
-ghost use Rattle.std.specs.Prelude.{◌≡◌, ◌≤◌, ◌<◌, length};
+ghost use Rattle.std.specs.Prelude.{◌≡◌, ◌≤◌, true, false, length, MatchOption};
 ghost use Rattle.model.specs.Limits.{max_depth, work_size};
 ghost use Rattle.model.specs.Answers.{of_read, of_write, of_locate, of_number, of_list, of_row, of_fewest, of_quickest};
 ghost use Rattle.model.specs.Rows.{rows_of, file_text};
 ghost use Rattle.model.specs.Verdicts.{verdict, Accepted};
-ghost use Rattle.model.specs.Blocks.{blocks_of};
+ghost use Rattle.model.specs.Blocks.{blocks_of, count};
 ghost use Rattle.model.specs.Rules.{is_cue};
 ghost use Rattle.model.specs.Behind.{behind};
 ghost use Rattle.model.specs.Questions.{outcome, read_into, write_into, locate_in, numbered, show_number, row_found, row_in, fewest_in, quickest_under, quickest_in};
 ghost use Rattle.model.specs.Waits.{WaitTable, wait_file};
 ghost use Rattle.shows.specs.Waits.{AreWaits};
 ghost use Rattle.behind.specs.Ways.{RowBehind};
-ghost use Rattle.answers.specs.Asked.{list_of, are_cues, ShowCue, between};
+ghost use Rattle.answers.specs.Asked.{list_of, are_cues, between};
 
 use behind::RowAt;
 use blocks::Show;
@@ -46,14 +46,6 @@ const NO_LINK: Refusal = Refusal {
     reason: Reason::NoSuchLink,
     place: 0,
 };
-
-// A place of the show in 32 bits.
-fn narrow(x: usize) -> u32
-    requires { x < 4294967296 }
-    ensures { result ≡ x }
-{
-    x as u32
-}
 
 // v is a cue of a show that has so many.
 fn is_cue(cues: u32, v: u32) -> bool
@@ -92,8 +84,8 @@ pub fn locate_in(show: &Show, n: u32, path: &mut [u32]) -> Result<CuePlace, Refu
     }
     let place = paths::locate(show, n, path);
     Ok(CuePlace {
-        depth: narrow(place.depth),
-        block: narrow(place.block),
+        depth: place.depth as u32,
+        block: place.block as u32,
         own: place.own,
     })
 }
@@ -102,11 +94,7 @@ pub fn locate_in(show: &Show, n: u32, path: &mut [u32]) -> Result<CuePlace, Refu
 pub fn number_in(show: &Show, path: &[u32], own: u32) -> Result<u32, Refusal>
     ensures { of_number result ≡ numbered (show_number (blocks_of show.now.rows.now) path.now own) }
 {
-    let n = paths::number(show, path, own);
-    if n == 0 {
-        return Err(NO_PLACE);
-    }
-    Ok(n)
+    paths::number(show, path, own).ok_or(NO_PLACE)
 }
 
 // The rows of a loaded show, handed out.
@@ -117,8 +105,8 @@ pub fn read_in(show: &Show, rows: &mut [u32]) -> Result<ShowSize, Refusal>
         return Err(TOO_SHORT);
     }
     rows::copy(show.rows, rows);
-    let many = narrow(show.rows.len() / ROW_SIZE);
-    let blocks = narrow(show.last() + 1);
+    let many = (show.rows.len() / ROW_SIZE) as u32;
+    let blocks = (show.last() + 1) as u32;
     Ok(ShowSize {
         rows: many,
         blocks,
@@ -137,10 +125,11 @@ pub fn write_rows(rows: &[u32], out: &mut [u8]) -> Result<u32, Refusal>
         return Err(TOO_SHORT);
     }
     codec::emit(rows, many, out);
-    Ok(narrow(size))
+    Ok(size as u32)
 }
 
 // The list of cue v of a loaded show.
+// Kept: `inward` is a Bool, for an enum is no plainer: each clause would turn it to the Bool that the definition `list_of` reads.
 pub fn list_of(
     show: &Show,
     inward: bool,
@@ -159,35 +148,104 @@ pub fn list_of(
     Ok(lists::list(show, inward, place, &way, n, page))
 }
 
-// The row behind the follow-on from cue s to cue t of a loaded show. If there is one, the rows of the uses that lead to its copy stand first in the list afterwards.
-// Only the larger cue is looked for: where a link joins the two, the larger cue's copy is the deeper one, since a copy numbers its own cues before those of its uses.
-fn behind_of(show: &Show, s: u32, t: u32, way: &mut [u32; MAX_DEPTH]) -> Option<RowAt>
-    requires { ShowCue show.now.rows.now s × ShowCue show.now.rows.now t }
-    ensures { RowBehind show.now.rows.now show.now.index.now way.new s t result × (length way.new ≡ max_depth) }
-{
-    if s < t {
-        let place = paths::find(show, t, way);
-        return behind::behind(show, place, way, s, true);
-    }
-    let place = paths::find(show, s, way);
-    behind::behind(show, place, way, t, false)
+// Two cues of a loaded show.
+#[derive(Clone, Copy)]
+struct Cues<'a> {
+    show: Show<'a>,
+    s: u32,
+    t: u32,
+    ghost known: { ((1 ≤ s) × (s ≤ count (blocks_of show.rows.now))) × ((1 ≤ t) × (t ≤ count (blocks_of show.rows.now))) },
 }
 
-// The answer about that row. The path of its copy goes to the beginning of the lent list, which is long enough.
-fn row_behind(show: &Show, s: u32, t: u32, path: &mut [u32]) -> Result<FoundRow, Refusal>
-    requires { ShowCue show.now.rows.now s × ShowCue show.now.rows.now t × (max_depth ≤ length path.old) }
-    ensures { outcome (of_row result) path.new ≡ row_found (behind show.now.rows.now s t) path.old }
-{
-    let mut way = [0u32; MAX_DEPTH];
-    let Some(at) = behind_of(show, s, t, &mut way) else {
-        return Err(NO_LINK);
-    };
-    paths::positions(show, at.depth, &mut way);
-    rows::copy(&way[..at.depth], path);
-    Ok(FoundRow {
-        row: at.row,
-        depth: narrow(at.depth),
-    })
+impl<'a> Cues<'a> {
+    // s and t, if both are cues of the show.
+    fn new(show: &Show<'a>, s: u32, t: u32) -> Option<Cues<'a>>
+        ensures { MatchOption result (are_cues (count (blocks_of show.now.rows.now)) s t ≡ false)
+            (λ c. (c.show ≡ show.now) × (c.s ≡ s) × (c.t ≡ t) × (are_cues (count (blocks_of show.now.rows.now)) s t ≡ true)) }
+    {
+        let known = are_cues(show.count(), s, t);
+        if !known {
+            return None;
+        }
+        Some(Cues { show: *show, s, t })
+    }
+
+    // The row behind the follow-on from cue s to cue t. If there is one, the rows of the uses that lead to its copy stand first in the list afterwards.
+    // Only the larger cue is looked for: where a link joins the two, the larger cue's copy is the deeper one, since a copy numbers its own cues before those of its uses.
+    fn behind(&self, way: &mut [u32; MAX_DEPTH]) -> Option<RowAt>
+        ensures { RowBehind self.now.show.rows.now self.now.show.index.now way.new self.now.s self.now.t result × (length way.new ≡ max_depth) }
+    {
+        let (s, t) = (self.s, self.t);
+        if s < t {
+            let place = paths::find(&self.show, t, way);
+            return behind::behind(&self.show, place, way, s, true);
+        }
+        let place = paths::find(&self.show, s, way);
+        behind::behind(&self.show, place, way, t, false)
+    }
+
+    // The answer about that row. The path of its copy goes to the beginning of the lent list, which is long enough.
+    fn row_behind(&self, path: &mut [u32]) -> Result<FoundRow, Refusal>
+        requires { max_depth ≤ length path.old }
+        ensures { outcome (of_row result) path.new ≡ row_found (behind self.now.show.rows.now self.now.s self.now.t) path.old }
+    {
+        let mut way = [0u32; MAX_DEPTH];
+        let Some(at) = self.behind(&mut way) else {
+            return Err(NO_LINK);
+        };
+        paths::positions(&self.show, at.depth, &mut way);
+        rows::copy(&way[..at.depth], path);
+        Ok(FoundRow {
+            row: at.row,
+            depth: at.depth as u32,
+        })
+    }
+
+    // The fewest follow-ons between the two. The work area is large enough.
+    // Kept: a clause for that, here and below, and no array, by the C interface: a caller may lend more, and what stands behind is promised to stay (`between`).
+    fn least(&self, work: &mut [u32]) -> Result<Option<u32>, Refusal>
+        requires { work_size ≤ length work.old }
+        ensures { outcome (of_fewest result) work.new ≡ between (blocks_of self.now.show.rows.now) self.now.s self.now.t work.old }
+    {
+        let mut up = [0u32; MAX_DEPTH];
+        let from = paths::find(&self.show, self.s, &mut up);
+        let mut down = [0u32; MAX_DEPTH];
+        let to = paths::find(&self.show, self.t, &mut down);
+        distance::summarise(&self.show, work);
+        let steps = distance::fewest(&self.show, from, &up, to, &down, work);
+        if steps < NO_CHAIN {
+            return Ok(Some(steps));
+        }
+        Ok(None)
+    }
+
+    // The quickest way between the two, where labels wait so long. The work area is large enough.
+    fn quickest_with(&self, waits: &[u32], work: &mut [u64]) -> Result<Option<u64>, LineRefusal>
+        requires { AreWaits waits.now × (work_size ≤ length work.old) }
+        ensures { outcome (of_quickest result) work.new
+            ≡ quickest_under (WaitTable waits.now) (blocks_of self.now.show.rows.now) self.now.s self.now.t work.old }
+    {
+        let mut way_up = [0u32; MAX_DEPTH];
+        let from = paths::find(&self.show, self.s, &mut way_up);
+        let mut way_down = [0u32; MAX_DEPTH];
+        let to = paths::find(&self.show, self.t, &mut way_down);
+        let sum = quickest::quickest(&self.show, waits, from, &way_up, to, &way_down, work);
+        if sum < NO_SUM {
+            return Ok(Some(sum));
+        }
+        Ok(None)
+    }
+
+    // The same under a wait file.
+    fn quickest_under(&self, file: &[u8], work: &mut [u64]) -> Result<Option<u64>, LineRefusal>
+        requires { work_size ≤ length work.old }
+        ensures { outcome (of_quickest result) work.new
+            ≡ quickest_under (wait_file file.now) (blocks_of self.now.show.rows.now) self.now.s self.now.t work.old }
+    {
+        let mut waits = [0u32; WAITS];
+        waits::read(file, &mut waits)?;
+        self.quickest_with(&waits, work)
+    }
 }
 
 // The row behind the follow-on from cue s to cue t of a loaded show.
@@ -198,28 +256,10 @@ pub fn row_in(show: &Show, s: u32, t: u32, path: &mut [u32]) -> Result<FoundRow,
     if room < MAX_DEPTH {
         return Err(TOO_SHORT);
     }
-    let known = are_cues(show.count(), s, t);
-    if !known {
+    let Some(cues) = Cues::new(show, s, t) else {
         return Err(NO_CUE);
-    }
-    row_behind(show, s, t, path)
-}
-
-// The fewest follow-ons between two cues of a loaded show. The work area is large enough.
-fn least(show: &Show, s: u32, t: u32, work: &mut [u32]) -> Result<Option<u32>, Refusal>
-    requires { ShowCue show.now.rows.now s × ShowCue show.now.rows.now t × (work_size ≤ length work.old) }
-    ensures { outcome (of_fewest result) work.new ≡ between (blocks_of show.now.rows.now) s t work.old }
-{
-    let mut up = [0u32; MAX_DEPTH];
-    let from = paths::find(show, s, &mut up);
-    let mut down = [0u32; MAX_DEPTH];
-    let to = paths::find(show, t, &mut down);
-    distance::summarise(show, work);
-    let steps = distance::fewest(show, from, &up, to, &down, work);
-    if steps < NO_CHAIN {
-        return Ok(Some(steps));
-    }
-    Ok(None)
+    };
+    cues.row_behind(path)
 }
 
 // The fewest follow-ons from cue s to cue t of a loaded show.
@@ -229,53 +269,10 @@ pub fn fewest_in(show: &Show, s: u32, t: u32, work: &mut [u32]) -> Result<Option
     if work.len() < WORK_SIZE {
         return Err(TOO_SHORT);
     }
-    let known = are_cues(show.count(), s, t);
-    if !known {
+    let Some(cues) = Cues::new(show, s, t) else {
         return Err(NO_CUE);
-    }
-    least(show, s, t, work)
-}
-
-// The quickest way between two cues of a loaded show, where labels wait so long. The work area is large enough.
-fn quickest_with(
-    show: &Show,
-    s: u32,
-    t: u32,
-    waits: &[u32],
-    work: &mut [u64],
-) -> Result<Option<u64>, LineRefusal>
-    requires { ShowCue show.now.rows.now s × ShowCue show.now.rows.now t × AreWaits waits.now × (work_size ≤ length work.old) }
-    ensures { outcome (of_quickest result) work.new
-        ≡ quickest_under (WaitTable waits.now) (blocks_of show.now.rows.now) s t work.old }
-{
-    let mut way_up = [0u32; MAX_DEPTH];
-    let from = paths::find(show, s, &mut way_up);
-    let mut way_down = [0u32; MAX_DEPTH];
-    let to = paths::find(show, t, &mut way_down);
-    let sum = quickest::quickest(show, waits, from, &way_up, to, &way_down, work);
-    if sum < NO_SUM {
-        return Ok(Some(sum));
-    }
-    Ok(None)
-}
-
-// The same under a wait file.
-fn quickest_under(
-    show: &Show,
-    s: u32,
-    t: u32,
-    file: &[u8],
-    work: &mut [u64],
-) -> Result<Option<u64>, LineRefusal>
-    requires { ShowCue show.now.rows.now s × ShowCue show.now.rows.now t × (work_size ≤ length work.old) }
-    ensures { outcome (of_quickest result) work.new
-        ≡ quickest_under (wait_file file.now) (blocks_of show.now.rows.now) s t work.old }
-{
-    let mut waits = [0u32; WAITS];
-    match waits::read(file, &mut waits) {
-        Ok(()) => quickest_with(show, s, t, &waits, work),
-        Err(refusal) => Err(refusal),
-    }
+    };
+    cues.least(work)
 }
 
 // The quickest way from cue s to cue t of a loaded show, under a wait file.
@@ -293,9 +290,8 @@ pub fn quickest_in(
     if room < WORK_SIZE {
         return Err(TOO_SHORT.into());
     }
-    let known = are_cues(show.count(), s, t);
-    if !known {
+    let Some(cues) = Cues::new(show, s, t) else {
         return Err(NO_CUE.into());
-    }
-    quickest_under(show, s, t, file, work)
+    };
+    cues.quickest_under(file, work)
 }

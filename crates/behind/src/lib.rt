@@ -58,6 +58,7 @@ fn own_row(rows: &[u32], links: Range<usize>, x: u32, y: u32) -> Option<u32>
 }
 
 // A level is better than that of the lead found before; 0 is none.
+// Kept: 0 and no Option, for fixed memory: a level is a byte of the table, and an Option would be made of each byte that is read and told apart here.
 #[tactic(auto, using(basics::proofs::Choices::ifs), unfolding(crate::specs::Leads::beats_level, crate::specs::Leads::level_of))]
 fn beats(n: u8, old: Option<Lead>) -> bool
     requires { IfSome old (λ b. b.level ≢ 0) }
@@ -87,6 +88,7 @@ fn onward(own: Option<u32>, lead: Option<Lead>) -> Option<Lead>
 
 impl Pair {
     // The cues w and v of a block, leading inward to w or out from it.
+    // Kept: `inward` is a Bool, for an enum is no plainer: each clause would turn it to the Bool that the definitions `source_of` and `target_of` read.
     #[tactic(auto, using(basics::proofs::Choices::ifs), unfolding(crate::specs::Ways::source_of, crate::specs::Ways::target_of))]
     fn new(block: usize, w: u32, v: u32, inward: bool) -> Pair
         ensures { (result.block ≡ block) × (result.from ≡ source_of inward w v) × (result.to ≡ target_of inward w v) }
@@ -103,14 +105,12 @@ impl Pair {
     {
         let k = used(show.rows, r);
         let joins = show.joins(k);
-        let from = join_at(show.rows, r, joins, self.from);
-        if joins <= from {
+        let Some(from) = join_at(show.rows, r, joins, self.from) else {
             return lead;
-        }
-        let to = join_at(show.rows, r, joins, self.to);
-        if joins <= to {
+        };
+        let Some(to) = join_at(show.rows, r, joins, self.to) else {
             return lead;
-        }
+        };
         let level = table.level_at(k, from, to);
         if beats(level, lead) {
             return Some(Lead {
@@ -160,6 +160,7 @@ fn walk(show: &Show, table: &Table, start: Pair, depth: usize, rows: &mut [u32])
 {
     let mut c = start;
     let mut d = depth;
+    // Kept: no plainer as a `for` or `while let`: it counts nothing, and its exit answers with the row that the same turn found.
     loop {
         let own = own_row(show.rows, show.link_rows(c.block), c.from, c.to);
         let Some(lead) = onward(own, c.best_use(show, table)) else {
@@ -197,7 +198,7 @@ fn seen(show: &Show, z: Frame, v: u32) -> Option<u32>
 
 // The row behind the follow-on between the cue of a place and a cue v whose number is not larger, leading inward to the place or out from it. The rows of
 // the uses that lead to the row's copy stand first in the list afterwards.
-// Kept: what may not change (the definitions source_of and target_of read the Bool), so `inward` is no enum.
+// Kept: `inward` is a Bool, for an enum is no plainer: each clause would turn it to the Bool that the definitions `source_of` and `target_of` read.
 pub fn behind(show: &Show, place: Place, rows: &mut [u32], v: u32, inward: bool) -> Option<RowAt>
     requires { Found show.now.rows.now show.now.index.now rows.old place × (max_depth ≤ length rows.old) × (v ≤ place.cue) }
     ensures { RowBehind show.now.rows.now show.now.index.now rows.new (source_of inward place.cue v) (target_of inward place.cue v) result }

@@ -6,7 +6,7 @@
 // `block_on` goes along the rows that lead there.
 #![tactic(auto)]
 
-ghost use Rattle.std.specs.Prelude.{◌≡◌, ◌+◌, ◌*◌, ◌-◌, ◌≤◌, ◌<◌, get_or};
+ghost use Rattle.std.specs.Prelude.{◌≡◌, ◌+◌, ◌*◌, ◌-◌, ◌≤◌, ◌<◌, get_or, unwrap_or, IfSome};
 ghost use Rattle.model.specs.Limits.{row_size, max_joins, max_own, max_blocks, max_total};
 ghost use Rattle.model.specs.Rows.{cell, row_count};
 ghost use Rattle.model.specs.Blocks.{joins_of, own_of, total, blocks_of, last_block, count};
@@ -55,7 +55,7 @@ pub struct Place {
 }
 
 // A number as an index.
-// Kept: a function, for `as` in an expression is no plainer, and the bound in its promise serves the callers' proofs.
+// Kept: a function, for the callers' proofs rest on the bound that it promises of what it gives, which `as` in an expression does not hand on.
 pub fn wide(x: u32) -> usize
     ensures { (result ≡ x) × (result < 4294967296) }
 {
@@ -70,6 +70,7 @@ fn value(rows: &[u32], r: usize, c: usize) -> u32
     rows[r * ROW_SIZE + c]
 }
 
+// Kept: `IsBlock` in five contracts is no plainer as a type of block numbers: it would hold the rows it speaks of, and a clause had to say that they are the show's.
 impl Show<'_> {
     // Number c of block k in the index.
     fn entry(&self, k: usize, c: usize) -> u32
@@ -118,6 +119,8 @@ impl Show<'_> {
     }
 
     // The rows of block k's links.
+    // Kept: whoever goes through these rows, or those of the uses, writes `for r in rows.start..rows.end`, a counted loop; `for r in rows` is an iterator, whose
+    // proof is no plainer.
     pub fn link_rows(&self, k: usize) -> Range<usize>
         requires { IsBlock self.now.rows.now k }
         ensures { LinkRows self.now.rows.now k result.start result.end }
@@ -153,7 +156,8 @@ impl Show<'_> {
     }
 }
 
-// Kept: what is asked of one row stays a function of the rows, since its clause (`IsRow`) asks for less than a `Show`.
+// Kept: what is asked of one row stays a function of the rows, since its clause (`IsRow`) asks for less than a `Show`. They are alike, being one value of a
+// row each; one function for all would be `value`.
 
 // The ends and the label of the link of row r.
 pub fn from(rows: &[u32], r: usize) -> u32
@@ -193,15 +197,16 @@ pub fn column(rows: &[u32], r: usize, j: usize) -> u32
     value(rows, r, COLUMNS + j)
 }
 
-// The join of the used block that meets cue c in the use of row r, and the number of its joins if none does.
-pub fn join_at(rows: &[u32], r: usize, joins: usize, c: u32) -> usize
+// The first join of the used block that meets cue c in the use of row r, if one does.
+pub fn join_at(rows: &[u32], r: usize, joins: usize, c: u32) -> Option<usize>
     requires { IsRow rows.now r × (joins ≤ max_joins) }
-    ensures { IsJoinAt rows.now r joins c result }
+    ensures value { IsJoinAt rows.now r joins c (unwrap_or result joins) }
+    ensures some { IfSome result (λ i. i < joins) }
 {
     for i in 0..joins {
         if column(rows, r, i) == c {
-            return i;
+            return Some(i);
         }
     }
-    joins
+    None
 }

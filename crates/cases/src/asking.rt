@@ -1,4 +1,5 @@
 // The questions of the library, with their answers as numbers: 0 and what it gives, or a refusal and its place. What an answer lacks is 0.
+// Kept: four numbers and no Result, for that is no plainer: the data has its answers so, and they are only compared.
 use crate::shown::Shown;
 use model::{LineRefusal, Listed, Refusal, ShowSize};
 

@@ -20,7 +20,7 @@ const TEXT: usize = 524288;
 
 // The cases of both files, read into a list one after the other, and the counts.
 fn take_all<R: Files + Eprint, W: Write>(rt: &R, out: &mut W, alloc: Global) -> io::Result<()> {
-    // Kept: one list for both files, its length beside it, since what the program prints may not change: a last line with no line feed
+    // Kept: one list for both files, its length beside it, by what may not change, what `main` does on every file of cases: a last line with no line feed
     // goes on in what the list holds behind it.
     let mut text = vec![in alloc; 0u8; TEXT]?;
     let mut run = Run::new(rt, out, alloc)?;

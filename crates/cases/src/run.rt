@@ -10,6 +10,7 @@ use std::io::{Eprint, Write};
 use std::rt::Files;
 
 // The show, the numbers of the last content, whether all cases since the last name were right, and the counts.
+// Kept: `all_right` is a flag with no value beside it: whether the cases so far were right, of which those with no name count with the next that has one.
 #[derive(Drop)]
 pub struct Run<'a, R: Files + Eprint, W: Write> {
     rt: &'a R,

@@ -12,8 +12,8 @@ pub const BYTES: usize = 65552;
 const NUMBERS: usize = 11300;
 
 // The file of a show and its rows. Of each list so many are lent, as far as it reaches.
-// Kept: lists with a length beside them, since what the program prints may not change: a line may lend more than its show has, and what
-// stands there is what the shows before it left.
+// Kept: lists with a length beside them, by what may not change, what `main` prints (`stdout`): a line such as `=ring.csv|65537` lends more than its show has,
+// and what the shows before it left stands there.
 #[derive(Drop)]
 pub struct Shown {
     bytes: Vec<u8>,

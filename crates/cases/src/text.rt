@@ -61,6 +61,7 @@ impl<'a> Iterator for Numbers<'a> {
     type Item = u32;
 
     fn next(&mut self) -> Option<u32> {
+        // Kept: a `while` that counts nothing: it goes on from word to word to the next that stands there at all.
         while self.times == 0 {
             if self.text.is_empty() {
                 return None;
@@ -88,7 +89,7 @@ fn repeated(word: &[u8]) -> (u32, u32) {
 }
 
 // The number of these digits. One that is too large counts as 0, and the digits behind it begin another.
-// Kept: no `parse`, since what the program prints may not change: it refuses such a number, and one with no digit.
+// Kept: no `parse`, by what may not change, what `main` does on every file of cases: `parse` refuses a number that is too large, and one with no digit.
 fn number(digits: &[u8]) -> u32 {
     digits.iter().fold(0u32, |value, digit| {
         let tens = value.checked_mul(10);

@@ -19,14 +19,13 @@ ghost use Rattle.distances.specs.Walks.{each-one};
 ghost use Rattle.distances.specs.Tells.{Tells, summaries_to, distance};
 ghost use Rattle.blocks.specs.Loaded.{IsBlock};
 ghost use Rattle.blocks.specs.Places.{block_on, UsesTo, Found};
-ghost use Rattle.searches.specs.Starts.{Started, Merged, estimates_size};
+ghost use Rattle.searches.specs.Starts.{Started, Merged};
 ghost use Rattle.searches.specs.Edges.{cue_count, SpreadIn, MaySettle};
 ghost use Rattle.searches.specs.Joins.{JoinsAt, RowKept, JoinsKept};
-ghost use Rattle.searches.specs.Parts.{part_of};
 ghost use Rattle.searches.specs.Knowing.{HasTable, MaySearch};
 ghost use Rattle.distance.specs.Summaries.{RowFound, RowsFilled, Below, PartFilled};
 ghost use Rattle.copies.specs.ByRows.{copy_on};
-ghost use Rattle.searches.specs.Copies.{FromKept, FromAbove, TellsWhole, kept_size, Risen, Source, Common, Sunk};
+ghost use Rattle.searches.specs.Copies.{FromKept, FromAbove, TellsWhole, Risen, Source, Common, Sunk};
 
 use blocks::{Place, Show, wide};
 use estimates::{ESTIMATES, NO_CHAIN, Number, clear, gather, put, put_met};
@@ -38,26 +37,31 @@ pub const KEPT: usize = SUMMARY_WIDTH * MAX_BLOCKS as usize;
 
 // The work area.
 
-// Row i of some numbers, eight to a row: the m estimates from cue p on.
-fn keep_row<N: Number>(v: &mut [N], i: usize, d: &[N], p: usize, m: usize)
-    requires { (summary_width * i + m ≤ length v.old) × (p + m ≤ length d.now) }
-    ensures { RowKept (N.values v.old) i (N.values d.now) p m (N.values v.new) }
+// In what follows a part with a start is taken of `d[..]`, the whole as a slice: the language takes
+// none of an array itself where the type of its numbers is a parameter.
+
+// Row i of some numbers, eight to a row: some estimates.
+// Kept: a loop, for `copy_from_slice` is no plainer: it needs the end of a part of v too, and its proof the lengths of both.
+fn keep_row<N: Number>(v: &mut [N], i: usize, e: &[N])
+    requires { summary_width * i + length e.now ≤ length v.old }
+    ensures { RowKept (N.values v.old) i (N.values e.now) 0 (length e.now) (N.values v.new) }
 {
-    for j in 0..m {
-        v[SUMMARY_WIDTH * i + j] = d[p + j];
+    for j in 0..e.len() {
+        v[SUMMARY_WIDTH * i + j] = e[j];
     }
 }
 
 // Row i of block k's part of the work area: the estimates from its join i + 1, which are kept in d.
+// Kept: k and i number a block and its join, and the work area goes whole: no plainer in two parts, those of the lower blocks to read and this one to write.
 pub fn row_from<N: Number, P: Prices>(
     show: &Show,
     prices: &P,
     k: usize,
     i: usize,
-    d: &mut [N],
+    d: &mut [N; ESTIMATES],
     work: &mut [N],
 )
-    requires { MaySettle show.now.rows.now show.now.index.now k work.old d.old × (i < joins_of (blocks_of show.now.rows.now) k)
+    requires { MaySettle show.now.rows.now show.now.index.now k work.old × (i < joins_of (blocks_of show.now.rows.now) k)
         × (summary_size * k + summary_size ≤ length work.old) }
     ensures { RowFound N.inf (P.price prices.now) (blocks_of show.now.rows.now) k i (N.values work.old) (N.values work.new) }
 {
@@ -66,29 +70,37 @@ pub fn row_from<N: Number, P: Prices>(
     from_cue(show, prices, work, k, first + i, d);
     let a = SUMMARY_SIZE * k;
     let e = a + SUMMARY_SIZE;
-    keep_row(&mut work[a..e], i, d, first, m);
+    keep_row(&mut work[a..e], i, &d[..][first..first + m]);
 }
 
 // The way up. Level 0 is the show, and row l of a place's rows leads from level l to level l + 1.
 
+// Kept: `IsBlock` and `UsesTo` as clauses: no plainer as types, which would hold the show they speak of, so that a clause had to say that it is this show.
+
 // The estimates at the joins of block k, kept for level l.
-fn keep_joins<N: Number>(show: &Show, k: usize, l: usize, d: &[N], kept: &mut [N])
-    requires { IsBlock show.now.rows.now k × (l ≤ max_depth) × (length d.now ≡ estimates_size) × (length kept.old ≡ kept_size) }
+fn keep_joins<N: Number>(show: &Show, k: usize, l: usize, d: &[N; ESTIMATES], kept: &mut [N; KEPT])
+    requires { IsBlock show.now.rows.now k × (l ≤ max_depth) }
     ensures { JoinsKept (blocks_of show.now.rows.now) k (N.values kept.old) l (N.values d.now) (N.values kept.new) }
 {
-    let own = wide(show.own(k));
-    let m = show.joins(k);
-    keep_row(kept, l, d, own + 1, m);
+    let first = wide(show.own(k)) + 1;
+    keep_row(kept, l, &d[..][first..first + show.joins(k)]);
 }
 
 // What was kept for level l + 1, at the cues of the use that leads there.
-fn put_kept<N: Number>(show: &Show, rows: &[u32], l: usize, kept: &[N], d: &mut [N])
-    requires { UsesTo show.now.rows.now rows.now (l + 1) × (l < max_depth) × (length kept.now ≡ kept_size) × (length d.old ≡ estimates_size) }
+fn put_kept<N: Number>(
+    show: &Show,
+    rows: &[u32],
+    l: usize,
+    kept: &[N; KEPT],
+    d: &mut [N; ESTIMATES],
+)
+    requires { UsesTo show.now.rows.now rows.now (l + 1) × (l < max_depth) }
     ensures { Merged (FromKept show.now.rows.now rows.now l (N.values kept.now)) (N.values d.old) (N.values d.new) }
 {
     let r = wide(rows[l]);
     let m = show.joins(blocks::used(show.rows, r));
-    put_met(show.rows, r, kept, SUMMARY_WIDTH * (l + 1), m, d);
+    let a = SUMMARY_WIDTH * (l + 1);
+    put_met(show.rows, r, &kept[..][a..a + m], d);
 }
 
 // One level up: the estimates of the block at level l from what was kept for level l + 1.
@@ -98,11 +110,10 @@ fn rise_one<N: Number, P: Prices>(
     work: &[N],
     rows: &[u32],
     l: usize,
-    kept: &mut [N],
-    d: &mut [N],
+    kept: &mut [N; KEPT],
+    d: &mut [N; ESTIMATES],
 )
-    requires { HasTable N.inf N.values (P.price prices.now) show.now.rows.now show.now.index.now work.now × UsesTo show.now.rows.now rows.now (l + 1) × (l < max_depth)
-        × (length kept.old ≡ kept_size) × (length d.old ≡ estimates_size) }
+    requires { HasTable N.inf N.values (P.price prices.now) show.now.rows.now show.now.index.now work.now × UsesTo show.now.rows.now rows.now (l + 1) × (l < max_depth) }
     ensures { SpreadIn N.inf (P.price prices.now) (blocks_of show.now.rows.now) (N.values work.now) (block_on show.now.rows.now rows.now l)
         (FromKept show.now.rows.now rows.now l (N.values kept.old)) (N.values d.new)
         × JoinsKept (blocks_of show.now.rows.now) (block_on show.now.rows.now rows.now l) (N.values kept.old) l (N.values d.new) (N.values kept.new) }
@@ -122,10 +133,10 @@ fn climb<N: Number, P: Prices>(
     work: &[N],
     from: Place,
     rows: &[u32],
-    kept: &mut [N],
-    d: &mut [N],
+    kept: &mut [N; KEPT],
+    d: &mut [N; ESTIMATES],
 )
-    requires { MaySearch N.inf N.values (P.price prices.now) show.now.rows.now show.now.index.now work.now rows.now from d.old × (length kept.old ≡ kept_size) }
+    requires { MaySearch N.inf N.values (P.price prices.now) show.now.rows.now show.now.index.now work.now rows.now from }
     ensures { Risen N.inf (P.price prices.now) show.now.rows.now show.now.index.now rows.now from 0 (N.values kept.new) (N.values d.new) }
 {
     from_cue(show, prices, work, from.block, wide(from.own), d);
@@ -137,20 +148,20 @@ fn climb<N: Number, P: Prices>(
 
 // The way down.
 
-// Estimates to begin with at m cues from p on.
-fn put_joins<N: Number>(p: usize, e: &[N], m: usize, d: &mut [N])
-    requires { (p + m ≤ length d.old) × (m ≤ length e.now) }
-    ensures { Merged (JoinsAt p (N.values e.now) m) (N.values d.old) (N.values d.new) }
+// Estimates to begin with at some cues, one for each.
+fn put_joins<N: Number>(e: &[N], d: &mut [N])
+    requires { length e.now ≤ length d.old }
+    ensures { Merged (JoinsAt 0 (N.values e.now) (length e.now)) (N.values d.old) (N.values d.new) }
 {
-    for i in 0..m {
-        put(d, p + i, e[i]);
+    for i in 0..e.len() {
+        put(d, i, e[i]);
     }
 }
 
 // From the estimates at level l to those that the block at level l + 1 begins with: its joins have
 // what the cues that they meet have.
-fn enter<N: Number>(show: &Show, rows: &[u32], l: usize, d: &mut [N])
-    requires { UsesTo show.now.rows.now rows.now (l + 1) × (length d.old ≡ estimates_size) }
+fn enter<N: Number>(show: &Show, rows: &[u32], l: usize, d: &mut [N; ESTIMATES])
+    requires { UsesTo show.now.rows.now rows.now (l + 1) }
     ensures { Started N.inf (cue_count (blocks_of show.now.rows.now) (block_on show.now.rows.now rows.now (l + 1)))
         (FromAbove show.now.rows.now rows.now l (N.values d.old)) (N.values d.new) }
 {
@@ -159,15 +170,22 @@ fn enter<N: Number>(show: &Show, rows: &[u32], l: usize, d: &mut [N])
     let own = wide(show.own(k));
     let m = show.joins(k);
     let mut e = [N::NONE; SUMMARY_WIDTH];
-    gather(show.rows, r, d, m, N::NONE, &mut e);
+    gather(show.rows, r, d, N::NONE, &mut e[..m]);
     clear(d, own + m);
-    put_joins(own + 1, &e, m, d);
+    put_joins(&e[..m], &mut d[..][own + 1..own + 1 + m]);
 }
 
 // What estimates at level l of a place begin with on account of its cue: what was kept at the use
 // that leads on, or 0 at the cue itself.
-fn put_source<N: Number>(show: &Show, from: Place, rows: &[u32], l: usize, kept: &[N], d: &mut [N])
-    requires { Found show.now.rows.now show.now.index.now rows.now from × (l ≤ from.depth) × (length kept.now ≡ kept_size) × (length d.old ≡ estimates_size) }
+fn put_source<N: Number>(
+    show: &Show,
+    from: Place,
+    rows: &[u32],
+    l: usize,
+    kept: &[N; KEPT],
+    d: &mut [N; ESTIMATES],
+)
+    requires { Found show.now.rows.now show.now.index.now rows.now from × (l ≤ from.depth) }
     ensures { Merged (Source show.now.rows.now rows.now from l (N.values kept.now)) (N.values d.old) (N.values d.new) }
 {
     if l < from.depth {
@@ -176,6 +194,8 @@ fn put_source<N: Number>(show: &Show, from: Place, rows: &[u32], l: usize, kept:
         put(d, wide(from.own), N::of(0));
     }
 }
+
+// Kept: the way down is two loops: no plainer as one, which takes an Option of a place and what was kept, and tests it at each level.
 
 // Down the first levels of a place's own rows: from the estimates of the show to those of the whole
 // show at the given level.
@@ -186,11 +206,10 @@ fn sink_shared<N: Number, P: Prices>(
     from: Place,
     rows: &[u32],
     shared: usize,
-    kept: &[N],
-    d: &mut [N],
+    kept: &[N; KEPT],
+    d: &mut [N; ESTIMATES],
 )
-    requires { MaySearch N.inf N.values (P.price prices.now) show.now.rows.now show.now.index.now work.now rows.now from d.old × (shared ≤ from.depth)
-        × (length kept.now ≡ kept_size)
+    requires { MaySearch N.inf N.values (P.price prices.now) show.now.rows.now show.now.index.now work.now rows.now from × (shared ≤ from.depth)
         × Risen N.inf (P.price prices.now) show.now.rows.now show.now.index.now rows.now from 0 (N.values kept.now) (N.values d.old) }
     ensures { TellsWhole N.inf (P.price prices.now) show.now.rows.now (copy_on show.now.rows.now show.now.index.now rows.now shared) from.cue
         (N.values d.new) }
@@ -211,9 +230,9 @@ fn sink_alone<N: Number, P: Prices>(
     to: Place,
     rows: &[u32],
     level: usize,
-    d: &mut [N],
+    d: &mut [N; ESTIMATES],
 )
-    requires { MaySearch N.inf N.values (P.price prices.now) show.now.rows.now show.now.index.now work.now rows.now to d.old × (level ≤ to.depth) }
+    requires { MaySearch N.inf N.values (P.price prices.now) show.now.rows.now show.now.index.now work.now rows.now to × (level ≤ to.depth) }
     ensures { Sunk N.inf (P.price prices.now) show.now.rows.now show.now.index.now rows.now level to.depth (N.values d.old) (N.values d.new) }
 {
     for l in level..to.depth {
@@ -225,6 +244,7 @@ fn sink_alone<N: Number, P: Prices>(
 // Both ways.
 
 // How many rows two places have in common: so many levels below the show do they share a copy.
+// Kept: lists with a length beside them, compared by a counted loop, by what may not change: the clause `Common` is of the first n and m rows of any two lists.
 pub fn common(a: &[u32], n: usize, b: &[u32], m: usize) -> usize
     requires { (n ≤ length a.now) × (m ≤ length b.now) }
     ensures { Common a.now n b.now m result }
@@ -238,6 +258,8 @@ pub fn common(a: &[u32], n: usize, b: &[u32], m: usize) -> usize
     few
 }
 
+// Kept: a place and its rows apart, under a clause (`Found`): a struct of both would hold the show it speaks of, and a clause had to say that two hold one.
+
 // The estimates of the copy of a place `to` from the cue of a place `from`, each with the rows that
 // lead there. The work area tells the least weights between the joins of each block.
 pub fn reach<N: Number, P: Prices>(
@@ -248,11 +270,11 @@ pub fn reach<N: Number, P: Prices>(
     to: Place,
     down: &[u32],
     work: &[N],
-    kept: &mut [N],
-    d: &mut [N],
+    kept: &mut [N; KEPT],
+    d: &mut [N; ESTIMATES],
 )
     requires { HasTable N.inf N.values (P.price prices.now) show.now.rows.now show.now.index.now work.now × Found show.now.rows.now show.now.index.now up.now from
-        × Found show.now.rows.now show.now.index.now down.now to × (length kept.old ≡ kept_size) × (length d.old ≡ estimates_size) }
+        × Found show.now.rows.now show.now.index.now down.now to }
     ensures { Tells (P.price prices.now) (show_links (blocks_of show.now.rows.now)) N.inf from.cue to.cue (get_or (N.values d.new) to.own 0) }
 {
     climb(show, prices, work, from, up, kept, d);
@@ -263,18 +285,10 @@ pub fn reach<N: Number, P: Prices>(
 
 // The fewest follow-ons.
 
-// Row i of block k's summary: the distances from its join i + 1. Estimates are kept in d.
-fn summarise_join(show: &Show, k: usize, i: usize, d: &mut [u32], work: &mut [u32])
-    requires { IsBlock show.now.rows.now k × (i < joins_of (blocks_of show.now.rows.now) k) × (length d.old ≡ estimates_size) × (summary_size * k + summary_size ≤ length work.old) × Below (blocks_of show.now.rows.now) k work.old × RowsFilled (blocks_of show.now.rows.now) k i (part_of work.old k) }
-    ensures { PartFilled (blocks_of show.now.rows.now) k (i + 1) work.old work.new }
-{
-    row_from(show, &Steps, k, i, d, work);
-}
-
 // The summary of block k, behind those of the lower blocks.
 // Kept: apart from `quickest::sum_block`, by what may not change: a summary is promised number by number (`summary_of`), sums by what they tell (`SumsTo`).
-fn summarise_block(show: &Show, k: usize, d: &mut [u32], work: &mut [u32])
-    requires { IsBlock show.now.rows.now k × (length d.old ≡ estimates_size) × (summary_size * k + summary_size ≤ length work.old) × Below (blocks_of show.now.rows.now) k work.old }
+fn summarise_block(show: &Show, k: usize, d: &mut [u32; ESTIMATES], work: &mut [u32])
+    requires { IsBlock show.now.rows.now k × (summary_size * k + summary_size ≤ length work.old) × Below (blocks_of show.now.rows.now) k work.old }
     ensures { work.new ≡ take (summary_size * k) work.old ++ (summary_of (blocks_of show.now.rows.now) k ++ drop
         (summary_size * k + summary_size) work.old) }
 {
@@ -282,9 +296,11 @@ fn summarise_block(show: &Show, k: usize, d: &mut [u32], work: &mut [u32])
     let e = a + SUMMARY_SIZE;
     work[a..e].fill(NO_CHAIN);
     for i in 0..show.joins(k) {
-        summarise_join(show, k, i, d, work);
+        row_from(show, &Steps, k, i, d, work);
     }
 }
+
+// Kept: a list of 16,384 numbers or more and no array, by the C interface: a caller may lend more, and what stands behind is promised to stay (`work_after`).
 
 // The summaries of every block.
 fn summarise_blocks(show: &Show, blocks: usize, work: &mut [u32])
@@ -310,7 +326,7 @@ pub fn summarise(show: &Show, work: &mut [u32])
 
 // The fewest follow-ons from the cue of one place to the cue of another, each with the rows that
 // lead there, or 4,294,967,295 for none. The work area has the summaries.
-// Kept: a number for none, by what may not change: this clause, `distance result`. `answers` makes an Option of it.
+// Kept: a number for none, for an Option is no plainer: made here of the estimate, it would be told apart again by its one caller, `answers`, to make the answer.
 pub fn fewest(show: &Show, from: Place, up: &[u32], to: Place, down: &[u32], work: &[u32]) -> u32
     requires { Found show.now.rows.now show.now.index.now up.now from × Found show.now.rows.now show.now.index.now down.now to × (take (summary_size * length (blocks_of show.now.rows.now)) work.now ≡ summaries (blocks_of show.now.rows.now)) }
     ensures { fewest (show_links (blocks_of show.now.rows.now)) (count (blocks_of show.now.rows.now)) from.cue to.cue ≡ distance result }

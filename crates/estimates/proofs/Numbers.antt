@@ -8,9 +8,12 @@ module _ {N : Type 0} {value : N → ℕ} {values : List N → List ℕ} (each :
   pub count : (d : List N) → length (values d) ≡ length d
   count d = ap length (each d) ∙ length-map d value
 
-  -- A number that is read, and one that is stored.
+  -- A number that is read, as it comes out of a slice and out of an array, and one that is stored.
   pub read : (d : List N) (v : ℕ) (x : N) → x ≡ get_or d v x → v < length d → value x ≡ get_or (values d) v 0
   read d v x e h = ap value e ∙ sym (get_or-map value d v x 0 h) ∙ ap (λ (l : List ℕ). get_or l v 0) (sym (each d))
+
+  pub held : (d : List N) (v : ℕ) (x : N) → v < length d → value (get_or d v x) ≡ get_or (values d) v 0
+  held d v x h = sym (get_or-map value d v x 0 h) ∙ ap (λ (l : List ℕ). get_or l v 0) (sym (each d))
 
   pub stored : (d : List N) (v : ℕ) (x : N) → values (set d v x) ≡ set (values d) v (value x)
   stored d v x = each (set d v x) ∙ map-set value d v x ∙ ap (λ (l : List ℕ). set l v (value x)) (sym (each d))

@@ -9,7 +9,7 @@
 // all of them: `clear`.
 #![tactic(auto)]
 
-ghost use Rattle.std.specs.Prelude.{◌≡◌, ℕ, List, ◌+◌, ◌≤◌, ◌<◌, ◌⊎◌, true, false, length, map, refl};
+ghost use Rattle.std.specs.Prelude.{◌≡◌, ℕ, List, ◌≤◌, ◌<◌, ◌⊎◌, true, false, length, map, refl};
 ghost use Rattle.std.proofs.Common.{rules};
 ghost use Rattle.model.specs.Limits.{no_chain};
 ghost use Rattle.distances.specs.Quickest.{no_sum};
@@ -120,7 +120,7 @@ impl Number for u32 {
     ghost none = { refl };
 }
 
-// Kept: two impls with the same bodies: no plainer, since std has no trait for `saturating_add`, and a law of `values` is each type's own.
+// Kept: two impls with the same bodies: `rt ci` refuses an impl that a macro of the repository writes, and std has no trait for `saturating_add` to write one over.
 impl Number for u64 {
     ghost inf = { no_sum };
 
@@ -185,29 +185,31 @@ pub fn put<N: Number>(d: &mut [N], v: usize, z: N) -> bool
     z.falls(y)
 }
 
-// Estimates to begin with at the first m cues that row r names, from place q of a list on: says
-// whether any is less than the one there.
-pub fn put_met<N: Number>(xs: &[u32], r: usize, kept: &[N], q: usize, m: usize, d: &mut [N]) -> bool
-    requires { Meets xs.now r m (length d.old) × (q + m ≤ length kept.now) }
-    ensures { Merged (MetAt xs.now r (N.values kept.now) q m) (N.values d.old) (N.values d.new)
+// Kept: below, r is a row's number and n a cue's, at which its estimate stands. No plainer as parts of the list beside them: a part would number its cues anew.
+
+// Estimates to begin with at the first cues that row r names, one for each: says whether any is less
+// than the one there.
+pub fn put_met<N: Number>(xs: &[u32], r: usize, kept: &[N], d: &mut [N]) -> bool
+    requires { Meets xs.now r (length kept.now) (length d.old) }
+    ensures { Merged (MetAt xs.now r (N.values kept.now) 0 (length kept.now)) (N.values d.old) (N.values d.new)
         × Fell (N.values d.old) result (N.values d.new) }
 {
     let mut fell = false;
-    for i in 0..m {
-        fell |= put(d, blocks::wide(blocks::column(xs, r, i)), kept[q + i]);
+    for i in 0..kept.len() {
+        fell |= put(d, blocks::wide(blocks::column(xs, r, i)), kept[i]);
     }
     fell
 }
 
-// The estimates of the first m cues that row r names, into the first m of e: says whether one of
+// The estimates of the first cues that row r names, as many as e has places: says whether one of
 // them is not x.
-pub fn gather<N: Number>(xs: &[u32], r: usize, d: &[N], m: usize, x: N, e: &mut [N]) -> bool
-    requires { Meets xs.now r m (length d.now) × (m ≤ length e.old) }
-    ensures { Gathered xs.now r (N.values d.now) m (N.values e.old) (N.values e.new)
-        × Even result (N.value x) (N.values e.new) m }
+pub fn gather<N: Number>(xs: &[u32], r: usize, d: &[N], x: N, e: &mut [N]) -> bool
+    requires { Meets xs.now r (length e.old) (length d.now) }
+    ensures { Gathered xs.now r (N.values d.now) (length e.old) (N.values e.old) (N.values e.new)
+        × Even result (N.value x) (N.values e.new) (length e.old) }
 {
     let mut uneven = false;
-    for i in 0..m {
+    for i in 0..e.len() {
         let y = d[blocks::wide(blocks::column(xs, r, i))];
         e[i] = y;
         uneven |= y.unlike(x);

@@ -43,7 +43,7 @@ pub fn wins(a: u8, b: u8) -> bool
 }
 
 // The better of two levels, of which 0 is none.
-// Kept: what may not change (the definitions better_level and level_at read the 0 of the table's bytes), so a level is no Option.
+// Kept: 0 and no Option, for fixed memory: a level is a byte of the table, and an Option would be made of each byte that is read and told apart here.
 #[tactic(auto, using(basics::proofs::Choices::ifs), unfolding(crate::specs::Levels::better_level))]
 fn better_level(a: u8, b: u8) -> u8
     ensures { result ≡ better_level a b }
@@ -73,6 +73,8 @@ impl Owner {
 }
 
 // The level from join i to join j of block k, in any list of levels.
+// Kept: beside the method, by what may not change: its clause lets in any list of levels that has block k, which a `Table` is not.
+// Kept: `i < max_joins` and `j < max_joins`, here and below, are no plainer in a type of joins: each is an index at once, and the type would be opened for that.
 pub fn level_at(levels: &[u8], k: usize, i: usize, j: usize) -> u8
     requires { HasPairs levels.now k × (i < max_joins) × (j < max_joins) }
     ensures { result ≡ level_at levels.now k i j }
@@ -90,7 +92,7 @@ impl Table {
     }
 
     // The level from join i to join j of block k.
-    // Kept: HasPairs in four contracts is no plainer as a field: it says no more than that the table has a block k.
+    // Kept: HasPairs in five contracts is no plainer as a field: it says of the block that is asked for, another in each call, that it is one of the table's.
     pub fn level_at(&self, k: usize, i: usize, j: usize) -> u8
         requires { HasPairs self.now.levels k × (i < max_joins) × (j < max_joins) }
         ensures { result ≡ level_at self.now.levels k i j }

@@ -24,6 +24,7 @@ fn end_of(c: usize, n: usize) -> u8
 }
 
 // The line at a place: its values to a row, as many as the row has places. The answer is the place behind the line, if one is there.
+// Kept: the place beside the text, for what may not change: the definition `line_at` answers with a place of the whole text.
 #[inline(always)]
 pub fn line_at(text: &[u8], from: usize, row: &mut [u32]) -> Option<usize>
     ensures { LineSays (line_at (ends_of (length row.old)) text.now from) result row.new }

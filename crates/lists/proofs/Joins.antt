@@ -4,7 +4,8 @@ use native.Mathlib.Omega.{arith}
 use native.Mathlib.Decide.{ℕ_discrete, dec_lt}
 use mathlib.Core.Path.{◌≡◌, refl, sym, ◌∙◌, ap}
 use mathlib.Core.List.{List, [], ◌∷◌, ◌++◌, append-nil, append_assoc}
-use lib.ListN.{get_or}
+use lib.ListN.{length, get_or, take}
+use lib.Seq.{length-take-le, get_or-take}
 use Rattle.std.specs.Prelude.{min, None, Some as Just}
 use Rattle.std.specs.declared.option.Option.{Option}
 use Rattle.std.proofs.lemmas.Option.{none-some, same_Some}
@@ -210,3 +211,29 @@ module _ (q : Ask) (s : List ℕ) (joins : ℕ) (met page : List ℕ) (w : ℕ) 
 pub next-falls : (s : List ℕ) (joins : ℕ) (met : List ℕ) (last x : ℕ) → Next s joins met last (Just x) → x < 4294967296
     → 4294967296 - x < 4294967296 - last
 next-falls s joins met last x o h = omega (arith, o.above x refl)
+
+-- The flags of the joins and what they meet are lent as parts of longer lists.
+pub joins_part : (q : Ask) (s met page : List ℕ) (joins w : ℕ) (after : List ℕ) (g : ℕ) → joins ≤ length s
+    → JoinsDone q (take joins s) (length (take joins s)) (take joins met) page w after g → JoinsDone q s joins met page w after g
+joins_part q s met page joins w after g room done = record { long = done.long; bound = done.bound; all = λ E v base just. done.all E v base (part E v base just) }
+  where
+    many : length (take joins s) ≡ joins
+    many = length-take-le joins s room
+
+    out : (u : ℕ) → Met (take joins s) (length (take joins s)) (take joins met) u → Met s joins met u
+    out u m =
+        let h : m.j < joins = omega (arith, m.within, many) in
+        record { j = m.j; within = h; flag = sym (get_or-take joins s m.j 0 h) ∙ m.flag; meets = sym (get_or-take joins met m.j 0 h) ∙ m.meets }
+
+    into : (u : ℕ) → Met s joins met u → Met (take joins s) (length (take joins s)) (take joins met) u
+    into u m =
+        record {
+          j = m.j;
+          within = omega (arith, m.within, many);
+          flag = get_or-take joins s m.j 0 m.within ∙ m.flag;
+          meets = get_or-take joins met m.j 0 m.within ∙ m.meets;
+        }
+
+    part : (E : List Link) (v base : ℕ) → MeetsJust q E v base s joins met → MeetsJust q E v base (take joins s) (length (take joins s)) (take joins met)
+    part E v base just =
+        record { to = λ u m. just.to u (out u m); low = λ u m. just.low u (out u m); back = λ u h p. into u (just.back u h p) }

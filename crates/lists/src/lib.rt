@@ -59,7 +59,8 @@ pub struct Inner {
 // ---- the page
 
 // One cue more for the page, w being how many it was given, or one above the room.
-// Kept: page and w stay apart, as the room is the question's (`HasRoom`, `Gives`): a struct of the two would have it twice, with a clause that they agree.
+// Kept: page and w, here and below, are no plainer as one struct: it would have the question's room too (`HasRoom`, `Gives`), with a clause that they agree.
+// And one above the room says that there is more: no plainer as an Option, since a w that is full is compared with the room alike.
 fn give(room: usize, page: &mut [u32], w: usize, u: u32) -> usize
     requires { (room ≤ length page.old) × (room ≤ max_total) }
     ensures { Gives room page.old w (u ∷ []) page.new result }
@@ -93,17 +94,17 @@ fn next_byte(d: usize, own: usize) -> usize
     e.min(own + 1)
 }
 
-// The same for the own cues of a copy whose bits are set in the record from `at` on.
+// The same for the own cues of a copy whose bits are set in a record.
 // Kept: byte by byte in two counted loops misses the speed bar (race, list_out_star_first_4096: 38.2 us before, 46.6 so, all inlined).
-fn give_own(q: Ask, s: &[u8], at: usize, own: usize, base: u32, page: &mut [u32], w: usize) -> usize
-    requires { HasRecord s.now at × (own ≤ max_own) × (base + own ≤ max_total) × HasRoom q page.old w }
-    ensures { Gives q.room page.old w (own_list q s.now (at + bits_at) base own) page.new result }
+fn give_own(q: Ask, s: &[u8], own: usize, base: u32, page: &mut [u32], w: usize) -> usize
+    requires { HasRecord s.now 0 × (own ≤ max_own) × (base + own ≤ max_total) × HasRoom q page.old w }
+    ensures { Gives q.room page.old w (own_list q s.now bits_at base own) page.new result }
 {
     let mut d = 1;
     let mut g = w;
     while d <= own {
         let i = d - 1;
-        let b = s[at + BITS + i / 8];
+        let b = s[BITS + i / 8];
         if b == 0 {
             d = next_byte(d, own);
             continue;
@@ -115,28 +116,20 @@ fn give_own(q: Ask, s: &[u8], at: usize, own: usize, base: u32, page: &mut [u32]
     g
 }
 
-// Gives the page the own cues of a copy that the cue is linked to, by the record from `at`
-// on.
-fn give_block(
-    question: &Question,
-    m: &[u8],
-    at: usize,
-    y: Visit,
-    page: &mut [u32],
-    w: usize,
-) -> usize
-    requires { KnownOwn question.now.ask (blocks_of question.now.show.rows.now) m.now at y.block y.cue
-        × HasRecord m.now at
+// Gives the page the own cues of a copy that the cue is linked to, by the record of the cue.
+fn give_block(question: &Question, s: &[u8], y: Visit, page: &mut [u32], w: usize) -> usize
+    requires { KnownOwn question.now.ask (blocks_of question.now.show.rows.now) s.now 0 y.block y.cue
+        × HasRecord s.now 0
         × MayVisit question.now.ask question.now.show.rows.now y page.old w }
     ensures { Walked question.now.ask question.now.show.rows.now y y.base page.old w (own_of (blocks_of question.now.show.rows.now) y.block) page.new result }
 {
     let own = question.show.own(y.block);
-    give_own(question.ask, m, at, wide(own), y.base, page, w)
+    give_own(question.ask, s, wide(own), y.base, page, w)
 }
 
 // ---- uses
 
-// Kept: a struct of question and m, which only `door`, `walk` and `enter` take, would make each clause longer (`self.now.question.show.rows.now`).
+// Kept: `RecordsReady` and `HasBlock` in three contracts are no plainer as a field: they speak of question, m and y at once, and y is another in each call.
 
 // The join of the used block from which the walk goes on in the copy of a use, if it does.
 fn door(question: &Question, m: &[u8], y: Inner, w: usize) -> Option<usize>
@@ -156,10 +149,7 @@ fn door(question: &Question, m: &[u8], y: Inner, w: usize) -> Option<usize>
     }
     let j = used(show.rows, y.row);
     let joins = show.joins(j);
-    let i = join_at(show.rows, y.row, joins, y.cue);
-    if joins <= i {
-        return None;
-    }
+    let i = join_at(show.rows, y.row, joins, y.cue)?;
     if m[BLOCK * j + RECORD * i + INSIDE] == 1 {
         Some(i)
     } else {
@@ -213,7 +203,7 @@ fn enter(question: &Question, m: &[u8], y: Inner, page: &mut [u32], w: usize) ->
         base: y.base,
         cue: show.own(j) + 1 + (i as u32),
     };
-    let g = give_block(question, m, at, inside, page, w);
+    let g = give_block(question, &m[at..at + RECORD], inside, page, w);
     let rows = show.use_rows(j);
     if rows.start == rows.end {
         return g;
@@ -236,26 +226,27 @@ fn lesser_of(flag: u8, y: u32, last: u32, x: Option<u32>) -> Option<u32>
     x
 }
 
-// The least cue above last that a marked join meets.
-fn next_join(s: &[u8; RECORD], joins: usize, met: [u32; JOINS], last: u32) -> Option<u32>
-    requires { joins ≤ max_joins }
-    ensures { Next s.now joins met last result }
+// The least cue above last that a marked join meets: of each join its flag is lent, and the cue that it meets.
+fn next_join(flags: &[u8], met: &[u32], last: u32) -> Option<u32>
+    requires { length flags.now ≡ length met.now }
+    ensures { Next flags.now (length flags.now) met.now last result }
 {
     let mut x = None;
-    for j in 0..joins {
-        x = lesser_of(s[j], met[j], last, x);
+    for (j, flag) in flags.iter().enumerate() {
+        x = lesser_of(*flag, met[j], last, x);
     }
     x
 }
 
 // Gives the page the cues that the marked joins meet, in rising order.
-fn give_joins(q: Ask, s: &[u8; RECORD], joins: usize, met: [u32; JOINS], page: &mut [u32]) -> usize
-    requires { (joins ≤ max_joins) × HasRoom q page.old 0 }
-    ensures { JoinsDone q s.now joins met page.old 0 page.new result }
+fn give_joins(q: Ask, flags: &[u8], met: &[u32], page: &mut [u32]) -> usize
+    requires { (length flags.now ≡ length met.now) × HasRoom q page.old 0 }
+    ensures { JoinsDone q flags.now (length flags.now) met.now page.old 0 page.new result }
 {
     let mut g = 0;
     let mut last = q.after;
-    while let Some(x) = next_join(s, joins, met, last) {
+    // Kept: no plainer as a `for`: it counts nothing, and ends where no marked join meets a cue above the last one.
+    while let Some(x) = next_join(flags, met, last) {
         g = give(q.room, page, g, x);
         last = x;
     }
@@ -263,6 +254,8 @@ fn give_joins(q: Ask, s: &[u8; RECORD], joins: usize, met: [u32; JOINS], page: &
 }
 
 // ---- the question
+
+// Kept: `MayAnswer` in three contracts is no plainer as a field: it speaks of question, copy, cue and page, and only these three take them together.
 
 // Gives the page the cues asked for that own cue c of a copy is linked to, by means of a table.
 fn answer_by(question: &Question, z: Frame, c: u32, page: &mut [u32], m: &mut [u8]) -> usize
@@ -280,8 +273,8 @@ fn answer_by(question: &Question, z: Frame, c: u32, page: &mut [u32], m: &mut [u
         base: z.base,
         cue: c,
     };
-    let g = give_joins(question.ask, &s, joins, z.met, page);
-    let h = give_block(question, &s, 0, y, page, g);
+    let g = give_joins(question.ask, &s[..joins], &z.met[..joins], page);
+    let h = give_block(question, &s, y, page, g);
     walk(question, m, y, page, h)
 }
 
@@ -325,6 +318,8 @@ fn list_by(question: &Question, place: Place, rows: &[u32], page: &mut [u32]) ->
 
 // Lists the cues greater than n that links lead to from a cue, or inward from which they lead to
 // it. No more cues are ever written than a show may have.
+// Kept: `inward` is a Bool, for an enum is no plainer: each clause would turn it to the Bool that the definition `linked_cues` reads.
+// Kept: `Found` here and in `list_labels`: tried as a ghost field (`triples`, `Aims`), no proof closed, as it may have one proof only, and `Found` has a path.
 pub fn list(
     show: &Show,
     inward: bool,

@@ -4,7 +4,6 @@
 
 ghost use Rattle.std.specs.Prelude.{◌≡◌, ◌*◌, ◌≤◌, ◌<◌, length, replicate};
 ghost use Rattle.model.specs.Limits.{row_size, max_rows, desk_rows};
-ghost use Rattle.model.specs.Reasons.{number_of};
 ghost use Rattle.model.specs.Verdicts.{verdict, read_file, by_line, in_lines, numbers_of, file_verdict};
 ghost use Rattle.model.specs.Desk.{with_desk, desk_verdict, by_own_line, in_own_lines, desk_file_verdict};
 ghost use Rattle.verdicts.specs.Index.{index_size};
@@ -20,6 +19,8 @@ use model::{Reason, Refusal};
 const DESK_ROWS_32: u32 = DESK_ROWS as u32;
 
 // The refusal of a row, by its line in the file.
+// Kept: apart from `by_own_line`, since one with the number of rows ahead is no plainer: `map_err` takes each by its name, and each has a definition of its own,
+// which asks for a number below 5, as both do.
 fn by_line(refusal: Refusal) -> Refusal
     requires { refusal.place ≤ max_rows }
     ensures { result ≡ by_line refusal }
@@ -47,13 +48,6 @@ fn by_own_line(refusal: Refusal) -> Refusal
     }
 }
 
-// A file that is refused for this reason, with this place.
-fn refuse(reason: Reason, place: u32) -> Result<usize, Refusal>
-    ensures { result ≡ Err (record { number = number_of reason; place = place }) }
-{
-    Err(Refusal { reason, place })
-}
-
 // The rows of a file, checked.
 fn load_rows(numbers: &[u32], table: &mut [u32; INDEX]) -> Result<usize, Refusal>
     requires { table.old ≡ replicate index_size 0 }
@@ -70,7 +64,7 @@ fn load_desk_rows(numbers: &[u32], table: &mut [u32; INDEX]) -> Result<usize, Re
 {
     let opens = desk::opens_first(numbers);
     if !opens {
-        return refuse(Reason::CannotFollow, 2);
+        return Err(Refusal::new(Reason::CannotFollow, 2));
     }
     verdicts::check(numbers, table).map_err(by_own_line)?;
     Ok(numbers.len())
@@ -83,7 +77,7 @@ pub fn load(file: &[u8], numbers: &mut [u32], table: &mut [u32; INDEX]) -> Resul
 {
     let many = codec::parse(file, numbers)?;
     if MAX_ROWS < many {
-        return refuse(Reason::BadRowCount, 0);
+        return Err(Refusal::new(Reason::BadRowCount, 0));
     }
     let end = many * ROW_SIZE;
     load_rows(&numbers[0..end], table)
@@ -109,7 +103,7 @@ pub fn load_desk(
     let many = parse_own(file, numbers)?;
     let fits = desk::fits(many);
     if !fits {
-        return refuse(Reason::BadRowCount, 0);
+        return Err(Refusal::new(Reason::BadRowCount, 0));
     }
     desk::put_before(numbers);
     let end = (DESK_ROWS + many) * ROW_SIZE;

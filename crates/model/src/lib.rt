@@ -30,6 +30,12 @@ impl Model for Refusal {
 }
 
 impl Refusal {
+    pub fn new(reason: Reason, place: u32) -> Refusal
+        ensures { result ≡ record { number = number_of reason; place = place } }
+    {
+        Refusal { reason, place }
+    }
+
     pub fn number(&self) -> u32
         ensures { result ≡ self.now.number }
     {
@@ -38,6 +44,8 @@ impl Refusal {
 }
 
 // A refusal whose place may be a line of a wait file, which has any number of lines.
+// Kept: a type of its own beside `Refusal`, since one generic in the place's type would be no plainer: each contract that names a place would first have to
+// say which number a value of that type is.
 #[derive(Clone, Copy, PartialEq, Eq, Debug)]
 pub struct LineRefusal {
     pub reason: Reason,
@@ -90,6 +98,7 @@ pub struct CuePlace {
 }
 
 // What a list of linked cues gives: how many were written to the page, and whether there are more.
+// Kept: a flag beside the number, for the C interface gives the two so (`show_list_out`), and a page may be full with nothing left.
 #[derive(Clone, Copy, PartialEq, Eq, Debug)]
 pub struct Listed {
     pub written: u32,

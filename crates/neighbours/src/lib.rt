@@ -12,8 +12,8 @@ ghost use Rattle.model.specs.Blocks.{block_at, joins_of, blocks_of};
 ghost use Rattle.verdicts.specs.Index.{links_from, link_at, use_at};
 ghost use Rattle.blocks.specs.Loaded.{IsBlock, IsRow, UseRow};
 ghost use Rattle.neighbours.specs.Picks.{near_end, fits, IsLink, Picked};
-ghost use Rattle.neighbours.specs.Near.{IsColumn, ByRow, Copied, Settled, Table, RecordMade, UseStep, UsesStep, MarksStep};
-ghost use Rattle.neighbours.specs.Records.{record_size, HasRecord, HasBlock, bit_at, set_bit, IsCue, Added};
+ghost use Rattle.neighbours.specs.Near.{ByRow, Settled, Table, RecordMade, UseStep, UsesStep, MarksStep};
+ghost use Rattle.neighbours.specs.Records.{record_size, HasBlock, bit_at, set_bit, IsCue, Added};
 
 use blocks::{JOINS, Show, column, from, join_at, label, to, used, wide};
 use model::limits::MAX_OWN;
@@ -21,7 +21,7 @@ use std::ops::Range;
 
 // A record of marks: a flag for each join, then one for what is inside, then 32 bytes with a bit
 // for each own cue.
-// Kept: flags as bytes and bits, since records lie side by side in one table of fixed size (`Records.record_at`, `Near.Flag`).
+// Kept: flags as bytes and bits, since what may not change (the definitions `Records.record_at` and `Near.Flag`) has records side by side in one table.
 pub const INSIDE: usize = JOINS;
 
 pub const BITS: usize = INSIDE + 1;
@@ -33,7 +33,7 @@ pub const BLOCK: usize = JOINS * RECORD;
 
 // What is asked for: the cues that links with labels lo to hi lead to from the cue, or inward from
 // which they lead to it, that are greater than after; and how many of them may be written.
-// Kept: inward is a bool, as `Picks.near_end` and `linked_cues` of lists/specs/Answer take it.
+// Kept: `inward` is a Bool, for an enum is no plainer: each clause would turn it to the Bool that the definition `Picks.near_end` reads.
 #[derive(Clone, Copy)]
 pub struct Ask {
     pub inward: bool,
@@ -115,44 +115,20 @@ fn mark(s: &mut [u8; RECORD], y: BlockCue, d: u32)
     }
 }
 
-// Marks the cue in a column of a use whose flag is set.
-fn mark_column(rows: &[u32], r: usize, j: usize, flag: u8, y: BlockCue, s: &mut [u8; RECORD])
-    requires { IsRow rows.now r × (j < max_joins) }
-    ensures { Added y.own (IsColumn rows.now r j flag) s.old s.new }
+// Marks the cues that a use meets at joins linked to one of its joins, whose flags are lent.
+// Kept: a range in its place is no plainer, as r is the number of one row of the show and no place in the marks; so in `mark_link` and `mark_use`.
+fn mark_row(rows: &[u32], r: usize, flags: &[u8], y: BlockCue, s: &mut [u8; RECORD])
+    requires { IsRow rows.now r × (length flags.now ≤ max_joins) }
+    ensures { Added y.own (ByRow rows.now flags.now r 0 (length flags.now)) s.old s.new }
 {
-    if flag == 1 {
-        mark(s, y, column(rows, r, j));
-    }
-}
-
-// Marks the cues that a use meets at joins linked to one of its joins, whose flags stand in the
-// table from `at` on.
-fn mark_row(
-    rows: &[u32],
-    m: &[u8],
-    r: usize,
-    at: usize,
-    joins: usize,
-    y: BlockCue,
-    s: &mut [u8; RECORD],
-)
-    requires { IsRow rows.now r × (joins ≤ max_joins) × (at + max_joins ≤ length m.now) }
-    ensures { Added y.own (ByRow rows.now m.now r at joins) s.old s.new }
-{
-    for j in 0..joins {
-        mark_column(rows, r, j, m[at + j], y, s);
+    for (j, flag) in flags.iter().enumerate() {
+        if *flag == 1 {
+            mark(s, y, column(rows, r, j));
+        }
     }
 }
 
 // ---- the records of a table
-
-// Copies a record of marks into the table.
-fn copy_record(s: &[u8; RECORD], m: &mut [u8], at: usize)
-    requires { HasRecord m.old at }
-    ensures { Copied s.now record_size at m.old m.new }
-{
-    m[at..at + RECORD].copy_from_slice(s);
-}
 
 // The flag for what is inside, of a record that is made: 1 if something was marked there, and 2 if
 // nothing was. 0 says that there is no record yet.
@@ -162,7 +138,7 @@ fn settled(flag: u8) -> u8
     if flag == 1 { 1 } else { 2 }
 }
 
-// Kept: `Table` and `HasBlock` stand in each contract, tried as a ghost field, the proof did not close: it may have one proof only, and `Exact` says which links there are.
+// Kept: `Table` and `HasBlock` in each contract: tried as a ghost field, no proof closed, as it may have one proof only, and `Exact` names a link (`Picked`).
 impl Question<'_> {
     // Marks the other end of the link of row r if the question picks it and it has one end at cue y;
     // and so for some rows.
@@ -199,11 +175,10 @@ impl Question<'_> {
     {
         let j = used(self.show.rows, r);
         let joins = self.show.joins(j);
-        let i = join_at(self.show.rows, r, joins, y.cue);
-        if i < joins {
+        if let Some(i) = join_at(self.show.rows, r, joins, y.cue) {
             let at = BLOCK * j + RECORD * i;
             self.ready(m, j, i);
-            mark_row(self.show.rows, m, r, at, joins, y, s);
+            mark_row(self.show.rows, r, &m[at..at + joins], y, s);
             let flag = m[at + INSIDE];
             if flag == 1 {
                 s[INSIDE] = 1;
@@ -243,13 +218,13 @@ impl Question<'_> {
     }
 
     // Makes the record of join i of block k, if it is not there yet.
+    // Kept: the table is lent as a whole, and k and i beside it, since what may not change (`RecordMade`) is said of the table: records below are made too.
     #[cycle(mark_use_mark_uses_marks_of_ready)]
     #[tactic(auto, using(crate::proofs::Tables::record_made_before))]
     fn ready(&self, m: &mut [u8], k: usize, i: usize)
         requires { IsBlock self.now.show.rows.now k
             × HasBlock m.old k
             × (i < joins_of (blocks_of self.now.show.rows.now) k)
-            × (i < max_joins)
             × Table self.now.ask (blocks_of self.now.show.rows.now) m.old }
         ensures { RecordMade self.now.ask (blocks_of self.now.show.rows.now) k i m.old m.new }
     {
@@ -262,7 +237,7 @@ impl Question<'_> {
         let c = own + 1 + (i as u32);
         let mut s: [u8; RECORD] = [0; RECORD];
         self.marks_of(m, k, c, &mut s);
-        copy_record(&s, m, at);
+        m[at..at + RECORD].copy_from_slice(&s);
         m[at + INSIDE] = settled(s[INSIDE]);
     }
 }

@@ -5,7 +5,7 @@
 // cue.
 #![tactic(auto)]
 
-ghost use Rattle.std.specs.Prelude.{◌≡◌, ◌+◌, ◌-◌, ◌≤◌, ◌<◌, length, get_or, drop};
+ghost use Rattle.std.specs.Prelude.{◌≡◌, ◌+◌, ◌-◌, ◌≤◌, ◌<◌, length, get_or, drop, unwrap_or, IfSome};
 ghost use Rattle.model.specs.Limits.{max_total, max_depth};
 ghost use Rattle.model.specs.Blocks.{total, blocks_of, last_block, count};
 ghost use Rattle.model.specs.Paths.{own_number, place_in};
@@ -106,6 +106,7 @@ fn position(show: &Show, k: usize, r: usize) -> u32
 }
 
 // The rows of the uses on a way down turned into their positions: the path.
+// Kept: the depth beside the list, by what may not change: the clauses `Down` and `Positions` are of the first rows of a list that has room for every path.
 pub fn positions(show: &Show, depth: usize, rows: &mut [u32])
     requires { Down show.now.rows.now show.now.index.now rows.old depth }
     ensures { Positions show.now.rows.now show.now.index.now rows.old depth rows.new }
@@ -131,61 +132,65 @@ pub fn locate(show: &Show, n: u32, path: &mut [u32]) -> Place
 
 // Numbering.
 
-// The number of own cue c of a copy after base that has so many own cues; 0 if it has no such one.
-fn own_number(own: u32, base: u32, c: u32) -> u32
+// The number of own cue c of a copy after base that has so many own cues, if it has such a one.
+fn own_number(own: u32, base: u32, c: u32) -> Option<u32>
     requires { base + own ≤ max_total }
-    ensures { result ≡ own_number own base c }
+    ensures value { unwrap_or result 0 ≡ own_number own base c }
+    ensures some { IfSome result (λ n. 0 < n) }
 {
     if c < 1 {
-        return 0;
+        return None;
     }
     if own < c {
-        return 0;
+        return None;
     }
-    base + c
+    Some(base + c)
 }
 
-// The number of own cue c at the end of a path, of which these steps are done and led to the copy of block k after base.
+// The number of own cue c at the end of a path from the copy of block k after base.
 #[cycle(number_copy_number_uses)]
-fn number_copy(show: &Show, k: usize, base: u32, path: &[u32], done: usize, c: u32) -> u32
-    requires { MayNumber show.now.rows.now show.now.index.now path.now k (total (blocks_of show.now.rows.now) k) base done }
-    ensures { result ≡ from_copy show.now.rows.now k base (drop done path.now) c }
+fn number_copy(show: &Show, k: usize, base: u32, path: &[u32], c: u32) -> Option<u32>
+    requires { MayNumber show.now.rows.now show.now.index.now k (total (blocks_of show.now.rows.now) k) base }
+    ensures value { unwrap_or result 0 ≡ from_copy show.now.rows.now k base path.now c }
+    ensures some { IfSome result (λ n. 0 < n) }
 {
     let own = show.own(k);
-    if done < path.len() {
-        return number_uses(show, k, base + own, path, done, c);
+    match path.split_first() {
+        Some((step, rest)) => number_uses(show, k, base + own, *step, rest, c),
+        None => own_number(own, base, c),
     }
-    own_number(own, base, c)
 }
 
-// The same where one step more leads to a use of block k, the first of which begins after base.
+// The same where one step before the path leads to a use of block k, the first of which begins after base.
 #[cycle(number_copy_number_uses)]
-fn number_uses(show: &Show, k: usize, base: u32, path: &[u32], done: usize, c: u32) -> u32
-    requires { MayNumber show.now.rows.now show.now.index.now path.now k (cues_of show.now.rows.now (uses_of show.now.rows.now k)) base (done + 1) }
-    ensures { result ≡ from_uses show.now.rows.now k base (get_or path.now done 0) (drop (done + 1) path.now) c }
+fn number_uses(show: &Show, k: usize, base: u32, step: u32, path: &[u32], c: u32) -> Option<u32>
+    requires { MayNumber show.now.rows.now show.now.index.now k (cues_of show.now.rows.now (uses_of show.now.rows.now k)) base }
+    ensures value { unwrap_or result 0 ≡ from_uses show.now.rows.now k base step path.now c }
+    ensures some { IfSome result (λ n. 0 < n) }
 {
     let uses = show.use_rows(k);
     let first = uses.start;
     let end = uses.end;
-    let p = wide(path[done]);
+    let p = wide(step);
     if p < 1 {
-        return 0;
+        return None;
     }
     if end - first < p {
-        return 0;
+        return None;
     }
     let at = first + (p - 1);
     let mut b = base;
     for r in first..at {
         b += show.total(used(show.rows, r));
     }
-    number_copy(show, used(show.rows, at), b, path, done + 1, c)
+    number_copy(show, used(show.rows, at), b, path, c)
 }
 
-// The number of a path and an own cue; 0 if a step is no use, or the copy at the end has no such own cue, or the path is too long.
-pub fn number(show: &Show, path: &[u32], own: u32) -> u32
-    ensures { result ≡ show_number (blocks_of show.now.rows.now) path.now own }
+// The number of a path and an own cue; none if a step is no use, or the copy at the end has no such own cue, or the path is too long.
+pub fn number(show: &Show, path: &[u32], own: u32) -> Option<u32>
+    ensures value { unwrap_or result 0 ≡ show_number (blocks_of show.now.rows.now) path.now own }
+    ensures some { IfSome result (λ n. 0 < n) }
 {
     let last = show.last();
-    number_copy(show, last, 0, path, 0, own)
+    number_copy(show, last, 0, path, own)
 }

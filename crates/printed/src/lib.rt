@@ -13,7 +13,7 @@ use model::limits::PRINTED_CUES;
 use triples::{LABEL_PLACES, MARKS};
 
 // A show whose links are to be printed: how many numbers its rows have, and how many cues there are.
-// Kept: a size and not the rows, which lie in a list of the caller (fixed memory).
+// Kept: a size and not the rows: no plainer as a part, which would keep the caller's list lent that the rows were read to.
 #[derive(Clone, Copy)]
 pub struct Links {
     pub size: usize,

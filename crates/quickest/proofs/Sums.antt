@@ -131,17 +131,17 @@ module _ {xs t waits : List ℕ} (g : Loaded xs t) (w : AreWaits waits) where
       starts = λ l i. (show_ends bs show.good show.no_joins l i).0
 
 -- A block's part of a work area for 128 blocks.
-pub part-fits : {xs t waits : List ℕ} {k : ℕ} {d work : List ℕ} → MaySum xs t waits k d work → summary_size * k + summary_size ≤ length work
+pub part-fits : {xs t waits : List ℕ} {k : ℕ} {work : List ℕ} → MaySum xs t waits k work → summary_size * k + summary_size ≤ length work
 part-fits m = omega (arith, (loaded-show m.loaded).blocks, m.block, m.area)
 
-joins-eight : {xs t waits : List ℕ} {k : ℕ} {d work : List ℕ} → MaySum xs t waits k d work → joins_of (blocks_of xs) k ≤ max_joins
+joins-eight : {xs t waits : List ℕ} {k : ℕ} {work : List ℕ} → MaySum xs t waits k work → joins_of (blocks_of xs) k ≤ max_joins
 joins-eight {k = k} m = joins-small k (loaded-show m.loaded).small
 
-pub sum-settles : {xs t waits : List ℕ} {k : ℕ} {d work : List ℕ} → MaySum xs t waits k d work → MaySettle xs t k work d
-sum-settles m = record { loaded = m.loaded; block = m.block; room = omega (arith, part-fits m); size = m.size }
+pub sum-settles : {xs t waits : List ℕ} {k : ℕ} {work : List ℕ} → MaySum xs t waits k work → MaySettle xs t k work
+sum-settles m = record { loaded = m.loaded; block = m.block; room = omega (arith, part-fits m) }
 
 -- One row more of a block's part of the work area.
-pub sums_next : {xs t waits : List ℕ} {k i : ℕ} {d₀ before work : List ℕ} → MaySum xs t waits k d₀ before → SumsTo xs waits k i before
+pub sums_next : {xs t waits : List ℕ} {k i : ℕ} {before work : List ℕ} → MaySum xs t waits k before → SumsTo xs waits k i before
     → i < joins_of (blocks_of xs) k → RowFound no_sum (priced waits) (blocks_of xs) k i before work → SumsTo xs waits k (i + 1) work
 sums_next {k = k} {i} {before = before} may s l r =
     let fits = part-fits may in

@@ -7,16 +7,14 @@ use Rattle.shows.specs.Waits.{AreWaits}
 use Rattle.distances.specs.Tells.{Join, Tells, Knows}
 use Rattle.distances.specs.Quickest.{priced, no_sum}
 use Rattle.blocks.specs.Loaded.{Loaded, IsBlock}
-use Rattle.searches.specs.Starts.{estimates_size}
 use Rattle.searches.specs.Edges.{numbers}
 use Rattle.searches.specs.Knowing.{HasTable}
 
 -- What filling block k's part of the work area asks for.
-pub record MaySum (xs t waits : List ℕ) (k : ℕ) (d work : List ℕ) : Type 0 where
+pub record MaySum (xs t waits : List ℕ) (k : ℕ) (work : List ℕ) : Type 0 where
   pub loaded : Loaded xs t
   pub waited : AreWaits waits
   pub block : IsBlock xs k
-  pub size : length d ≡ estimates_size
   pub area : length work ≡ work_size
 
 -- The work area tells the smallest sums between the joins of the blocks below k, and those from the first i joins of block k.

@@ -16,7 +16,6 @@ ghost use Rattle.shows.specs.Waits.{AreWaits};
 ghost use Rattle.distances.specs.Tells.{told};
 ghost use Rattle.distances.specs.Quickest.{no_sum};
 ghost use Rattle.blocks.specs.Places.{Found};
-ghost use Rattle.searches.specs.Starts.{estimates_size};
 ghost use Rattle.quickest.specs.Sums.{MaySum, SumsTo, HasSums};
 
 use blocks::{Place, Show, wide};
@@ -30,8 +29,8 @@ pub const NO_SUM: u64 = estimates::NO_SUM;
 
 // The sums between the joins of block k, behind those of the lower blocks. Sums of its cues are kept
 // in d.
-fn sum_block(show: &Show, prices: &Waits, k: usize, d: &mut [u64], work: &mut [u64])
-    requires { MaySum show.now.rows.now show.now.index.now prices.now.waits.now k d.old work.old × SumsTo show.now.rows.now prices.now.waits.now k 0 work.old }
+fn sum_block(show: &Show, prices: &Waits, k: usize, d: &mut [u64; ESTIMATES], work: &mut [u64])
+    requires { MaySum show.now.rows.now show.now.index.now prices.now.waits.now k work.old × SumsTo show.now.rows.now prices.now.waits.now k 0 work.old }
     ensures { SumsTo show.now.rows.now prices.now.waits.now (k + 1) 0 work.new }
 {
     for i in 0..show.joins(k) {
@@ -40,8 +39,8 @@ fn sum_block(show: &Show, prices: &Waits, k: usize, d: &mut [u64], work: &mut [u
 }
 
 // The sums between the joins of every block.
-fn sum_blocks(show: &Show, prices: &Waits, d: &mut [u64], work: &mut [u64])
-    requires { (length d.old ≡ estimates_size) × (length work.old ≡ work_size) }
+fn sum_blocks(show: &Show, prices: &Waits, d: &mut [u64; ESTIMATES], work: &mut [u64])
+    requires { length work.old ≡ work_size }
     ensures { HasSums show.now.rows.now show.now.index.now prices.now.waits.now work.new }
 {
     for k in 0..show.last() + 1 {
@@ -49,27 +48,28 @@ fn sum_blocks(show: &Show, prices: &Waits, d: &mut [u64], work: &mut [u64])
     }
 }
 
+// Kept: a place and its rows apart, under a clause (`Found`): a struct of both would hold the show it speaks of, and a clause had to say that two hold one.
+
 // The smallest sum from the cue of one place to the cue of another, with a work area for just the
 // sums between joins, which are gone afterwards.
 fn search_in(
     show: &Show,
-    waits: &[u32],
+    prices: &Waits,
     from: Place,
     up: &[u32],
     to: Place,
     down: &[u32],
     work: &mut [u64],
 ) -> u64
-    requires { Found show.now.rows.now show.now.index.now up.now from × Found show.now.rows.now show.now.index.now down.now to × AreWaits waits.now × (length work.old ≡ work_size) }
-    ensures { (quickest waits.now (show_links (blocks_of show.now.rows.now)) (count (blocks_of
+    requires { Found show.now.rows.now show.now.index.now up.now from × Found show.now.rows.now show.now.index.now down.now to × (length work.old ≡ work_size) }
+    ensures { (quickest prices.now.waits.now (show_links (blocks_of show.now.rows.now)) (count (blocks_of
         show.now.rows.now)) from.cue to.cue ≡ told no_sum result)
         × (work.new ≡ replicate work_size 0) }
 {
-    let prices = Waits { waits };
     let mut kept = [0u64; KEPT];
     let mut d = [0u64; ESTIMATES];
-    sum_blocks(show, &prices, &mut d, work);
-    reach(show, &prices, from, up, to, down, work, &mut kept, &mut d);
+    sum_blocks(show, prices, &mut d, work);
+    reach(show, prices, from, up, to, down, work, &mut kept, &mut d);
     work.fill(0);
     d[wide(to.own)]
 }
@@ -77,7 +77,8 @@ fn search_in(
 // The quickest way from the cue of one place to the cue of another, each with the rows that lead
 // there, where labels wait so long: a sum in tenths of a second, or 18,446,744,073,709,551,615 for
 // none. The first 16,384 numbers of the work area are 0 afterwards.
-// Kept: a number for none, by what may not change: this clause, `told no_sum result`. `answers` makes an Option of it.
+// Kept: a number for none, for an Option is no plainer: made here of the estimate, it would be told apart again by its one caller, `answers`, to make the answer.
+// Kept: a list of 16,384 numbers or more and no array, by the C interface: a caller may lend more, and what stands behind is promised to stay (`cleared`).
 pub fn quickest(
     show: &Show,
     waits: &[u32],
@@ -92,5 +93,6 @@ pub fn quickest(
         show.now.rows.now)) from.cue to.cue ≡ told no_sum result)
         × (work.new ≡ cleared work.old) }
 {
-    search_in(show, waits, from, up, to, down, &mut work[0..WORK_SIZE])
+    let prices = Waits { waits };
+    search_in(show, &prices, from, up, to, down, &mut work[0..WORK_SIZE])
 }

@@ -13,15 +13,15 @@ ghost use Rattle.model.specs.Blocks.{blocks_of, block_at};
 ghost use Rattle.shows.specs.Waits.{AreWaits};
 ghost use Rattle.distances.specs.Walks.{Price, each-one, Linked};
 ghost use Rattle.distances.specs.Quickest.{priced};
-ghost use Rattle.verdicts.specs.Index.{link_at};
-ghost use Rattle.blocks.specs.Loaded.{IsBlock};
+ghost use Rattle.verdicts.specs.Index.{link_at, use_at};
+ghost use Rattle.blocks.specs.Loaded.{IsBlock, UseRow};
 ghost use Rattle.searches.specs.Rounds.{Round};
-ghost use Rattle.searches.specs.Starts.{Nowhere, Meets, Started, estimates_size};
+ghost use Rattle.searches.specs.Starts.{Nowhere, Meets, Started};
 ghost use Rattle.searches.specs.Lines.{Line, Lines, Alike};
-ghost use Rattle.searches.specs.Edges.{Mesh, Between, LinkEnds, Weighs, LinkEdge, UseEdges, BlockEdge, cue_count, SettledOver, Only, SpreadIn, MaySettle};
+ghost use Rattle.searches.specs.Edges.{Mesh, Between, LinkEnds, Weighs, LinkEdge, UseEdge, UseEdges, BlockEdge, cue_count, SettledOver, Only, SpreadIn, MaySettle};
 
 use blocks::Show;
-use estimates::{Number, clear, gather, improve, put, put_met};
+use estimates::{ESTIMATES, Number, clear, gather, improve, put, put_met};
 use model::limits::{MAX_FOLLOWED, SUMMARY_SIZE, SUMMARY_WIDTH};
 
 // What the links that are followed weigh, by their labels.
@@ -66,39 +66,41 @@ impl<'a> Prices for Waits<'a> {
     ghost followed = { λ _ _ _ h. h.0 };
 }
 
-// Eight estimates, lowered by an estimate x and the eight weights from place q on.
-fn lower_line<N: Number>(work: &[N], q: usize, x: N, e: &mut [N])
-    requires { (q + summary_width ≤ length work.now) × (length e.old ≡ summary_width) }
-    ensures { Line N.inf (N.values work.now) q (N.value x) (N.values e.old) summary_width (N.values e.new) }
+// Eight estimates, lowered by an estimate x and eight weights.
+fn lower_line<N: Number>(weights: &[N; SUMMARY_WIDTH], x: N, e: &mut [N; SUMMARY_WIDTH])
+    ensures { Line N.inf (N.values weights.now) 0 (N.value x) (N.values e.old) summary_width (N.values e.new) }
 {
     for j in 0..SUMMARY_WIDTH {
-        e[j] = e[j].lowered(x, work[q + j]);
+        e[j] = e[j].lowered(x, weights[j]);
     }
 }
 
 // The same, where x is an estimate at all.
-fn lower_by<N: Number>(work: &[N], q: usize, x: N, e: &mut [N])
-    requires { (q + summary_width ≤ length work.now) × (length e.old ≡ summary_width) }
-    ensures { Line N.inf (N.values work.now) q (N.value x) (N.values e.old) summary_width (N.values e.new) }
+fn lower_by<N: Number>(weights: &[N; SUMMARY_WIDTH], x: N, e: &mut [N; SUMMARY_WIDTH])
+    ensures { Line N.inf (N.values weights.now) 0 (N.value x) (N.values e.old) summary_width (N.values e.new) }
 {
     if !x.lowers_none(e) {
-        lower_line(work, q, x, e);
+        lower_line(weights, x, e);
     }
 }
 
-// Eight estimates, lowered by the estimates g and the 64 weights from place q on.
-fn lower_lines<N: Number>(work: &[N], q: usize, g: &[N], e: &mut [N])
-    requires { (q + summary_size ≤ length work.now) × (length g.now ≡ summary_width) × (length e.old ≡ summary_width) }
-    ensures { Lines N.inf summary_width (N.values work.now) q (N.values g.now) (N.values e.old) summary_width (N.values e.new) }
+// Eight estimates, lowered by the estimates g and a line of eight weights for each of these.
+fn lower_lines<N: Number>(
+    weights: &[N; SUMMARY_SIZE],
+    g: &[N; SUMMARY_WIDTH],
+    e: &mut [N; SUMMARY_WIDTH],
+)
+    ensures { Lines N.inf summary_width (N.values weights.now) 0 (N.values g.now) (N.values e.old) summary_width (N.values e.new) }
 {
+    let (lines, _) = weights.as_chunks::<SUMMARY_WIDTH>();
     for i in 0..SUMMARY_WIDTH {
-        lower_by(work, q + SUMMARY_WIDTH * i, g[i], e);
+        lower_by(&lines[i], g[i], e);
     }
 }
 
 // Whether eight estimates differ from eight others.
-fn differ<N: Number>(a: &[N], b: &[N]) -> bool
-    requires { (length a.now ≡ summary_width) × (length b.now ≡ summary_width) }
+// Kept: by hand, for `!=` is no plainer: what it says of two `Number`s would have to be tied to their values, where `unlike` says it.
+fn differ<N: Number>(a: &[N; SUMMARY_WIDTH], b: &[N; SUMMARY_WIDTH]) -> bool
     ensures { Alike result (N.values a.now) (N.values b.now) summary_width }
 {
     let mut found = false;
@@ -108,72 +110,85 @@ fn differ<N: Number>(a: &[N], b: &[N]) -> bool
     found
 }
 
+// Kept: below, r is a row's number, and m, i and j count the cues that it names: no places in the list beside them, where estimates stand at cues' numbers.
+
 // The edges of a use whose row r names m cues, all from the estimates before: eight at a time. The
-// weights stand from place q on; what stands there beyond the m first of a line is of no account.
+// weights stand in eight lines; what stands there beyond the m first of a line is of no account.
 // Where the cues have all the same estimate, or none yet, there is nothing to do, which one test
 // says.
 #[inline(never)]
-fn relax_many<N: Number>(xs: &[u32], work: &[N], r: usize, q: usize, m: usize, d: &mut [N]) -> bool
-    requires { Meets xs.now r m (length d.old) × (0 < m) × (q + summary_size ≤ length work.now) }
-    ensures { Round (Mesh xs.now (N.values work.now) r q m) (N.values d.old) result (N.values d.new) }
+fn relax_many<N: Number>(
+    xs: &[u32],
+    weights: &[N; SUMMARY_SIZE],
+    r: usize,
+    m: usize,
+    d: &mut [N],
+) -> bool
+    requires { Meets xs.now r m (length d.old) × (0 < m) }
+    ensures { Round (Mesh xs.now (N.values weights.now) r 0 m) (N.values d.old) result (N.values d.new) }
 {
     let mut old = [N::NONE; SUMMARY_WIDTH];
     let first = d[blocks::wide(blocks::column(xs, r, 0))];
-    if !gather(xs, r, d, m, first, &mut old) {
+    if !gather(xs, r, d, first, &mut old[..m]) {
         return false;
     }
     let mut new = old;
-    lower_lines(work, q, &old, &mut new);
+    lower_lines(weights, &old, &mut new);
     if !differ(&old, &new) {
         return false;
     }
-    put_met(xs, r, &new, 0, m, d)
+    put_met(xs, r, &new[..m], d)
 }
 
 // The edges of a use between two of the cues that it names, in its columns i and j, there and back.
 fn relax_between<N: Number>(
     xs: &[u32],
-    work: &[N],
+    weights: &[N; SUMMARY_SIZE],
     r: usize,
-    q: usize,
     i: usize,
     j: usize,
     d: &mut [N],
 ) -> bool
-    requires { Meets xs.now r (j + 1) (length d.old) × (q + summary_size ≤ length work.now) × (i < j) }
-    ensures { Round (Between xs.now (N.values work.now) r q i j) (N.values d.old) result (N.values d.new) }
+    requires { Meets xs.now r (j + 1) (length d.old) × (i < j) }
+    ensures { Round (Between xs.now (N.values weights.now) r 0 i j) (N.values d.old) result (N.values d.new) }
 {
     let a = blocks::wide(blocks::column(xs, r, i));
     let b = blocks::wide(blocks::column(xs, r, j));
-    let c = improve(d, a, b, work[q + SUMMARY_WIDTH * i + j]);
-    let e = improve(d, b, a, work[q + SUMMARY_WIDTH * j + i]);
+    let c = improve(d, a, b, weights[SUMMARY_WIDTH * i + j]);
+    let e = improve(d, b, a, weights[SUMMARY_WIDTH * j + i]);
     c | e
 }
 
 // The edges of a use that names three cues.
 #[inline(never)]
-fn relax_three<N: Number>(xs: &[u32], work: &[N], r: usize, q: usize, d: &mut [N]) -> bool
-    requires { Meets xs.now r 3 (length d.old) × (q + summary_size ≤ length work.now) }
-    ensures { Round (Mesh xs.now (N.values work.now) r q 3) (N.values d.old) result (N.values d.new) }
+fn relax_three<N: Number>(xs: &[u32], weights: &[N; SUMMARY_SIZE], r: usize, d: &mut [N]) -> bool
+    requires { Meets xs.now r 3 (length d.old) }
+    ensures { Round (Mesh xs.now (N.values weights.now) r 0 3) (N.values d.old) result (N.values d.new) }
 {
-    let a = relax_between(xs, work, r, q, 0, 1, d);
-    let b = relax_between(xs, work, r, q, 0, 2, d);
-    let c = relax_between(xs, work, r, q, 1, 2, d);
+    let a = relax_between(xs, weights, r, 0, 1, d);
+    let b = relax_between(xs, weights, r, 0, 2, d);
+    let c = relax_between(xs, weights, r, 1, 2, d);
     a | b | c
 }
 
 // The edges of a use that names m cues; a cue's edge to itself improves nothing. Inlined but
-// for the rarer cases, since most uses have two joins, and both loops over uses call it.
+// for the rarer cases, since most uses have two joins, and both loops over uses come to it.
 #[inline(always)]
-fn relax_use<N: Number>(xs: &[u32], work: &[N], r: usize, q: usize, m: usize, d: &mut [N]) -> bool
-    requires { Meets xs.now r m (length d.old) × (q + summary_size ≤ length work.now) }
-    ensures { Round (Mesh xs.now (N.values work.now) r q m) (N.values d.old) result (N.values d.new) }
+fn relax_use<N: Number>(
+    xs: &[u32],
+    weights: &[N; SUMMARY_SIZE],
+    r: usize,
+    m: usize,
+    d: &mut [N],
+) -> bool
+    requires { Meets xs.now r m (length d.old) }
+    ensures { Round (Mesh xs.now (N.values weights.now) r 0 m) (N.values d.old) result (N.values d.new) }
 {
     match m {
         0 | 1 => false,
-        2 => relax_between(xs, work, r, q, 0, 1, d),
-        3 => relax_three(xs, work, r, q, d),
-        _ => relax_many(xs, work, r, q, m, d),
+        2 => relax_between(xs, weights, r, 0, 1, d),
+        3 => relax_three(xs, weights, r, d),
+        _ => relax_many(xs, weights, r, m, d),
     }
 }
 
@@ -192,9 +207,18 @@ pub fn relax_link<N: Number, P: Prices>(xs: &[u32], prices: &P, r: usize, d: &mu
     improve(d, u, v, N::of(prices.weight(label)))
 }
 
-// The links of block k.
-fn relax_links<N: Number, P: Prices>(show: &Show, prices: &P, k: usize, d: &mut [N]) -> bool
-    requires { IsBlock show.now.rows.now k × (length d.old ≡ estimates_size) }
+// Kept: show, block and work area apart, under one clause (`MaySettle`): no plainer as a struct, which each level and row of the work area would make anew.
+
+// The links of block k. Not inlined: within other code the place of its jumps hangs on what stands
+// around them, and its loop took up to 1.4 times as long.
+#[inline(never)]
+fn relax_links<N: Number, P: Prices>(
+    show: &Show,
+    prices: &P,
+    k: usize,
+    d: &mut [N; ESTIMATES],
+) -> bool
+    requires { IsBlock show.now.rows.now k }
     ensures { Round (Linked (P.price prices.now) (block_at (blocks_of show.now.rows.now) k).links) (N.values d.old) result (N.values d.new) }
 {
     let rows = show.link_rows(k);
@@ -205,81 +229,120 @@ fn relax_links<N: Number, P: Prices>(show: &Show, prices: &P, k: usize, d: &mut 
     changed
 }
 
-// The uses of block k, by the numbers between the joins of the blocks that they name.
-fn relax_uses<N: Number>(show: &Show, work: &[N], k: usize, d: &mut [N]) -> bool
-    requires { MaySettle show.now.rows.now show.now.index.now k work.now d.old }
+// The use of row r, by the numbers between the joins of the block that it names.
+#[inline(always)]
+fn relax_row<N: Number>(show: &Show, work: &[N], r: usize, d: &mut [N; ESTIMATES]) -> bool
+    requires { (k : ℕ) × UseRow show.now.rows.now k r × (summary_size * k ≤ length work.now) }
+    ensures { Round (UseEdge (blocks_of show.now.rows.now) (N.values work.now) (use_at show.now.rows.now (blocks_of show.now.rows.now) r)) (N.values d.old) result (N.values d.new) }
+{
+    let b = blocks::used(show.rows, r);
+    let m = show.joins(b);
+    let (numbers, _) = work.as_chunks::<SUMMARY_SIZE>();
+    relax_use(show.rows, &numbers[b], r, m, d)
+}
+
+// Kept: two loops: no plainer as one, which has to test the order at each use, or takes an iterator and says by clauses what it yields and that it ends.
+
+// The uses of block k, from the first to the last.
+fn relax_uses<N: Number>(show: &Show, work: &[N], k: usize, d: &mut [N; ESTIMATES]) -> bool
+    requires { MaySettle show.now.rows.now show.now.index.now k work.now }
     ensures { Round (UseEdges (blocks_of show.now.rows.now) (N.values work.now) (block_at (blocks_of show.now.rows.now) k).uses) (N.values d.old) result (N.values d.new) }
 {
     let rows = show.use_rows(k);
     let mut changed = false;
     for r in rows.start..rows.end {
-        let b = blocks::used(show.rows, r);
-        let m = show.joins(b);
-        changed |= relax_use(show.rows, work, r, SUMMARY_SIZE * b, m, d);
+        changed |= relax_row(show, work, r, d);
     }
     changed
 }
 
 // The same from the last use to the first.
-fn relax_uses_back<N: Number>(show: &Show, work: &[N], k: usize, d: &mut [N]) -> bool
-    requires { MaySettle show.now.rows.now show.now.index.now k work.now d.old }
+fn relax_uses_back<N: Number>(show: &Show, work: &[N], k: usize, d: &mut [N; ESTIMATES]) -> bool
+    requires { MaySettle show.now.rows.now show.now.index.now k work.now }
     ensures { Round (UseEdges (blocks_of show.now.rows.now) (N.values work.now) (block_at (blocks_of show.now.rows.now) k).uses) (N.values d.old) result (N.values d.new) }
 {
     let rows = show.use_rows(k);
     let mut changed = false;
     for r in (rows.start..rows.end).rev() {
-        let b = blocks::used(show.rows, r);
-        let m = show.joins(b);
-        changed |= relax_use(show.rows, work, r, SUMMARY_SIZE * b, m, d);
+        changed |= relax_row(show, work, r, d);
     }
     changed
 }
 
-// All edges of block k, each once; if `back` says so, its uses from the last to the first.
+// The order in which a round goes through the uses of a block.
+#[derive(Clone, Copy)]
+enum Order {
+    Forward,
+    Backward,
+}
+
+impl Order {
+    // The other order. Each promise here holds in either.
+    fn turned(self) -> Order {
+        match self {
+            Order::Forward => Order::Backward,
+            Order::Backward => Order::Forward,
+        }
+    }
+}
+
+// The uses of block k in an order.
+fn relax_uses_in<N: Number>(
+    show: &Show,
+    work: &[N],
+    k: usize,
+    order: Order,
+    d: &mut [N; ESTIMATES],
+) -> bool
+    requires { MaySettle show.now.rows.now show.now.index.now k work.now }
+    ensures { Round (UseEdges (blocks_of show.now.rows.now) (N.values work.now) (block_at (blocks_of show.now.rows.now) k).uses) (N.values d.old) result (N.values d.new) }
+{
+    match order {
+        Order::Forward => relax_uses(show, work, k, d),
+        Order::Backward => relax_uses_back(show, work, k, d),
+    }
+}
+
+// All edges of block k, each once, its uses in an order.
 fn relax_block<N: Number, P: Prices>(
     show: &Show,
     prices: &P,
     work: &[N],
     k: usize,
-    back: bool,
-    d: &mut [N],
+    order: Order,
+    d: &mut [N; ESTIMATES],
 ) -> bool
-    requires { MaySettle show.now.rows.now show.now.index.now k work.now d.old }
+    requires { MaySettle show.now.rows.now show.now.index.now k work.now }
     ensures { Round (BlockEdge (P.price prices.now) (blocks_of show.now.rows.now) (N.values work.now) k) (N.values d.old) result (N.values d.new) }
 {
     let a = relax_links(show, prices, k, d);
-    let c = relax_uses_in(show, work, k, back, d);
+    let c = relax_uses_in(show, work, k, order, d);
     a | c
-}
-
-// The uses of block k from the last to the first if `back` says so, else from the first to the last.
-fn relax_uses_in<N: Number>(show: &Show, work: &[N], k: usize, back: bool, d: &mut [N]) -> bool
-    requires { MaySettle show.now.rows.now show.now.index.now k work.now d.old }
-    ensures { Round (UseEdges (blocks_of show.now.rows.now) (N.values work.now) (block_at (blocks_of show.now.rows.now) k).uses) (N.values d.old) result (N.values d.new) }
-{
-    if back {
-        relax_uses_back(show, work, k, d)
-    } else {
-        relax_uses(show, work, k, d)
-    }
 }
 
 // Estimates of block k until a whole round changes nothing. Every second round goes through the uses
 // from the last to the first: in one direction only, uses in a bad order would cost a round for each
 // cue.
-pub fn settle<N: Number, P: Prices>(show: &Show, prices: &P, work: &[N], k: usize, d: &mut [N])
-    requires { MaySettle show.now.rows.now show.now.index.now k work.now d.old }
+// Kept: a `while` and no `for`: how many rounds there are is what the loop finds out. It ends since the sum of the estimates falls.
+pub fn settle<N: Number, P: Prices>(
+    show: &Show,
+    prices: &P,
+    work: &[N],
+    k: usize,
+    d: &mut [N; ESTIMATES],
+)
+    requires { MaySettle show.now.rows.now show.now.index.now k work.now }
     ensures { SettledOver (BlockEdge (P.price prices.now) (blocks_of show.now.rows.now) (N.values work.now) k) (N.values d.old) (N.values d.new) }
 {
-    let mut back = false;
-    'rounds: while relax_block(show, prices, work, k, back, d) {
-        back = !back;
+    let mut order = Order::Forward;
+    'rounds: while relax_block(show, prices, work, k, order, d) {
+        order = order.turned();
     }
 }
 
 // No estimate yet at the cues of block k.
-pub fn clear_block<N: Number>(show: &Show, k: usize, d: &mut [N])
-    requires { IsBlock show.now.rows.now k × (length d.old ≡ estimates_size) }
+pub fn clear_block<N: Number>(show: &Show, k: usize, d: &mut [N; ESTIMATES])
+    requires { IsBlock show.now.rows.now k }
     ensures { Started N.inf (cue_count (blocks_of show.now.rows.now) k) Nowhere (N.values d.new) }
 {
     let own = blocks::wide(show.own(k));
@@ -293,9 +356,9 @@ pub fn from_cue<N: Number, P: Prices>(
     work: &[N],
     k: usize,
     c: usize,
-    d: &mut [N],
+    d: &mut [N; ESTIMATES],
 )
-    requires { MaySettle show.now.rows.now show.now.index.now k work.now d.old × (c ≤ cue_count (blocks_of show.now.rows.now) k) }
+    requires { MaySettle show.now.rows.now show.now.index.now k work.now × (c ≤ cue_count (blocks_of show.now.rows.now) k) }
     ensures { SpreadIn N.inf (P.price prices.now) (blocks_of show.now.rows.now) (N.values work.now) k
         (Only c) (N.values d.new) }
 {

@@ -13,14 +13,14 @@ use borrow.Author.Tests.{eq-eqb, ne_eqb}
 use Rattle.std.specs.List.{list_all, list_any}
 use Rattle.std.specs.Ordering.{partial_ordering_then, is_some_and, is_lt, nat_cmp}
 use Rattle.std.specs.Cmp.Lexicographic.{slice_partial_cmp}
-use Rattle.std.specs.Prelude.{Option, Some, None, Result, Ok, Err}
+use Rattle.std.specs.Prelude.{Option, Some, Result, Ok, Err}
 use Rattle.std.specs.declared.cmp.Ordering.{Ordering}
 use Rattle.std.specs.declared.cmp.Ordering.TheVariants.{Less, Equal, Greater}
 use Rattle.model.specs.Choice.{if_lt, if_eq, if_true}
 use Rattle.model.specs.Rules.{every, is_cue, is_zero, differs, distinct, is_below}
 use Rattle.basics.proofs.Choices.{lt_then, lt_else, eq_then, eq_else, true_then, true_else, true_yes, true_no, ifs}
 use Rattle.rules.specs.Cells.{cells, key_below}
-use Rattle.rules.specs.Faults.{named_fault, or_else, use_order, link_fault, use_fault, fault_of}
+use Rattle.rules.specs.Faults.{named_fault, or_else}
 use Rattle.rules.specs.Numbers.{said, number, kind_number, KindGiven}
 use Rattle.rules.specs.declared.faults.Kind.{Kind}
 use Rattle.rules.specs.declared.faults.Kind.TheVariants.{Opening, Link, Use}

@@ -1,5 +1,5 @@
 -- The numbers of faults and of kinds, as the rules have them.
-use Rattle.std.specs.Prelude.{ℕ, ◌<◌, ◌≡◌, Option, Some, None, Result, Ok, Err, MatchResult}
+use Rattle.std.specs.Prelude.{ℕ, ◌<◌, ◌≡◌, Result, Ok, Err, MatchResult}
 use Rattle.rules.specs.declared.faults.Fault.{Fault}
 use Rattle.rules.specs.declared.faults.Fault.TheVariants.{Place, Range, Repeated, Order}
 use Rattle.rules.specs.declared.faults.Kind.{Kind}

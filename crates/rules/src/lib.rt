@@ -15,6 +15,7 @@ use model::limits::{MAX_BLOCKS, MAX_JOINS, MAX_LABEL, MAX_OWN, ROW_SIZE};
 pub mod faults;
 
 // A row among lent rows and the row before it, by the places where they begin. The first row counts as the one before itself.
+// Kept: a value of the row and of the row before by two functions each, for one with a flag is no plainer; and places, since two parts would be lent from row to row.
 #[derive(Clone, Copy)]
 pub struct Row<'a> {
     pub xs: &'a [u32],
@@ -93,7 +94,9 @@ fn left_over(x: u32, i: usize, many: usize) -> u32
     x
 }
 
-// Of eight columns all behind the first `many` are 0. All eight are read, with no exit: that is the fastest.
+// Of eight columns all behind the first `many` are 0.
+// Kept: all eight are read, with no exit: an iterator's `all` over the rest leaves early, and without that the check took some 12 % less (docs/PROVING.md).
+// Kept: `many ≤ max_joins` here and below is no plainer in a type of its own: it is a place in the columns at once, and the type would be opened for that.
 fn every_zero(columns: &[u32], many: usize) -> bool
     requires { (length columns.now ≡ 8) × (many ≤ max_joins) }
     ensures { result ≡ every is_zero (drop many columns.now) }

@@ -6,7 +6,7 @@ use mathlib.Core.Path.{◌≡◌, refl, sym, ◌∙◌, ap}
 use mathlib.Core.Bool.{Bool, true, false}
 use mathlib.Core.Logic.{◌⊎◌, inl, inr}
 use mathlib.Core.List.{List}
-use lib.ListN.{length, get_or, set, replicate, get_or-replicate}
+use lib.ListN.{length, get_or, set, take, drop, replicate, get_or-replicate}
 use lib.Seq.{get_or-set_same, get_or-set_other}
 use Rattle.model.specs.Limits.{summary_width, max_joins}
 use Rattle.blocks.specs.Loaded.{column_at}
@@ -16,6 +16,7 @@ use Rattle.searches.specs.Lines.{Least, Line, Lines, Alike, Even}
 use Rattle.searches.specs.Edges.{Mesh}
 use Rattle.searches.proofs.Lowering.{true_not_false}
 use Rattle.searches.proofs.Rounds.{runs-begin}
+use Rattle.searches.proofs.Parts.{lent_at}
 
 -- An estimate from inf on lowers no other.
 pub line_skip : (inf n : ℕ) (work : List ℕ) (q x : ℕ) (d : List ℕ) → inf ≤ x → ((c : ℕ) → get_or d c 0 ≤ inf) → Line inf work q x d n d
@@ -25,15 +26,18 @@ line_skip inf n work q x d h most =
 pub line_begin : (inf : ℕ) (work : List ℕ) (q x : ℕ) (d : List ℕ) → Line inf work q x d 0 d
 line_begin inf work q x d = record { at = λ j l. absurd (omega arith); else = λ j l. refl }
 
-pub line_on : (inf : ℕ) (work : List ℕ) (q x : ℕ) (d : List ℕ) (n : ℕ) (e : List ℕ) (y w r : ℕ) → Line inf work q x d n e → Least inf y x w r
-    → y ≡ get_or e n 0 → w ≡ get_or work (q + n) 0 → n < length e → Line inf work q x d (n + 1) (set e n r)
-line_on inf work q x d n e y w r l least ey ew h = record { at = λ j k. at j k (ℕ_discrete j n); else = else }
+pub line_on : (inf : ℕ) (work : List ℕ) (x : ℕ) (d : List ℕ) (n : ℕ) (e : List ℕ) (y w r : ℕ) → Line inf work 0 x d n e → Least inf y x w r
+    → y ≡ get_or e n 0 → w ≡ get_or work n 0 → n < length e → Line inf work 0 x d (n + 1) (set e n r)
+line_on inf work x d n e y w r l least ey ew h = record { at = λ j k. at j k (ℕ_discrete j n); else = else }
   where
     here : get_or (set e n r) n 0 ≡ r
     here = get_or-set_same e n r 0 h
 
-    at : (j : ℕ) → j < n + 1 → Dec (j ≡ n) → Least inf (get_or d j 0) x (get_or work (q + j) 0) (get_or (set e n r) j 0)
-    at j k (yes p) = rw (p, here, ← (l.else n (omega arith)), ← ey, ← ew) least
+    first : get_or work (0 + n) 0 ≡ w
+    first = let z : 0 + n ≡ n = omega arith in ap (λ (m : ℕ). get_or work m 0) z ∙ sym ew
+
+    at : (j : ℕ) → j < n + 1 → Dec (j ≡ n) → Least inf (get_or d j 0) x (get_or work (0 + j) 0) (get_or (set e n r) j 0)
+    at j k (yes p) = rw (p, here, ← (l.else n (omega arith)), ← ey, first) least
     at j k (no m) = rw (get_or-set_other e n j r 0 m) (l.at j (omega arith))
 
     else : (j : ℕ) → n + 1 ≤ j → get_or (set e n r) j 0 ≡ get_or d j 0
@@ -43,15 +47,26 @@ pub lines-begin : (inf width : ℕ) (work : List ℕ) (q : ℕ) (g d : List ℕ)
 lines-begin inf width work q g d =
     record { old = λ j h. omega arith; new = λ i j l h. absurd (omega arith); from = λ j h. inl refl }
 
-pub lines-on : (inf width : ℕ) (work : List ℕ) (q : ℕ) (g d : List ℕ) (n : ℕ) (e f : List ℕ) (x : ℕ) → Lines inf width work q g d n e
-    → Line inf work (q + summary_width * n) x e width f → x ≡ get_or g n 0 → Lines inf width work q g d (n + 1) f
-lines-on inf width work q g d n e f x s l ex =
+-- By weights of a part, as it is lent: by those from its place on.
+line_lent : {inf x width n a : ℕ} {work d e : List ℕ} → Line inf (take n (drop a work)) 0 x d width e → width ≤ n → Line inf work a x d width e
+line_lent {inf} {x} {n = n} {a} {work} {d} {e} l long =
+    record {
+      at = λ j h. rw (lent_at n a work (0 + j) (a + j) (omega arith) (omega arith)) at (l.at j h);
+      else = l.else;
+    }
+
+pub lines-on : (inf width : ℕ) (work : List ℕ) (q : ℕ) (g d : List ℕ) (n : ℕ) (e f : List ℕ) (x : ℕ) {a : ℕ} → Lines inf width work q g d n e
+    → Line inf (take summary_width (drop a work)) 0 x e width f → x ≡ get_or g n 0 → width ≤ summary_width → a ≡ q + summary_width * n → Lines inf width work q g d (n + 1) f
+lines-on inf width work q g d n e f x {a} s o ex long ea =
     record {
       old = λ j h. omega (arith, s.old j h, (l.at j h).old);
       new = λ i j k h. new i j k h (ℕ_discrete i n);
       from = λ j h. from j h (l.at j h).from (s.from j h);
     }
   where
+    l : Line inf work (q + summary_width * n) x e width f
+    l = rw ea at (line_lent {n = summary_width} {a = a} {work = work} o long)
+
     new : (i j : ℕ) → i < n + 1 → j < width → Dec (i ≡ n) → get_or f j 0 ≤ get_or g i 0 + get_or work (q + summary_width * i + j) 0
     new i j k h (yes p) = rw (p, ← ex) (l.at j h).new
     new i j k h (no m) = omega (arith, s.new i j (omega arith) h, (l.at j h).old)

@@ -1,16 +1,17 @@
 -- Laws of what estimates begin with, and of the estimates of some cues. A loop over them has begun, goes on (`-on`), and is done, where
 -- its count has come to its end.
-use Prim.Native.Nat.{ℕ, ◌+◌, ◌≤◌, ◌<◌}
+use Prim.Native.Nat.{ℕ, ◌+◌, ◌-◌, ◌≤◌, ◌<◌}
 use native.Mathlib.Omega.{arith}
 use native.Mathlib.Decide.{ℕ_discrete}
-use mathlib.Core.Path.{◌≡◌, refl, ◌∙◌, ap}
+use mathlib.Core.Path.{◌≡◌, refl, sym, ◌∙◌, ap}
 use mathlib.Core.Logic.{◌⊎◌, inl, inr}
 use mathlib.Core.List.{List, ◌++◌}
-use lib.ListN.{length, get_or, set, replicate, length-replicate, get_or-replicate, get_or-append}
+use lib.ListN.{length, get_or, set, take, drop, replicate, length-replicate, get_or-replicate, get_or-append}
 use lib.Seq.{get_or-set_same, get_or-set_other}
 use Rattle.blocks.specs.Loaded.{column_at}
 use Rattle.searches.specs.Starts.{Beginnings, Nowhere, Cell, Either, EachOf, Meets, MetAt, Started, Merged, Gathered}
 use Rattle.searches.proofs.Lowering.{inside, set_same}
+use Rattle.searches.proofs.Parts.{lent_at, put_in, put_behind}
 
 -- No estimate yet.
 pub started_blank : (inf n k : ℕ) (rest : List ℕ) → n < k → Started inf n Nowhere (replicate k inf ++ rest)
@@ -78,6 +79,16 @@ merged_then {S} {T} {X} {d} {e} {f} l r back s t =
     from a (inl p) = first a p (s.from a)
     from a (inr b) = inr (r a (get_or f a 0) b)
 
+-- What amounts to the same is put in.
+pub merged_same : {S T : Beginnings} {d e : List ℕ} → ((a x : ℕ) → S a x → T a x) → ((a x : ℕ) → T a x → S a x) → Merged S d e
+    → Merged T d e
+merged_same {S} {T} {d} {e} f g m =
+    record { fallen = λ a x b. m.fallen a x (g a x b); lower = m.lower; from = λ a. from a (m.from a) }
+  where
+    from : (a : ℕ) → (get_or e a 0 ≡ get_or d a 0) ⊎ S a (get_or e a 0) → (get_or e a 0 ≡ get_or d a 0) ⊎ T a (get_or e a 0)
+    from a (inl p) = inl p
+    from a (inr b) = inr (f a (get_or e a 0) b)
+
 -- Each of some: none yet, and one more.
 pub each-begin : (S : ℕ → Beginnings) (d : List ℕ) → Merged (EachOf S 0) d d
 each-begin S d = merged_nothing d (λ a x b. omega (arith, b.1))
@@ -95,10 +106,33 @@ pub met-begin : (xs : List ℕ) (r : ℕ) (kept : List ℕ) (q : ℕ) (d : List 
 unfolding MetAt
 met-begin xs r kept q d = each-begin (λ i. Cell (column_at xs r i) (get_or kept (q + i) 0)) d
 
-pub met-on : (xs : List ℕ) (r : ℕ) (kept : List ℕ) (q i : ℕ) {c v : ℕ} {d e f : List ℕ} → Merged (MetAt xs r kept q i) d e
-    → c ≡ column_at xs r i → v ≡ c → Merged (Cell v (get_or kept (q + i) 0)) e f → Merged (MetAt xs r kept q (i + 1)) d f
+pub met-on : (xs : List ℕ) (r : ℕ) (kept : List ℕ) (q i : ℕ) {c v k : ℕ} {d e f : List ℕ} → Merged (MetAt xs r kept q i) d e
+    → c ≡ column_at xs r i → v ≡ c → Merged (Cell v (get_or kept k 0)) e f → k ≡ q + i → Merged (MetAt xs r kept q (i + 1)) d f
 unfolding MetAt
-met-on xs r kept q i s ec ev t = each_on (λ i. Cell (column_at xs r i) (get_or kept (q + i) 0)) i s (rw (ev, ec) at t)
+met-on xs r kept q i s ec ev t ek = each_on (λ i. Cell (column_at xs r i) (get_or kept (q + i) 0)) i s (rw (ev, ec, ek) at t)
+
+-- With the numbers of a part, as it is lent: with those from its place on. And of one at the front.
+met_in : (xs : List ℕ) (r : ℕ) (kept : List ℕ) (a m n : ℕ) {d e : List ℕ} → m ≤ n → Merged (MetAt xs r (take n (drop a kept)) 0 m) d e
+    → Merged (MetAt xs r kept a m) d e
+unfolding MetAt
+met_in xs r kept a m n long s = merged_same (λ b x i. into b x i) (λ b x i. back b x i) s
+  where
+    at : (i : ℕ) → i < m → get_or (take n (drop a kept)) (0 + i) 0 ≡ get_or kept (a + i) 0
+    at i h = lent_at n a kept (0 + i) (a + i) (omega arith) (omega arith)
+
+    into : (b x : ℕ) → MetAt xs r (take n (drop a kept)) 0 m b x → MetAt xs r kept a m b x
+    into b x (i, h, (eb, ex)) = (i, h, (eb, ex ∙ at i h))
+
+    back : (b x : ℕ) → MetAt xs r kept a m b x → MetAt xs r (take n (drop a kept)) 0 m b x
+    back b x (i, h, (eb, ex)) = (i, h, (eb, ex ∙ sym (at i h)))
+
+pub met_lent : (xs : List ℕ) (r : ℕ) (kept : List ℕ) (a m : ℕ) {d e : List ℕ} → Merged (MetAt xs r (take (a + m - a) (drop a kept)) 0 m) d e
+    → Merged (MetAt xs r kept a m) d e
+met_lent xs r kept a m s = met_in xs r kept a m (a + m - a) (omega arith) s
+
+pub met_front : (xs : List ℕ) (r : ℕ) (kept : List ℕ) (m : ℕ) {d e : List ℕ} → Merged (MetAt xs r (take m kept) 0 m) d e
+    → Merged (MetAt xs r kept 0 m) d e
+met_front xs r kept m s = met_in xs r kept 0 m m (omega arith) s
 
 module _ {inf n : ℕ} {begun : Beginnings} where
   pub started_merged : {S : Beginnings} {d e : List ℕ} → Started inf n begun d → Merged S d e → Started inf n (Either begun S) e
@@ -153,3 +187,12 @@ gathered_on {xs} {r} {d} i {e₀ = e₀} {e} {v = v} g ev ec h = record { at = �
 
     else : (j : ℕ) → i + 1 ≤ j → get_or (set e i x) j 0 ≡ get_or e₀ j 0
     else j l = get_or-set_other e i j x 0 (λ q. omega arith) ∙ g.else j (omega arith)
+
+-- Those of m cues, put into a part at the front of a list that is long enough.
+pub gathered_front : {xs : List ℕ} {r : ℕ} {d : List ℕ} (m : ℕ) (e₀ v : List ℕ) → Gathered xs r d m (take m e₀) v → length v ≡ m → m ≤ length e₀
+    → Gathered xs r d m e₀ (v ++ drop m e₀)
+gathered_front m e₀ v g size long =
+    record {
+      at = λ i h. put_in 0 m e₀ v size (omega arith) i h (omega arith) ∙ g.at i h;
+      else = λ i h. put_behind 0 m e₀ v size (omega arith) i (omega arith);
+    }

@@ -19,7 +19,7 @@ use Rattle.distances.proofs.Detours.{part_join, PartTold, up_told, BeginsFor, be
 use Rattle.verdicts.specs.Index.{use_at}
 use Rattle.blocks.specs.declared.Place.{Place}
 use Rattle.blocks.proofs.Loaded.{loaded-show}
-use Rattle.searches.specs.Starts.{Beginnings, Either, estimates_size}
+use Rattle.searches.specs.Starts.{Beginnings, Either}
 use Rattle.searches.specs.Edges.{numbers, Only, SpreadIn, MaySettle}
 use Rattle.searches.specs.Joins.{AtJoins, passed}
 use Rattle.blocks.specs.Loaded.{IsBlock}
@@ -136,6 +136,6 @@ module _ {inf : ℕ} {price : Price} {xs t work : List ℕ} (r : Known inf price
           back a x (here h b) = absurd (omega arith)
 
 -- With the numbers of all blocks, each block may be settled.
-pub may_settle : {A : Type 0} {inf : ℕ} {values : List A → List ℕ} {price : Price} {xs t : List ℕ} {work d : List A} {k : ℕ}
-    → HasTable inf values price xs t work → IsBlock xs k → length d ≡ estimates_size → MaySettle xs t k work d
-may_settle r h e = record { loaded = r.known.loaded; block = h; room = omega (arith, r.long); size = e }
+pub may_settle : {A : Type 0} {inf : ℕ} {values : List A → List ℕ} {price : Price} {xs t : List ℕ} {work : List A} {k : ℕ}
+    → HasTable inf values price xs t work → IsBlock xs k → MaySettle xs t k work
+may_settle r h = record { loaded = r.known.loaded; block = h; room = omega (arith, r.long) }

@@ -1,5 +1,5 @@
 -- What a search over a whole show asks of the work area.
-use Rattle.std.specs.Prelude.{ℕ, ◌*◌, ◌≤◌, ◌≡◌, List, length}
+use Rattle.std.specs.Prelude.{ℕ, ◌*◌, ◌≤◌, List, length}
 use Rattle.model.specs.Limits.{summary_size}
 use Rattle.model.specs.Blocks.{blocks_of}
 use Rattle.distances.specs.Walks.{Price}
@@ -8,7 +8,6 @@ use Rattle.distances.proofs.Closure.{ExactTable}
 use Rattle.blocks.specs.Loaded.{Loaded}
 use Rattle.blocks.specs.Places.{Found}
 use Rattle.blocks.specs.declared.Place.{Place}
-use Rattle.searches.specs.Starts.{estimates_size}
 use Rattle.searches.specs.Edges.{numbers}
 
 -- A loaded show, and numbers in the work area that tell the least weights between the joins of its blocks.
@@ -21,10 +20,7 @@ pub record HasTable {A : Type 0} (inf : ℕ) (values : List A → List ℕ) (pri
   pub known : Known inf price xs t (values work)
   pub long : summary_size * length (blocks_of xs) ≤ length work
 
--- What the way up or down the rows of a place asks for: such a work area, the rows that lead to the place, and an estimate for each cue that a block may
--- have.
-pub record MaySearch {A : Type 0} (inf : ℕ) (values : List A → List ℕ) (price : Price) (xs t : List ℕ) (work : List A) (rows : List ℕ) (q : Place)
-    (d : List A) : Type 0 where
+-- What the way up or down the rows of a place asks for: such a work area, and the rows that lead to the place.
+pub record MaySearch {A : Type 0} (inf : ℕ) (values : List A → List ℕ) (price : Price) (xs t : List ℕ) (work : List A) (rows : List ℕ) (q : Place) : Type 0 where
   pub table : HasTable inf values price xs t work
   pub found : Found xs t rows q
-  pub size : length d ≡ estimates_size

@@ -13,6 +13,11 @@ use blocks::{INDEX, Show};
 use model::limits::ROOM;
 use model::{CuePlace, FoundRow, LineRefusal, Listed, Refusal, ShowSize};
 
+// Kept: the first lines of each entry point, which check the lent rows and make the `Show`: tried as one function that answers `Result<Show, Refusal>`, the
+// proof did not close at the callers' `?` (one side of that Result has a ghost field, the other a model); a closure in its place would have to promise what
+// is left of the lent list where it isn't called. So entry points are alike whose answers are of different types. `read` and `read_desk` differ in the loader that they
+// call; one that takes the loader is no plainer, since it would be called by these two alone, each for a paper's question.
+
 // The count of cues.
 pub fn count(rows: &[u32]) -> Result<u32, Refusal>
     ensures { AsksCount rows.now result }
@@ -90,6 +95,7 @@ pub fn write(rows: &[u32], out: &mut [u8]) -> Result<u32, Refusal>
 }
 
 // The cues linked to cue v, out or in.
+// Kept: `inward` is a Bool, for an enum is no plainer: each clause would turn it to the Bool that the definition `list_asked` reads.
 fn list(rows: &[u32], inward: bool, v: u32, n: u32, page: &mut [u32]) -> Result<Listed, Refusal>
     ensures { outcome (of_list result) page.new ≡ list_asked inward rows.now v n page.old }
 {

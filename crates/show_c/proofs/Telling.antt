@@ -5,6 +5,7 @@ use mathlib.Core.Path.{◌≡◌, refl, sym, ◌∙◌, ap}
 use mathlib.Core.Bool.{Bool, true, false}
 use mathlib.Core.List.{List, [], ◌∷◌}
 use lib.ListN.{length, set}
+use mir.Val.{bool_byte}
 use Rattle.std.specs.Prelude.{Ok, Err, Some}
 use Rattle.model.specs.Verdicts.{refusal, verdict, Numbers, read_file, file_verdict, numbers_of, Verdict, Accepted}
 use Rattle.model.specs.Rows.{row_count}
@@ -59,32 +60,11 @@ pub no_count_short : (xs : List ℕ) (a : CountAnswer) (f : Refusal) (c : ℕ) �
 unfolding of_count count_asked
 no_count_short xs a f c e q h k = h ∙ short-refused (verdict xs) f _ [] k (rw q at e)
 
--- Values put first in `given`.
-pub put_one : (a : ℕ) (g : List ℕ) → 3 ≤ length g → set g 0 a ≡ overwrite (a ∷ []) g
-unfolding overwrite
-put_one a [] h = absurd (omega arith)
-put_one a (x ∷ g) h = refl
-
-pub put_two : (a b : ℕ) (g g' : List ℕ) → 3 ≤ length g → g' ≡ overwrite (a ∷ []) (set g 1 b) → g' ≡ overwrite (a ∷ b ∷ []) g
-unfolding overwrite
-put_two a b [] g' h e = absurd (omega arith)
-put_two a b (x ∷ []) g' h e = absurd (omega arith)
-put_two a b (x ∷ y ∷ g) g' h e = e
-
-pub put_three : (a b c : ℕ) (g g' : List ℕ) → 3 ≤ length g → g' ≡ overwrite (a ∷ b ∷ []) (set g 2 c) → g' ≡ overwrite (a ∷ b ∷ c ∷ []) g
-unfolding overwrite
-put_three a b c [] g' h e = absurd (omega arith)
-put_three a b c (x ∷ []) g' h e = absurd (omega arith)
-put_three a b c (x ∷ y ∷ []) g' h e = absurd (omega arith)
-put_three a b c (x ∷ y ∷ z ∷ g) g' h e = e
-
-pub flag-yes : (b : Bool) → b ≡ true → 1 ≡ flag b
+-- A Bool as a number is its flag.
+flag-byte : (b : Bool) → bool_byte b ≡ flag b
 unfolding flag
-flag-yes b e = rw e
-
-pub flag-no : (b : Bool) → b ≡ false → 0 ≡ flag b
-unfolding flag
-flag-no b e = rw e
+flag-byte true = refl
+flag-byte false = refl
 
 -- What is told of an answer a that is b, read by `of`: of values, and of a refusal.
 module _ {A : Type 0} (of : A → Returned) (a b : A) (c : ℕ) (g g' : List ℕ) where
@@ -97,10 +77,10 @@ module _ {A : Type 0} (of : A → Returned) (a b : A) (c : ℕ) (g g' : List ℕ
   told-refused f u q h e i = rw (i, e, u) (q ∙ number-code f h, refl)
 
 -- The flag of a page is a number of its own.
-pub told-page : (a : ListAnswer) (l : Listed) (m c : ℕ) (g g' : List ℕ) → m ≡ flag l.more → (c ≡ 0) × (g' ≡ overwrite (l.written ∷ m ∷ []) g) → a ≡ Ok l
-    → Told c g g' (of_list a)
+pub told-page : (a : ListAnswer) (l : Listed) (m c : ℕ) (g g' : List ℕ) → m ≡ bool_byte l.more → (c ≡ 0) × (g' ≡ overwrite (l.written ∷ m ∷ []) g)
+    → a ≡ Ok l → Told c g g' (of_list a)
 unfolding of_list
-told-page a l m c g g' k p q = told-value of_list a (Ok l) c g g' (l.written ∷ m ∷ []) p (rw k) q
+told-page a l m c g g' k p q = told-value of_list a (Ok l) c g g' (l.written ∷ m ∷ []) p (rw (k, flag-byte l.more)) q
 
 -- The halves of a sum are numbers of their own, and a refusal may have a place of more than 32 bits.
 pub told-tenths : (a : QuickestAnswer) (n x y c : ℕ) (g g' : List ℕ) → (c ≡ 0) × (g' ≡ overwrite (1 ∷ x ∷ y ∷ []) g) → a ≡ Ok (Some n)

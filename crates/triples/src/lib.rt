@@ -26,13 +26,15 @@ const GROUP: u32 = 16;
 const GROUPS: u32 = (MAX_LABEL + GROUP - 1) / GROUP;
 
 // A cue of a loaded show: its place, and the rows of the uses that lead there.
-// Kept: `Aims` stands in each contract, tried as a ghost field, the proof did not close: it may have one proof only, and `Found` has a path.
+// Kept: `Aims` in each contract: tried as a ghost field, no proof closed, as it may have one proof only, and `Found` has a path.
 #[derive(Clone, Copy)]
 struct Target<'a> {
     show: Show<'a>,
     place: Place,
     rows: &'a [u32],
 }
+
+// Kept: marks are bytes of one table, at places that are computed, by fixed memory.
 
 // ---- cues
 

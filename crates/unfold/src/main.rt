@@ -25,6 +25,7 @@ fn print_links<W: Write>(to: &mut W, show: &Show, cues: u32) -> io::Result<()>
     let mut out = [0u8; BUFFER];
     let mut from = 0;
     let mut place = LABEL_PLACES * (cues as usize) + LABEL_PLACES;
+    // Kept: a `while` that counts nothing: `printed::part` says where it goes on.
     while printed::going(cues, from, place) {
         let at = printed::part(show, cues, from, place, &mut marks, &mut out);
         to.write_all(&out[..at.used])?;

@@ -31,6 +31,8 @@ fn ended_at(text: &[u8], i: usize, end: u8, v: u32) -> Option<(u32, usize)>
 }
 
 // The value at a place with the byte that ends it, and the place behind that byte.
+// Kept: n is counted by hand, since a `for` would be no plainer: the digits end where none follows, and what stands behind them needs both v and n.
+// Kept: the place beside the text, for what may not change: the definition `value_at` answers with a place of the whole text.
 #[inline(always)]
 pub fn value_at(text: &[u8], at: usize, end: u8) -> Option<(u32, usize)>
     ensures { result ≡ value_at text.now end at }

@@ -10,8 +10,6 @@ ghost use Rattle.verdicts.specs.Index.{index_size};
 ghost use Rattle.verdicts.specs.Passing.{capped, joins_at, many_of, Many, cues_of, put_at, open_indexed, use_indexed, row_indexed, carried, next_state, Scanned, own_at, stands_at, passes_at, row_number_of, place_from, rows_in, judged, IsChecked};
 ghost use Rattle.verdicts.specs.Passing.{fault_in, row_in, blocks_in, check_number};
 ghost use Rattle.model.specs.Limits.{row_size, max_rows};
-ghost use Rattle.model.specs.Reasons.{number_of};
-ghost use Rattle.model.specs.Verdicts.{refused};
 
 use model::limits::{MAX_BLOCKS, MAX_JOINS, MAX_OWN, MAX_ROWS, MAX_TOTAL, ROW_SIZE};
 use model::{Reason, Refusal};
@@ -19,6 +17,7 @@ use rules::Row;
 use rules::faults::{Fault, Kind, State};
 
 // Limits in the other widths that the code compares them in.
+// Kept: here and in other crates, for one is no plainer: the code counts rows, joins and cues in 32 bits and places in 64, and `as` at each use says no more.
 const MAX_ROWS_32: u32 = MAX_ROWS as u32;
 
 const MAX_JOINS_64: usize = MAX_JOINS as usize;
@@ -39,6 +38,7 @@ pub struct FaultyRow {
 }
 
 // The two checks of a block behind the rows: that it may end as it does, 9, and that its total is not too large, 10.
+// Kept: an enum that chooses, for a closure or two loops are no plainer: the search for the first block that fails is the same, and its clause names the check.
 #[derive(Clone, Copy, Debug, PartialEq, Eq)]
 enum BlockCheck {
     Ends,
@@ -52,7 +52,7 @@ pub fn get(xs: &[u32], i: usize) -> u32
     xs.get(i).copied().unwrap_or(0)
 }
 
-// A number of the table put in at its place.
+// A number of the table put in at its place, if it has that place.
 // Kept: tried by get_mut, the proof did not close (`returns-in-Some`: what is written through the Option is not known of the table).
 fn put(t: &mut [u32; INDEX], i: usize, v: u32)
     ensures { t.new ≡ put_at t.old i v }
@@ -69,23 +69,16 @@ fn add_totals(a: u32, b: u32) -> u32
     a.saturating_add(b).min(TOO_LARGE)
 }
 
-// The joins of block k, which the row that opens it has.
-fn joins_at(xs: &[u32], t: &[u32; INDEX], k: u32) -> usize
-    ensures { result ≡ joins_at xs.now t.now k }
-{
-    let f = get(t, k as usize * ENTRY) as usize;
-    get(xs, f * ROW_SIZE + 2) as usize
-}
-
-// The own cues of block k.
-fn own_at(xs: &[u32], t: &[u32; INDEX], k: u32) -> u32
-    ensures { result ≡ own_at xs.now t.now k }
-{
-    let f = get(t, k as usize * ENTRY) as usize;
-    get(xs, f * ROW_SIZE + 3)
+// The blocks that rows open, so many so far, by the rows and the index.
+#[derive(Clone, Copy)]
+struct Blocks<'a> {
+    xs: &'a [u32],
+    t: &'a [u32; INDEX],
+    blocks: u32,
 }
 
 // How many joins the block has that a use names; 0 of any other row.
+// Kept: 0 and no Option, for what may not change: `rules::fault` and its definition take a number for every row.
 fn many_of(t: &[u32; INDEX], row: Row, blocks: u32) -> usize
     ensures { Many (many_of row.entry.xs.now t.now row.entry.at blocks) result }
 {
@@ -96,7 +89,12 @@ fn many_of(t: &[u32; INDEX], row: Row, blocks: u32) -> usize
     if label >= blocks {
         return 0;
     }
-    let j = joins_at(row.xs, t, label);
+    let opened = Blocks {
+        xs: row.xs,
+        t,
+        blocks,
+    };
+    let j = opened.joins(label);
     if MAX_JOINS_64 < j {
         return 0;
     }
@@ -116,7 +114,8 @@ fn cues_of(own: u32, joins: u32) -> u32
     own + joins
 }
 
-// What an opening at row r puts into the table.
+// What an opening at row r puts into the table, from place `at` on; and what a use of block k adds to the total there.
+// Kept: a place and no part of the table, since a row's block number is not known to be small here: past the table's end nothing is put in (`put_at`).
 fn index_open(t: &mut [u32; INDEX], at: usize, r: u32, own: u32)
     requires { (r < max_rows) × (at < 17179869184) }
     ensures { t.new ≡ open_indexed t.old at r own }
@@ -127,7 +126,6 @@ fn index_open(t: &mut [u32; INDEX], at: usize, r: u32, own: u32)
     put(t, at + 3, own);
 }
 
-// What a use of block k adds to the total.
 fn index_use(t: &mut [u32; INDEX], at: usize, k: usize)
     requires { (at < 17179869184) × (k < 4294967296) }
     ensures { t.new ≡ use_indexed t.old at k }
@@ -176,6 +174,8 @@ fn next_state(row: Row, kind: Kind, s: State) -> State
 
 // Checks 5 to 8 of n rows in one pass, with the index of what was read in a table that was empty: how many blocks they open, or the first
 // row with a fault.
+// Kept: n beside the rows, for what may not change: the clause `Scanned xs n` of lists that end in no whole row. And that the table is empty, here and in the
+// six functions that lend it on, by fixed memory: it is the caller's array, a table that is handed out is copied (as `levels::levels` found), and cleared here it would be written twice.
 pub fn pass(xs: &[u32], n: usize, t: &mut [u32; INDEX]) -> Result<u32, FaultyRow>
     requires { (n * row_size ≤ length xs.now) × (n ≤ max_rows) × (t.old ≡ replicate index_size 0) }
     ensures { Scanned xs.now n t.new result }
@@ -208,32 +208,6 @@ pub fn pass(xs: &[u32], n: usize, t: &mut [u32; INDEX]) -> Result<u32, FaultyRow
     Ok(s.blocks)
 }
 
-// Check 9 of block k.
-fn stands(xs: &[u32], t: &[u32; INDEX], blocks: u32, k: u32) -> bool
-    requires { k < 4294967295 }
-    ensures { result ≡ stands_at xs.now t.now blocks k }
-{
-    let joins = joins_at(xs, t, k);
-    if k + 1 != blocks {
-        return 0 < joins;
-    }
-    if joins != 0 {
-        return false;
-    }
-    0 < own_at(xs, t, k)
-}
-
-// Check 9 or 10 of block k.
-fn passes(xs: &[u32], t: &[u32; INDEX], blocks: u32, k: u32, check: BlockCheck) -> bool
-    requires { k < 4294967295 }
-    ensures { result ≡ passes_at (check_number check) xs.now t.now blocks k }
-{
-    match check {
-        BlockCheck::Ends => stands(xs, t, blocks, k),
-        BlockCheck::Total => get(t, k as usize * ENTRY + 3) <= MAX_TOTAL,
-    }
-}
-
 // The number of a row that has so many rows before it.
 fn row_number(r: u32) -> Option<u32>
     ensures number { unwrap_or result 0 ≡ row_number_of r }
@@ -242,17 +216,76 @@ fn row_number(r: u32) -> Option<u32>
     if r < MAX_ROWS_32 { Some(r + 1) } else { None }
 }
 
-// The opening row of the first block that fails check 9 or 10.
-fn check_blocks(xs: &[u32], t: &[u32; INDEX], blocks: u32, check: BlockCheck) -> Option<u32>
-    ensures number { unwrap_or result 0 ≡ place_from (passes_at (check_number check) xs.now t.now blocks) t.now 0 blocks }
-    ensures some { IfSome result (λ row. 0 < row) }
-{
-    for k in 0..blocks {
-        if !passes(xs, t, blocks, k, check) {
-            return row_number(get(t, k as usize * ENTRY));
+impl Blocks<'_> {
+    // Number c of block k in the index.
+    fn indexed(self, k: u32, c: usize) -> u32
+        requires { c < 4 }
+        ensures { result ≡ get_or self.entry.t.now (k * 4 + c) 0 }
+    {
+        let t = self.t;
+        get(t, k as usize * ENTRY + c)
+    }
+
+    // Value c of the row that opens block k.
+    fn opening(self, k: u32, c: usize) -> u32
+        requires { c < row_size }
+        ensures { result ≡ get_or self.entry.xs.now (get_or self.entry.t.now (k * 4) 0 * row_size + c) 0 }
+    {
+        let f = self.indexed(k, 0) as usize;
+        get(self.xs, f * ROW_SIZE + c)
+    }
+
+    // The joins and the own cues of block k, which that row has.
+    fn joins(self, k: u32) -> usize
+        ensures { result ≡ joins_at self.entry.xs.now self.entry.t.now k }
+    {
+        self.opening(k, 2) as usize
+    }
+
+    fn own(self, k: u32) -> u32
+        ensures { result ≡ own_at self.entry.xs.now self.entry.t.now k }
+    {
+        self.opening(k, 3)
+    }
+
+    // Check 9 of block k.
+    fn stands(self, k: u32) -> bool
+        requires { k < 4294967295 }
+        ensures { result ≡ stands_at self.entry.xs.now self.entry.t.now self.entry.blocks k }
+    {
+        let joins = self.joins(k);
+        if k + 1 != self.blocks {
+            return 0 < joins;
+        }
+        if joins != 0 {
+            return false;
+        }
+        0 < self.own(k)
+    }
+
+    // Check 9 or 10 of block k.
+    fn passes(self, k: u32, check: BlockCheck) -> bool
+        requires { k < 4294967295 }
+        ensures { result ≡ passes_at (check_number check) self.entry.xs.now self.entry.t.now self.entry.blocks k }
+    {
+        match check {
+            BlockCheck::Ends => self.stands(k),
+            BlockCheck::Total => self.indexed(k, 3) <= MAX_TOTAL,
         }
     }
-    None
+
+    // The opening row of the first block that fails check 9 or 10.
+    fn first_failing(self, check: BlockCheck) -> Option<u32>
+        ensures number { unwrap_or result 0 ≡ place_from (passes_at (check_number check) self.entry.xs.now self.entry.t.now self.entry.blocks) self.entry.t.now 0 self.entry.blocks }
+        ensures some { IfSome result (λ row. 0 < row) }
+    {
+        for k in 0..self.blocks {
+            if !self.passes(k, check) {
+                return row_number(self.indexed(k, 0));
+            }
+        }
+        None
+    }
 }
 
 // How many rows are lent: 0 if they meet refusal 4.
@@ -269,12 +302,6 @@ fn rows_in(xs: &[u32]) -> usize
     xs.len() / ROW_SIZE
 }
 
-fn refuse(reason: Reason, place: u32) -> Result<(), Refusal>
-    ensures { result ≡ refused (number_of reason) place }
-{
-    Err(Refusal { reason, place })
-}
-
 // The verdict on n rows, after the pass over them.
 fn judge(
     xs: &[u32],
@@ -285,17 +312,18 @@ fn judge(
     ensures { result ≡ judged xs.now t.now n (fault_in passed) (row_in passed) (blocks_in passed) }
 {
     if n == 0 {
-        return refuse(Reason::BadRowCount, 0);
+        return Err(Refusal::new(Reason::BadRowCount, 0));
     }
     let blocks = match passed {
         Ok(blocks) => blocks,
-        Err(faulty) => return refuse(Reason::from(faulty.fault), faulty.row),
+        Err(faulty) => return Err(Refusal::new(Reason::from(faulty.fault), faulty.row)),
     };
-    if let Some(ends) = check_blocks(xs, t, blocks, BlockCheck::Ends) {
-        return refuse(Reason::BadBlock, ends);
+    let opened = Blocks { xs, t, blocks };
+    if let Some(ends) = opened.first_failing(BlockCheck::Ends) {
+        return Err(Refusal::new(Reason::BadBlock, ends));
     }
-    if let Some(totals) = check_blocks(xs, t, blocks, BlockCheck::Total) {
-        return refuse(Reason::TooManyCues, totals);
+    if let Some(totals) = opened.first_failing(BlockCheck::Total) {
+        return Err(Refusal::new(Reason::TooManyCues, totals));
     }
     Ok(())
 }

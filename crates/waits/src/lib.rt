@@ -70,6 +70,7 @@ fn is_low(label: u32, before: u32) -> bool
 }
 
 // The first line of a kind: the one that is known, else this one if it is of the kind.
+// Kept: `is` is a Bool since it is what a test of the line said (`is_outside`, `is_low`), and no switch between two ways.
 fn earliest(known: Option<usize>, is: bool, line: usize) -> Option<usize>
     ensures { result ≡ earliest known is line }
 {
@@ -87,6 +88,7 @@ fn unfit(reason: Reason, line: usize) -> LineRefusal
 }
 
 // A label's wait to its place, if there is one.
+// Kept: apart from `verdicts::put`, for one is no plainer: a test and a store, whose promise there knows the length of the index (`put_at`).
 fn put_wait(waits: &mut [u32], label: u32, wait: u32)
     ensures { waits.new ≡ set waits.old label wait }
 {
@@ -97,6 +99,7 @@ fn put_wait(waits: &mut [u32], label: u32, wait: u32)
 }
 
 // The lines behind the names: the first malformed one ends the pass, the first lines of 16 and 17 are kept.
+// Kept: a `while` that counts nothing: it goes on from line to line, each of another length, and ends with the file.
 fn read_lines(file: &[u8], waits: &mut [u32]) -> Result<(), LineRefusal>
     requires { (waits.old ≡ no_waits) × (starts_with wait_names file.now ≡ true) }
     ensures { SaysWaits (wait_file file.now) result waits.new }

@@ -8,14 +8,14 @@ use Rattle.answers.proofs.read_in.Goals as goal
 pub returns-then-rows-show : goal.returns-then-rows-show
 returns-then-rows-show c = search (read-room, rules)
 
-pub narrow-many-requires : goal.narrow-many-requires
-narrow-many-requires c = omega (arith, rows_few _ c.args.show.now.loaded.accepted)
+pub overflow_cast-many : goal.overflow_cast-many
+overflow_cast-many c = omega (arith, rows_few _ c.args.show.now.loaded.accepted)
 
-pub overflow_add-last : goal.overflow_add-last
-overflow_add-last c = omega (arith, c.last.ensures.1, (loaded-show c.args.show.now.loaded).blocks)
+pub overflow_add-blocks : goal.overflow_add-blocks
+overflow_add-blocks c = omega (arith, c.last.ensures.1, (loaded-show c.args.show.now.loaded).blocks)
 
-pub narrow-blocks-requires : goal.narrow-blocks-requires
-narrow-blocks-requires c =
+pub overflow_cast-blocks : goal.overflow_cast-blocks
+overflow_cast-blocks c =
     omega (arith, c.last.ensures.1, (loaded-show c.args.show.now.loaded).blocks)
 
 pub returns : goal.returns

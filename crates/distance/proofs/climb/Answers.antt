@@ -6,20 +6,20 @@ use Rattle.searches.proofs.Ways.{own-within, climbing_begin, climbing_uses, clim
 use Rattle.distance.proofs.climb.Goals as goal
 
 pub from_cue-requires : goal.from_cue-requires
-from_cue-requires g c = (search (may_settle, place-block, rules), search (own-within, rules))
+from_cue-requires g c = (search rules, (search (may_settle, place-block, rules), search (own-within, rules)))
 
 pub loop-l-init : goal.loop-l-init
-loop-l-init g c = climbing_begin c.requires.0.table.known c.requires.0.found
+loop-l-init g c = climbing_begin c.requires.table.known c.requires.found
 
 pub keep_joins-requires : goal.keep_joins-requires
-keep_joins-requires g c = (search (place-block, rules), search rules, search rules, search rules)
+keep_joins-requires g c = (search rules, (search rules, (search (place-block, rules), search rules)))
 
 pub rise_one-requires : goal.rise_one-requires
-rise_one-requires g c = (search rules, climbing_uses c.loop-l.invariant (omega arith), search rules, search rules, search rules)
+rise_one-requires g c = (search rules, (search rules, (search rules, climbing_uses c.loop-l.invariant (omega arith), search rules)))
 
 pub loop-l-preserved : goal.loop-l-preserved
 loop-l-preserved g c = climbing_on c.loop-l.invariant (omega arith) c.rise_one.ensures.0 c.rise_one.ensures.1
 
 pub returns : goal.returns
 returns g c =
-    climbing_done c.loop-l.invariant (omega arith) c.requires.0.found c.from_cue.ensures c.wide.ensures.0 c.keep_joins.ensures
+    climbing_done c.loop-l.invariant (omega arith) c.requires.found c.from_cue.ensures c.wide.ensures.0 c.keep_joins.ensures

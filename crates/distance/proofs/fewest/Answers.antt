@@ -5,7 +5,7 @@ use Rattle.distance.proofs.Counting.{has_table, fewest-is}
 use Rattle.distance.proofs.fewest.Goals as goal
 
 pub reach-requires : goal.reach-requires
-reach-requires c = (has_table c.args.show.now.loaded _ c.requires.2, search rules, search rules, search rules, search rules)
+reach-requires c = (search rules, (search rules, (has_table c.args.show.now.loaded _ c.requires.2, search rules, search rules)))
 
 pub bounds-d-wide : goal.bounds-d-wide
 bounds-d-wide c = search (own_room, rules)

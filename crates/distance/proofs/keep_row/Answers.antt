@@ -12,5 +12,5 @@ pub loop-j-preserved : goal.loop-j-preserved
 loop-j-preserved g c =
     let m = g.met.N.Number.each in
     let here : summary_width * c.args.i + c.loop-j.j < length (g.N.Number.values c.loop-j.v) = omega (arith, count m c.loop-j.v) in
-    let y = read m c.args.d.now (c.args.p + c.loop-j.j) c.index-d-p.result c.index-d-p.is (omega arith) in
-    rw (stored m c.loop-j.v _ c.index-d-p.result, y) (row_on c.args.i c.args.p c.loop-j.j here c.loop-j.invariant)
+    let y = read m c.args.e.now c.loop-j.j c.index-e-j.result c.index-e-j.is (omega arith) in
+    rw (stored m c.loop-j.v _ c.index-e-j.result, y) (row_on c.args.i c.loop-j.j here c.loop-j.invariant)

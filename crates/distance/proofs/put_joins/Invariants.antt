@@ -4,4 +4,4 @@ use Rattle.searches.specs.Joins.{JoinsAt}
 use Rattle.distance.proofs.put_joins.Given as goal
 
 abbrev pub invariant-loop-i : goal.invariant-loop-i
-invariant-loop-i g l = let m = g.N.Number in Merged (JoinsAt l.p (m.values l.e) l.i) (m.values l.initial.d) (m.values l.d)
+invariant-loop-i g l = let m = g.N.Number in Merged (JoinsAt 0 (m.values l.e) l.i) (m.values l.initial.d) (m.values l.d)

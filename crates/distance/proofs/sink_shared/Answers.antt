@@ -4,7 +4,7 @@ use Rattle.searches.proofs.Ways.{sharing_begin, sharing_on}
 use Rattle.distance.proofs.sink_shared.Goals as goal
 
 pub loop-l-init : goal.loop-l-init
-loop-l-init g c = sharing_begin c.requires.0.table.known c.requires.0.found c.requires.1 c.requires.3
+loop-l-init g c = sharing_begin c.requires.0.table.known c.requires.0.found c.requires.1 c.requires.2
 
 pub loop-l-preserved : goal.loop-l-preserved
 loop-l-preserved g c =

@@ -8,7 +8,7 @@ pub loop-k-init : goal.loop-k-init
 loop-k-init c = search (area-begin, rules)
 
 pub summarise_block-requires : goal.summarise_block-requires
-summarise_block-requires c = (search rules, search rules, omega (arith, blocks-few), search (area-lower, rules))
+summarise_block-requires c = (search rules, omega (arith, blocks-few), search (area-lower, rules))
 
 pub loop-k-preserved : goal.loop-k-preserved
 loop-k-preserved c = search (area_on, rules)

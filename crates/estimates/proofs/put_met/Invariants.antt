@@ -6,4 +6,4 @@ use Rattle.estimates.proofs.put_met.Given as goal
 abbrev pub invariant-loop-i : goal.invariant-loop-i
 invariant-loop-i g l =
     let m = g.N.Number in
-    Merged (MetAt l.xs l.r (m.values l.kept) l.q l.i) (m.values l.initial.d) (m.values l.d) × Fell (m.values l.initial.d) l.fell (m.values l.d)
+    Merged (MetAt l.xs l.r (m.values l.kept) 0 l.i) (m.values l.initial.d) (m.values l.d) × Fell (m.values l.initial.d) l.fell (m.values l.d)

@@ -1,6 +1,8 @@
 -- The walk of a copy and that of a use call each other; the block number falls.
+use Prim.Native.Nat.{◌+◌, ◌*◌, ◌-◌}
 use mathlib.Core.Path.{refl}
-use Rattle.blocks.proofs.Loaded.{block-few, use_row, used_block}
+use Rattle.blocks.proofs.Loaded.{block-few, own-few, use_row, used_block}
+use Rattle.neighbours.proofs.Near.{known_own_part, part_long}
 use Rattle.lists.proofs.Walks.{
   door_small,
   known_own_enter,
@@ -45,9 +47,10 @@ enter-give_block-g-requires t c =
     let g = c.args.question.now.show.loaded in
     let door = c.in-Some.ensures in
     let e = c.used-j.ensures.0 in
-    let own = c.own.ensures.0 in (
-      known_own_enter _ g _ _ _ pre.0 door _ _ _ e own refl _ pre.2,
-      omega (arith, door_small _ g _ _ _ pre.0 door, e, pre.0.lower, pre.1),
+    let own = c.own.ensures.0 in
+    let at = 328 * c.used-j.result + 41 * c.in-Some.i in (
+      known_own_part _ _ _ _ _ _ _ _ refl (omega arith) (own-few g _ (used_block _ pre.0 e)) (known_own_enter _ g _ _ _ pre.0 door _ _ _ e own refl _ pre.2),
+      part_long c.args.m.now at (at + 41 - at) (omega arith) (omega (arith, door_small _ g _ _ _ pre.0 door, e, pre.0.lower, pre.1)),
       may_visit_enter _ g _ _ _ pre.0 door _ _ _ e own refl _ _ pre.3 pre.4 pre.3.bound,
     )
 

@@ -3,6 +3,7 @@ use native.Mathlib.Omega.{arith}
 use mathlib.Core.Path.{◌∙◌}
 use Rattle.blocks.proofs.Loaded.{own-few}
 use Rattle.neighbours.proofs.Tables.{known_own_cue}
+use Rattle.lists.proofs.Joins.{joins_part}
 use Rattle.lists.proofs.Answer.{answered, may_visit_begin}
 use Rattle.lists.proofs.answer_by.Goals as goal
 
@@ -29,6 +30,7 @@ walk-requires c =
 pub returns : goal.returns
 returns c =
     let marks = c.marks_of.ensures in
-    answered _ _ _ c.args.z _ _ _ _ _ _ _ _ marks.ready c.requires.0 marks.marks c.joins-joins.ensures.0
-    c.joins-joins.ensures.1 c.give_joins-g.ensures
+    let joins = c.joins-joins.ensures in
+    answered _ _ _ c.args.z _ _ _ _ _ _ _ _ marks.ready c.requires.0 marks.marks joins.0 joins.1
+    (joins_part _ _ _ _ _ _ _ _ (omega (arith, joins.1, marks.marks.long)) c.give_joins-g.ensures)
     (c.walk.ensures.whole _ _ c.give_block-h.ensures)

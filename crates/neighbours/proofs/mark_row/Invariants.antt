@@ -4,4 +4,4 @@ use Rattle.neighbours.specs.Records.{Added}
 use Rattle.neighbours.proofs.mark_row.Given as goal
 
 abbrev pub invariant-loop-j : goal.invariant-loop-j
-invariant-loop-j l = Added l.y.own (ByRow l.rows l.m l.r l.at l.j) l.initial.s l.s
+invariant-loop-j l = Added l.y.own (ByRow l.rows l.flags l.r 0 l.j) l.initial.s l.s

@@ -10,4 +10,4 @@ abbrev pub decreases-number_uses : goal.decreases-number_uses
 decreases-number_uses l = 2 * l.k
 
 abbrev pub invariant-number_uses-loop-r : goal.invariant-number_uses-loop-r
-invariant-number_uses-loop-r l = Steps l.show.rows.now l.show.index.now l.path l.k l.base l.done l.first l.end l.p l.at l.r l.b
+invariant-number_uses-loop-r l = Steps l.show.rows.now l.show.index.now l.k l.base l.first l.end l.p l.step l.at l.r l.b

@@ -9,6 +9,6 @@ bounds-d-wide c = search (own_room, rules)
 
 pub returns : goal.returns
 returns c = (
-  rw c.wide.ensures.0 (quickest-is c.args.show.now.loaded c.requires.2 c.requires.1 _ _ c.reach.ensures),
+  rw c.wide.ensures.0 (quickest-is c.args.show.now.loaded c.args.prices.now.right c.requires.1 _ _ c.reach.ensures),
   area-zeros c.sum_blocks.new.work _ (c.fill.ensures.after (λ y e. e)) (search rules),
 )

@@ -1,7 +1,7 @@
 -- `relax::differ` meets its contract. The invariant: unless a difference was found, the estimates passed are the same.
 use Rattle.std.proofs.Common.{rules, refl}
 use Rattle.searches.proofs.Lines.{alike_begin, alike_on}
-use Rattle.estimates.proofs.Numbers.{read}
+use Rattle.estimates.proofs.Numbers.{held}
 use Rattle.relax.proofs.differ.Goals as goal
 
 pub loop-i-init : goal.loop-i-init
@@ -10,5 +10,5 @@ loop-i-init g c = alike_begin _ _ _
 pub loop-i-preserved : goal.loop-i-preserved
 loop-i-preserved g c =
     let m = g.met.N.Number.each in
-    alike_on _ _ _ _ _ _ _ _ c.loop-i.invariant refl c.unlike-found.ensures (read m c.args.a.now _ _ c.index-a-i.is (search rules))
-    (read m c.args.b.now _ _ c.index-b-i.is (search rules))
+    alike_on _ _ _ _ _ _ _ _ c.loop-i.invariant refl c.unlike-found.ensures (held m c.args.a.now _ _ (search rules))
+    (held m c.args.b.now _ _ (search rules))

@@ -1,7 +1,7 @@
 -- `relax::lower_line` meets its contract. The invariant: the estimates passed are lowered.
 use Rattle.std.proofs.Common.{rules, arith, ◌<◌, length}
 use Rattle.searches.proofs.Lines.{line_begin, line_on}
-use Rattle.estimates.proofs.Numbers.{count, read, stored}
+use Rattle.estimates.proofs.Numbers.{count, held, stored}
 use Rattle.relax.proofs.lower_line.Goals as goal
 
 pub loop-j-init : goal.loop-j-init
@@ -12,5 +12,5 @@ loop-j-preserved g c =
     let m = g.met.N.Number.each in
     let here : c.loop-j.j < length (g.N.Number.values c.loop-j.e) = omega (arith, count m c.loop-j.e) in
     rw (stored m c.loop-j.e c.loop-j.j c.lowered.result)
-    (line_on _ _ _ _ _ _ _ _ _ _ c.loop-j.invariant c.lowered.ensures (read m c.loop-j.e _ _ c.index-e-j.is (search rules))
-    (read m c.args.work.now _ _ c.index-work-q.is (search rules)) here)
+    (line_on _ _ _ _ _ _ _ _ _ c.loop-j.invariant c.lowered.ensures (held m c.loop-j.e _ _ (search rules))
+    (held m c.args.weights.now _ _ (search rules)) here)

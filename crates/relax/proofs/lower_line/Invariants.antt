@@ -5,4 +5,4 @@ use Rattle.relax.proofs.lower_line.Given as goal
 abbrev pub invariant-loop-j : goal.invariant-loop-j
 invariant-loop-j g l =
     let m = g.N.Number in
-    Line m.inf (m.values l.work) l.q (m.value l.x) (m.values l.initial.e) l.j (m.values l.e)
+    Line m.inf (m.values l.weights) 0 (m.value l.x) (m.values l.initial.e) l.j (m.values l.e)

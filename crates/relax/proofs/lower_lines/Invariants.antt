@@ -6,4 +6,4 @@ use Rattle.relax.proofs.lower_lines.Given as goal
 abbrev pub invariant-loop-i : goal.invariant-loop-i
 invariant-loop-i g l =
     let m = g.N.Number in
-    Lines m.inf summary_width (m.values l.work) l.q (m.values l.g) (m.values l.initial.e) l.i (m.values l.e)
+    Lines m.inf summary_width (m.values l.weights) 0 (m.values l.g) (m.values l.initial.e) l.i (m.values l.e)

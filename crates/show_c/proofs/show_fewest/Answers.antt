@@ -14,14 +14,14 @@ unfolding of_fewest
 returns-in-Ok-Some c =
     let asked = c.fewest in
     wrote _ _ _ _ _ _ _ _ (search rules) asked.ensures
-    (told-value of_fewest asked.result (Ok (Some _)) _ _ _ _ c.tell_2.ensures refl (search rules))
+    (told-value of_fewest asked.result (Ok (Some _)) _ _ _ _ c.tell.ensures refl (search rules))
 
 pub returns-in-Ok-None : goal.returns-in-Ok-None
 unfolding of_fewest
 returns-in-Ok-None c =
     let asked = c.fewest in
     wrote _ _ _ _ _ _ _ _ (search rules) asked.ensures
-    (told-value of_fewest asked.result (Ok None) _ _ _ _ c.tell_2-in-Ok-None.ensures refl (search rules))
+    (told-value of_fewest asked.result (Ok None) _ _ _ _ c.tell-in-Ok-None.ensures refl (search rules))
 
 pub returns-in-Err : goal.returns-in-Err
 unfolding of_fewest

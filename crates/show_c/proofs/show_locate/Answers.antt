@@ -14,7 +14,7 @@ unfolding of_locate
 returns-in-Ok c =
     let asked = c.locate in
     wrote _ _ _ _ _ _ _ _ (search rules) asked.ensures
-    (told-value of_locate asked.result (Ok _) _ _ _ _ c.tell_3.ensures refl (search rules))
+    (told-value of_locate asked.result (Ok _) _ _ _ _ c.tell.ensures refl (search rules))
 
 pub returns-in-Err : goal.returns-in-Err
 unfolding of_locate

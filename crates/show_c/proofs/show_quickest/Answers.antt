@@ -14,14 +14,14 @@ pub returns-in-Ok-Some : goal.returns-in-Ok-Some
 returns-in-Ok-Some c =
     let asked = c.quickest in
     wrote _ _ _ _ _ _ _ _ (search rules) asked.ensures
-    (told-tenths asked.result c.in-Ok-Some.n _ _ _ _ _ c.tell_3.ensures (search rules) (search rules) (search rules))
+    (told-tenths asked.result c.in-Ok-Some.n _ _ _ _ _ c.tell.ensures (search rules) (search rules) (search rules))
 
 pub returns-in-Ok-None : goal.returns-in-Ok-None
 unfolding of_quickest halves
 returns-in-Ok-None c =
     let asked = c.quickest in
     wrote _ _ _ _ _ _ _ _ (search rules) asked.ensures
-    (told-value of_quickest asked.result (Ok None) _ _ _ _ c.tell_3-in-Ok-None.ensures refl (search rules))
+    (told-value of_quickest asked.result (Ok None) _ _ _ _ c.tell-in-Ok-None.ensures refl (search rules))
 
 pub returns-in-Err : goal.returns-in-Err
 returns-in-Err c =

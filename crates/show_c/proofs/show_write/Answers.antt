@@ -14,7 +14,7 @@ unfolding of_write
 returns-in-Ok c =
     let asked = c.write in
     wrote _ _ _ _ _ _ _ _ (search rules) asked.ensures
-    (told-value of_write asked.result (Ok _) _ _ _ _ c.tell_1.ensures refl (search rules))
+    (told-value of_write asked.result (Ok _) _ _ _ _ c.tell.ensures refl (search rules))
 
 pub returns-in-Err : goal.returns-in-Err
 unfolding of_write

@@ -7,7 +7,7 @@ use Rattle.show_c.proofs.Telling.{told-refused, told-page}
 use Rattle.show_c.proofs.tell_page.Goals as goal
 
 pub returns-in-Ok : goal.returns-in-Ok
-returns-in-Ok c = told-page _ _ _ _ _ _ c.flag_of.ensures c.tell_2.ensures (search rules)
+returns-in-Ok c = told-page _ _ _ _ _ _ c.from.ensures c.tell.ensures (search rules)
 
 pub returns-in-Err : goal.returns-in-Err
 unfolding of_list

@@ -10,7 +10,7 @@ pub returns-in-Ok : goal.returns-in-Ok
 unfolding of_read
 returns-in-Ok c =
     let answer = c.args.answer in
-    told-value of_read answer (Ok _) _ _ _ _ c.tell_3.ensures refl (search rules)
+    told-value of_read answer (Ok _) _ _ _ _ c.tell.ensures refl (search rules)
 
 pub returns-in-Err : goal.returns-in-Err
 unfolding of_read

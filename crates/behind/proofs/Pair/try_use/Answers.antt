@@ -10,17 +10,17 @@ joins-joins-requires c =
     let pre = c.requires in
     used_block _ (uses-use g pre.0.block pre.1) c.used-k.ensures.0
 
-pub returns-then-joins-from : goal.returns-then-joins-from
-returns-then-joins-from c =
+pub returns-in_default : goal.returns-in_default
+returns-in_default c =
     let g = c.args.show.now.loaded in
     let pre = c.requires in
-    unmet_from g _ pre.0 _ pre.1 _ pre.2 _ _ _ c.used-k.ensures.0 c.joins-joins.ensures.0 c.join_at-from.ensures c.if-joins-from.true
+    unmet_from g _ pre.0 _ pre.1 _ pre.2 _ _ _ c.used-k.ensures.0 c.joins-joins.ensures.0 c.in_default.ensures.value (omega arith)
 
-pub returns-then-joins-to : goal.returns-then-joins-to
-returns-then-joins-to c =
+pub returns-in_default-join_at : goal.returns-in_default-join_at
+returns-in_default-join_at c =
     let g = c.args.show.now.loaded in
     let pre = c.requires in
-    unmet_to g _ pre.0 _ pre.1 _ pre.2 _ _ _ c.used-k.ensures.0 c.joins-joins.ensures.0 c.join_at-to.ensures c.if-joins-to.true
+    unmet_to g _ pre.0 _ pre.1 _ pre.2 _ _ _ c.used-k.ensures.0 c.joins-joins.ensures.0 c.in_default-join_at.ensures.value (omega arith)
 
 pub level_at-level-requires : goal.level_at-level-requires
 level_at-level-requires c =
@@ -28,20 +28,20 @@ level_at-level-requires c =
     let pre = c.requires in
     let row = uses-use g pre.0.block pre.1 in (
       omega (arith, pre.0.levels.long, row.lower, row.block, (loaded-show g).blocks, c.used-k.ensures.0),
-      omega (arith, c.if-joins-from.false, c.joins-joins.ensures.1),
-      omega (arith, c.if-joins-to.false, c.joins-joins.ensures.1),
+      omega (arith, c.in-Some.ensures.some, c.joins-joins.ensures.1),
+      omega (arith, c.in-Some-join_at.ensures.some, c.joins-joins.ensures.1),
     )
 
 pub returns-then-beats : goal.returns-then-beats
 returns-then-beats c =
     let g = c.args.show.now.loaded in
     let pre = c.requires in
-    tried_better g _ pre.0 _ pre.1 _ pre.2 _ _ _ _ _ c.used-k.ensures.0 c.joins-joins.ensures.0 c.join_at-from.ensures
-    c.join_at-to.ensures c.if-joins-from.false c.if-joins-to.false c.level_at-level.ensures _ c.beats.ensures c.if-beats.true
+    tried_better g _ pre.0 _ pre.1 _ pre.2 _ _ _ _ _ c.used-k.ensures.0 c.joins-joins.ensures.0 c.in-Some.ensures.value
+    c.in-Some-join_at.ensures.value c.in-Some.ensures.some c.in-Some-join_at.ensures.some c.level_at-level.ensures _ c.beats.ensures c.if-beats.true
 
 pub returns : goal.returns
 returns c =
     let g = c.args.show.now.loaded in
     let pre = c.requires in
-    tried_worse g _ pre.0 _ pre.1 _ pre.2 _ _ _ _ _ c.used-k.ensures.0 c.joins-joins.ensures.0 c.join_at-from.ensures
-    c.join_at-to.ensures c.if-joins-from.false c.if-joins-to.false c.level_at-level.ensures _ c.beats.ensures c.if-beats.false
+    tried_worse g _ pre.0 _ pre.1 _ pre.2 _ _ _ _ _ c.used-k.ensures.0 c.joins-joins.ensures.0 c.in-Some.ensures.value
+    c.in-Some-join_at.ensures.value c.in-Some.ensures.some c.in-Some-join_at.ensures.some c.level_at-level.ensures _ c.beats.ensures c.if-beats.false
