@@ -5,20 +5,17 @@ use mathlib.Core.Path.{◌≡◌, refl, sym, ◌∙◌, ap}
 use mathlib.Core.Bool.{Bool, true, false}
 use mathlib.Core.List.{List}
 use lib.ListN.{length}
+use Rattle.std.specs.Prelude.{Option, None, Some, IfSome, unwrap_or, Ok, Err}
+use Rattle.std.specs.Option.{ok_or}
 use Rattle.model.specs.Limits.{row_size, max_rows, max_bytes, max_depth, max_blocks}
 use Rattle.model.specs.Rows.{rows_from, row_count, rows_of, file_text}
 use Rattle.model.specs.Rules.{is_cue}
 use Rattle.model.specs.Blocks.{Block, blocks_of, last_block, count}
-use Rattle.model.specs.Verdicts.{refusal, verdict}
+use Rattle.model.specs.Verdicts.{refusal, verdict, Accepted}
 use Rattle.model.specs.Paths.{place_in}
 use Rattle.model.specs.Lists.{overwrite}
-use Rattle.model.specs.Answers.{of_read, of_write, of_locate, of_number}
+use Rattle.model.specs.Answers.{of_read, of_write, of_locate, of_number, NumberAnswer, show_size, cue_place}
 use Rattle.model.specs.Questions.{outcome, refuse, answer, read_into, write_into, located, locate_in, numbered}
-use Rattle.model.specs.declared.Verdict.TheVariants.{Accepted}
-use Rattle.model.specs.declared.ReadAnswer.TheVariants.{Read, Refused as ReadRefused}
-use Rattle.model.specs.declared.WriteAnswer.TheVariants.{Written, Refused as WriteRefused}
-use Rattle.model.specs.declared.LocateAnswer.TheVariants.{Found, Refused as LocateRefused}
-use Rattle.model.specs.declared.NumberAnswer.TheVariants.{Number, Refused as NumberRefused}
 use Rattle.shows.specs.Numbering.{IsPlace}
 use Rattle.basics.proofs.Choices.{eq_then, eq_else}
 use Rattle.shows.proofs.Accepted.{accepted-show}
@@ -33,19 +30,19 @@ use Rattle.answers.proofs.Outcomes.{cue-no, cue-yes}
 
 -- Locating.
 pub locate-room : (bs : List Block) (n : ℕ) (path : List ℕ) → length path < max_depth
-    → outcome (of_locate (LocateRefused (record { number = 11; place = 0 }))) path ≡ locate_in bs n path
+    → outcome (of_locate (Err (record { number = 11; place = 0 }))) path ≡ locate_in bs n path
 unfolding of_locate locate_in refuse refusal
 locate-room bs n path h = sym (no_room max_depth path _ h)
 
 -- b is the test of cue n.
 module _ (xs t : List ℕ) (g : Loaded xs t) (n cues : ℕ) (b : Bool) (q : b ≡ is_cue cues n) (e : cues ≡ count (blocks_of xs)) (path : List ℕ)
     (room : max_depth ≤ length path) where
-  pub locate-no : b ≡ false → outcome (of_locate (LocateRefused (record { number = 12; place = 0 }))) path ≡ locate_in (blocks_of xs) n path
+  pub locate-no : b ≡ false → outcome (of_locate (Err (record { number = 12; place = 0 }))) path ≡ locate_in (blocks_of xs) n path
   unfolding of_locate locate_in refuse refusal
   locate-no k = sym (has_room max_depth path _ room ∙ no_cue (blocks_of xs) n path _ (cue-no (blocks_of xs) n cues b q e k))
 
-  pub locate-asks : b ≡ true → Loaded xs t × (1 ≤ n) × (n ≤ count (blocks_of xs)) × (max_depth ≤ length path)
-  locate-asks k = let c = cue-yes (blocks_of xs) n cues b q e k in (g, c.0, c.1, room)
+  pub locate-asks : b ≡ true → (1 ≤ n) × (n ≤ count (blocks_of xs)) × (max_depth ≤ length path)
+  locate-asks k = let c = cue-yes (blocks_of xs) n cues b q e k in (c.0, c.1, room)
 
   -- What was found is small.
   pub found-few : (r : Place) → b ≡ true → r ≡ place_of n (place_in (blocks_of xs) (last_block (blocks_of xs)) n)
@@ -58,20 +55,18 @@ module _ (xs t : List ℕ) (g : Loaded xs t) (n cues : ℕ) (b : Bool) (q : b �
 
   pub locate-found : (r : Place) (d m : ℕ) (after : List ℕ) → b ≡ true → r ≡ place_of n (place_in (blocks_of xs) (last_block (blocks_of xs)) n)
       → d ≡ r.depth → m ≡ r.block → after ≡ overwrite (place_in (blocks_of xs) (last_block (blocks_of xs)) n).path path
-      → outcome (of_locate (Found d m r.own)) after ≡ locate_in (blocks_of xs) n path
+      → outcome (of_locate (Ok (cue_place d m r.own))) after ≡ locate_in (blocks_of xs) n path
   unfolding of_locate locate_in located answer
   locate-found r d m after k f ed em a =
       let c = cue-yes (blocks_of xs) n cues b q e k in
       rw (ed, em, f, a) (sym (has_room max_depth path _ room ∙ has-cue (blocks_of xs) n path _ c.0 c.1))
 
--- Numbering: n is what was found.
-pub number-none : (n m : ℕ) → n ≡ m → n ≡ 0 → of_number (NumberRefused (record { number = 13; place = 0 })) ≡ numbered m
+-- Numbering: what was found, if anything.
+pub number-told : (o : Option ℕ) (r : NumberAnswer) (m : ℕ) → r ≡ ok_or o (record { number = 13; place = 0 }) → unwrap_or o 0 ≡ m → IfSome o (λ n. 0 < n)
+    → of_number r ≡ numbered m
 unfolding of_number numbered refusal
-number-none n m q e = sym (eq_then _ _ _ _ (sym q ∙ e))
-
-pub number-some : (n m : ℕ) → n ≡ m → (n ≡ 0 → ⊥) → of_number (Number n) ≡ numbered m
-unfolding of_number numbered
-number-some n m q e = rw (← q) (sym (eq_else _ _ _ _ e))
+number-told None r m a b c = rw a (sym (eq_then _ _ _ _ (sym b)))
+number-told (Some n) r m a b c = rw (a, ← b) (sym (eq_else _ _ _ _ (λ e. omega (arith, c))))
 
 -- Writing.
 abbrev text : List ℕ → List ℕ
@@ -89,12 +84,12 @@ pub text-few : (xs : List ℕ) (n : ℕ) → verdict xs ≡ Accepted → n ≡ l
 text-few xs n v e = rw (e, same_text xs) (rows_fit xs v)
 
 module _ (xs out : List ℕ) (n : ℕ) (e : n ≡ length (text xs)) where
-  pub write-room : length out < n → outcome (of_write (WriteRefused (record { number = 11; place = 0 }))) out ≡ write_into (file_text (rows_of xs)) out
+  pub write-room : length out < n → outcome (of_write (Err (record { number = 11; place = 0 }))) out ≡ write_into (file_text (rows_of xs)) out
   unfolding of_write write_into refuse refusal
   write-room h = sym (no_room (length (file_text (rows_of xs))) out _ (rw (e, same_text xs) at h))
 
   pub write_done : (m : ℕ) (after : List ℕ) → m ≡ n → n ≤ length out → after ≡ overwrite (text xs) out
-      → outcome (of_write (Written m)) after ≡ write_into (file_text (rows_of xs)) out
+      → outcome (of_write (Ok m)) after ≡ write_into (file_text (rows_of xs)) out
   unfolding of_write write_into answer
   write_done m after em h a =
       let q : n ≡ length (file_text (rows_of xs)) = e ∙ ap length (same_text xs) in
@@ -102,13 +97,13 @@ module _ (xs out : List ℕ) (n : ℕ) (e : n ≡ length (text xs)) where
 
 -- Reading.
 module _ (xs t : List ℕ) (g : Loaded xs t) (out : List ℕ) where
-  pub read-room : length out < length xs → outcome (of_read (ReadRefused (record { number = 11; place = 0 }))) out ≡ read_into xs out
+  pub read-room : length out < length xs → outcome (of_read (Err (record { number = 11; place = 0 }))) out ≡ read_into xs out
   unfolding of_read read_into refuse refusal
   read-room h = sym (no_room (length xs) out _ h)
 
   pub read_done : (many last blocks cues : ℕ) (after : List ℕ) → length xs ≤ length out → after ≡ overwrite xs out → many ≡ length xs / row_size
       → last ≡ last_block (blocks_of xs) → blocks ≡ last + 1 → cues ≡ count (blocks_of xs)
-      → outcome (of_read (Read many blocks cues)) after ≡ read_into xs out
+      → outcome (of_read (Ok (show_size many blocks cues))) after ≡ read_into xs out
   unfolding of_read read_into answer row_count last_block
   read_done many last blocks cues after h a em el eb ec =
       let n : blocks ≡ length (blocks_of xs) = omega (arith, el, eb, (loaded-show g).blocks) in

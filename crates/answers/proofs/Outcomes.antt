@@ -12,7 +12,7 @@ use Rattle.model.specs.Questions.{Outcome, refuse, with_room, with_cue}
 use Rattle.basics.proofs.Choices.{true_then, true_else}
 use Rattle.shows.proofs.Passed.{is_cue-bounds}
 use Rattle.shows.proofs.Outcomes.{has_room}
-use Rattle.answers.specs.Asked.{are_cues, ShowCue}
+use Rattle.answers.specs.Asked.{are_cues}
 
 -- b is the test of cue n, and cues the count, as the code has them: a number that is no cue, and a cue.
 module _ (bs : List Block) (n cues : ℕ) (b : Bool) (q : b ≡ is_cue cues n) (e : cues ≡ count bs) where
@@ -47,10 +47,9 @@ module _ (lent : List ℕ) (o : Outcome) (need : ℕ) (h : need ≤ length lent)
   has-cues w k f = f ∙ sym (true_then _ _ _ k) ∙ asked_both
 
 -- Both are cues of the show.
-pub cues-yes : (xs : List ℕ) (s t cues : ℕ) (b : Bool) → b ≡ are_cues cues s t → cues ≡ count (blocks_of xs) → b ≡ true → ShowCue xs s × ShowCue xs t
+pub cues-yes : (xs : List ℕ) (s t cues : ℕ) (b : Bool) → b ≡ are_cues cues s t → cues ≡ count (blocks_of xs) → b ≡ true
+    → ((1 ≤ s) × (s ≤ count (blocks_of xs))) × ((1 ≤ t) × (t ≤ count (blocks_of xs)))
 unfolding are_cues
 cues-yes xs s t cues b q e k =
     let (l, r) = both_true (is_cue cues s) (is_cue cues t) (sym q ∙ k) in
-    let c = cue-yes (blocks_of xs) s cues true (sym l) e refl in
-    let d = cue-yes (blocks_of xs) t cues true (sym r) e refl in
-    (record { low = c.0; high = c.1 }, record { low = d.0; high = d.1 })
+    (cue-yes (blocks_of xs) s cues true (sym l) e refl, cue-yes (blocks_of xs) t cues true (sym r) e refl)

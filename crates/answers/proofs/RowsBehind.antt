@@ -1,38 +1,25 @@
 -- The row behind a follow-on: from the rows of the uses that lead to its copy to the copy's path.
-use Prim.Native.Nat.{ℕ, ◌-◌, ◌≤◌, ◌<◌}
+use Prim.Native.Nat.{ℕ, ◌≤◌, ◌<◌}
 use native.Mathlib.Omega.{arith}
 use mathlib.Core.Path.{◌≡◌, ◌∙◌}
-use mathlib.Core.Bool.{Bool, true, false}
 use mathlib.Core.List.{List}
 use lib.ListN.{length, take}
 use lib.Seq.{length-take-le, get_or-take, ext_get_or}
-use Rattle.model.specs.Choice.{if_true}
+use Rattle.std.specs.Prelude.{Ok, Err}
 use Rattle.model.specs.Limits.{max_depth}
 use Rattle.model.specs.Verdicts.{refusal}
 use Rattle.model.specs.Lists.{overwrite}
-use Rattle.model.specs.Behind.{behind}
-use Rattle.model.specs.Answers.{of_row}
+use Rattle.model.specs.Behind.{behind, Missing}
+use Rattle.model.specs.Answers.{of_row, row_at_depth}
 use Rattle.model.specs.Questions.{outcome, refuse, answer, row_found}
-use Rattle.model.specs.declared.RowAnswer.TheVariants.{Row, Refused as RowRefused}
 use Rattle.paths.specs.Locating.{Down, Positions}
-use Rattle.behind.specs.Ways.{StandsAt, RowBehind, source_of, target_of}
-use Rattle.behind.specs.declared.RowAt.{RowAt}
-
--- Cue u is the one whose place was found: the link leads to it, or from it.
-module _ {xs t rows : List ℕ} {s v u : ℕ} {r : RowAt} (inward : Bool) where
-  pub behind-in : inward ≡ true → u ≡ v → RowBehind xs t rows (source_of inward u s) (target_of inward u s) r → RowBehind xs t rows s v r
-  unfolding source_of target_of if_true
-  behind-in b e p = rw (b, e) at p
-
-  pub behind-out : inward ≡ false → u ≡ s → RowBehind xs t rows (source_of inward u v) (target_of inward u v) r → RowBehind xs t rows s v r
-  unfolding source_of target_of if_true
-  behind-out b e p = rw (b, e) at p
+use Rattle.behind.specs.Ways.{StandsAt}
 
 -- No row.
-pub row-none : (xs t rows : List ℕ) (s v : ℕ) (r : RowAt) (path : List ℕ) → RowBehind xs t rows s v r → r.row ≡ 0
-    → outcome (of_row (RowRefused (record { number = 14; place = 0 }))) path ≡ row_found (behind xs s v) path
+pub row-none : (xs : List ℕ) (s v : ℕ) (path : List ℕ) → behind xs s v ≡ Missing
+    → outcome (of_row (Err (record { number = 14; place = 0 }))) path ≡ row_found (behind xs s v) path
 unfolding of_row row_found refuse refusal
-row-none xs t rows s v r path p e = rw (p.none e)
+row-none xs s v path e = rw e
 
 -- One row: the uses that lead to it are those of a way down, and their positions the path.
 module _ {xs t rows : List ℕ} {s v row depth : ℕ} (z : StandsAt xs t rows s v row depth) where
@@ -45,20 +32,17 @@ module _ {xs t rows : List ℕ} {s v row depth : ℕ} (z : StandsAt xs t rows s 
         at = λ l h. let j : l < length z.path = omega (arith, z.deep) in record { row = a.at l j; from = z.leading.begin l j };
       }
 
-  stands-path : (after : List ℕ) → Positions xs t rows depth after → take (depth - 0) after ≡ z.path
+  stands-path : (after : List ℕ) → Positions xs t rows depth after → take depth after ≡ z.path
   stands-path after p =
-      let all : depth - 0 ≡ depth = omega arith in
       let size : length (take depth after) ≡ depth = length-take-le depth after (omega (arith, p.long, stands-down.long)) in
-      rw all
-      (ext_get_or 0 (take depth after) z.path (size ∙ z.deep)
-      (λ l h.
-      get_or-take depth after l 0 (omega arith) ∙ omega (arith, p.done l (omega arith), z.leading.along.steps l (omega (arith, z.deep)))))
+      ext_get_or 0 (take depth after) z.path (size ∙ z.deep)
+      (λ l h. get_or-take depth after l 0 (omega arith) ∙ omega (arith, p.done l (omega arith), z.leading.along.steps l (omega (arith, z.deep))))
 
   module _ (after : List ℕ) (p : Positions xs t rows depth after) where
-    pub path-few : length (take (depth - 0) after) ≤ max_depth
+    pub path-few : length (take depth after) ≤ max_depth
     path-few = rw (stands-path after p) (omega (arith, z.deep, z.few))
 
-    pub row-stands : (d : ℕ) (path final : List ℕ) → d ≡ depth → final ≡ overwrite (take (depth - 0) after) path
-        → outcome (of_row (Row row d)) final ≡ row_found (behind xs s v) path
+    pub row-stands : (d : ℕ) (path final : List ℕ) → d ≡ depth → final ≡ overwrite (take depth after) path
+        → outcome (of_row (Ok (row_at_depth row d))) final ≡ row_found (behind xs s v) path
     unfolding of_row row_found answer
     row-stands d path final e w = rw (z.is, w, e, stands-path after p, z.deep)

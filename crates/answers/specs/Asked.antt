@@ -21,11 +21,6 @@ list_asked inward xs v n page = on_accepted (verdict xs) (λ r. refuse r page) (
 unfoldable pub are_cues : ℕ → ℕ → ℕ → Bool
 are_cues cues s t = if_true (is_cue cues s) (is_cue cues t) false
 
--- v is one of the cues of the show that the rows are.
-pub record ShowCue (xs : List ℕ) (v : ℕ) : Type 0 where
-  pub low : 1 ≤ v
-  pub high : v ≤ count (blocks_of xs)
-
 -- "Fewest from s to t", where both are cues and the work area is large enough.
 unfoldable pub between : List Block → ℕ → ℕ → List ℕ → Outcome
 between bs s t work = answer (distance_values (fewest (show_links bs) (count bs) s t)) (work_after bs work)

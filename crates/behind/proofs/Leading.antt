@@ -3,9 +3,9 @@ use Prim.Native.Nat.{ℕ, suc, ◌+◌, ◌-◌, ◌≤◌, ◌<◌}
 use native.Mathlib.Omega.{arith}
 use mathlib.Core.Path.{◌≡◌, refl, sym, ◌∙◌, ap, ap₂}
 use mathlib.Core.List.{List, map}
+use Rattle.std.specs.Prelude.{Option, None}
 use Rattle.model.specs.Blocks.{Use, Block, block_at, own_of, total, blocks_of}
 use Rattle.model.specs.Behind.{Origin, step_into, uses_traced, traced, opening_row, origins, Behind, Missing, winner, best}
-use Rattle.basics.proofs.Choices.{eq_then}
 use Rattle.shows.specs.Copies.{Copy, number, copy_of}
 use Rattle.shows.specs.Origins.{into}
 use Rattle.shows.proofs.Choosing.{winner-none, winner-assoc, best-append, best-into}
@@ -47,15 +47,11 @@ module _ {xs t : List ℕ} (g : Loaded xs t) (c : Pair) {first end : ℕ} (rows 
       (ap₂ (λ (q d : ℕ). best (origins s v (uses_traced (total bs) (traced (opening_row xs) bs) (number z) q d us))) n
       (inner_base-on g c.block base rows r x y))
 
-  pub lead-begin : (b : Lead) → b.level ≡ 0 → LeadsTo xs t c first end first b
+  pub lead-begin : LeadsTo xs t c first end first None
   unfolding led_to winner
-  lead-begin b e =
-      record {
-        lead = record { led = λ n. absurd (n e) };
-        best = λ base met s. sym (ap (λ (a : Behind). winner a (parts_best xs t c base met first end)) (eq_then b.level 0 _ _ e));
-      }
+  lead-begin = record { lead = tt; best = λ base met s. refl }
 
-  pub lead-on : (r : ℕ) (old new : Lead) → LeadsTo xs t c first end r old → first ≤ r → r < end → Tried xs t c r old new → LeadsTo xs t c first end (r + 1) new
+  pub lead-on : (r : ℕ) (old new : Option Lead) → LeadsTo xs t c first end r old → first ≤ r → r < end → Tried xs t c r old new → LeadsTo xs t c first end (r + 1) new
   lead-on r old new l x y tried =
       record {
         lead = tried.lead;
@@ -68,7 +64,7 @@ module _ {xs t : List ℕ} (g : Loaded xs t) (c : Pair) {first end : ℕ} (rows 
             ∙ ap (λ (a : Behind). winner a rest) (tried.won base met s);
       }
 
-  pub lead-done : (r : ℕ) (b : Lead) → LeadsTo xs t c first end r b → end ≤ r → BestLead xs t c b
+  pub lead-done : (r : ℕ) (b : Option Lead) → LeadsTo xs t c first end r b → end ≤ r → BestLead xs t c b
   unfolding uses_traced uses_from origins best
   lead-done r b l h =
       record {

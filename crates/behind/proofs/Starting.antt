@@ -33,8 +33,7 @@ use Rattle.copies.specs.ByRows.{step_on, copy_on}
 use Rattle.copies.proofs.ByRows.{top_sound, copy-suc, block-suc, step_is, step-bounds, part-use_is, own-bounds, cue-is, cue-numbered, end_after}
 use Rattle.levels.specs.Tables.{Levels}
 use Rattle.behind.specs.declared.Pair.{Pair}
-use Rattle.behind.specs.declared.RowAt.{RowAt}
-use Rattle.behind.specs.Ways.{SeenAs, Leading, Reaches, RowBehind, MayWalk, source_of, target_of}
+use Rattle.behind.specs.Ways.{SeenAs, Leading, Reaches, MayWalk, source_of, target_of}
 use Rattle.behind.proofs.Walking.{into_all-none, into_all-snoc, sound-as}
 
 -- In a sound copy with an own cue of number w: a number v that is not above it and no cue of the block has no link there.
@@ -184,9 +183,9 @@ module _ {xs t rows : List ℕ} {q : Place} (g : Loaded xs t) (f : Found xs t ro
   abbrev bs : List Block
   bs = blocks_of xs
 
-  pub not_seen : (r : RowAt) → w ≤ q.cue → c ≡ 0 → r.row ≡ 0 → RowBehind xs t rows (source_of inward q.cue w) (target_of inward q.cue w) r
+  pub not_seen : w ≤ q.cue → c ≡ 0 → behind xs (source_of inward q.cue w) (target_of inward q.cue w) ≡ Missing
   unfolding source_of target_of if_true
-  not_seen r low e er = record { none = λ n. missing inward; some = λ n. absurd (n er) }
+  not_seen low e = missing inward
     where
       missing : (inward : Bool) → behind xs (source_of inward q.cue w) (target_of inward q.cue w) ≡ Missing
       missing true = unseen-none g f w q.cue (inr refl) z at w low (inl refl) (rw e at seen)

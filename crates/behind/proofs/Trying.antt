@@ -6,6 +6,7 @@ use mathlib.Core.Path.{◌≡◌, refl, sym, ◌∙◌, ap, ap₂}
 use mathlib.Core.Logic.{◌≢◌, inl, inr}
 use mathlib.Core.Bool.{Bool, true, false, false≢true}
 use mathlib.Core.List.{List}
+use Rattle.std.specs.Prelude.{Option, None, Some}
 use lib.ListN.{length, get_or}
 use Rattle.model.specs.Blocks.{Block, joins_of, own_of, blocks_of}
 use Rattle.model.specs.Behind.{Origin, opening_row, depth_wins, Behind, Stands, Missing, winner, best}
@@ -27,7 +28,7 @@ use Rattle.levels.specs.Tables.{IsLevel, join_cue, used_joins}
 use Rattle.levels.proofs.Best.{join_meets}
 use Rattle.behind.specs.declared.Pair.{Pair}
 use Rattle.behind.specs.declared.Lead.{Lead}
-use Rattle.behind.specs.Leads.{beats_level, step_of, MayLead, UsesRow, Led, IsLead, part_best, led_to, Tried}
+use Rattle.behind.specs.Leads.{beats_level, step_of, MayLead, UsesRow, Led, IsLead, level_of, part_best, led_to, Tried}
 
 -- What a level says of the best link.
 level-none : (b : Behind) → level b ≡ 0 → b ≡ Missing
@@ -72,43 +73,32 @@ module _ {xs t m : List ℕ} (g : Loaded xs t) (c : Pair) (may : MayLead xs m c)
   led-level r b l base met s =
       part-level b.row b.from b.to b.level l.row l.from-join l.to-join l.from-cue l.to-cue l.level base met s
 
-  -- Where the lead's level is none, and where it is not.
-  pub led-none : (b : Lead) (base : ℕ) (met : List ℕ) → b.level ≡ 0 → led_to xs t c base met b ≡ Missing
-  unfolding led_to
-  led-none b base met e = eq_then b.level 0 _ _ e
-
-  pub led-some : (b : Lead) (base : ℕ) (met : List ℕ) → b.level ≢ 0
-      → led_to xs t c base met b ≡ into (step_of t c.block b.row) (part_best xs t c base met b.row)
-  unfolding led_to
-  led-some b base met n = eq_else b.level 0 _ _ n
-
-  later : (r : ℕ) (b : Lead) → IsLead xs t c r b → IsLead xs t c (r + 1) b
-  later r b l =
+  later : (r : ℕ) (o : Option Lead) → IsLead xs t c r o → IsLead xs t c (r + 1) o
+  later r None l = tt
+  later r (Some b) d =
       record {
-        led = λ n. let d = l.led n in
-            record {
-              row = d.row;
-              earlier = omega (arith, d.earlier);
-              from-join = d.from-join;
-              to-join = d.to-join;
-              from-cue = d.from-cue;
-              to-cue = d.to-cue;
-              level = d.level;
-            };
+        row = d.row;
+        earlier = omega (arith, d.earlier);
+        from-join = d.from-join;
+        to-join = d.to-join;
+        from-cue = d.from-cue;
+        to-cue = d.to-cue;
+        level = d.level;
+        some = d.some;
       }
 
-  module _ (r : ℕ) (u : UsesRow xs t c.block r) (old : Lead) (l : IsLead xs t c r old) where
-    -- No link comes from the part: the lead stays.
-    kept : ((base : ℕ) (met : List ℕ) → Sound (z base met) → part_best xs t c base met r ≡ Missing) → Tried xs t c r old old
-    unfolding into
-    kept none =
-        record {
-          lead = later r old l;
-          won = λ base met s.
-              ap (λ (b : Behind). winner (led_to xs t c base met old) (into (step_of t c.block r) b)) (none base met s)
-              ∙ winner-none (led_to xs t c base met old);
-        }
+  -- No link comes from the part that the use of row r makes: the lead stays.
+  kept_as : (r : ℕ) (o : Option Lead) → IsLead xs t c r o → ((base : ℕ) (met : List ℕ) → Sound (z base met) → part_best xs t c base met r ≡ Missing) → Tried xs t c r o o
+  unfolding into
+  kept_as r o l none =
+      record {
+        lead = later r o l;
+        won = λ base met s.
+            ap (λ (b : Behind). winner (led_to xs t c base met o) (into (step_of t c.block r) b)) (none base met s)
+            ∙ winner-none (led_to xs t c base met o);
+      }
 
+  module _ (r : ℕ) (u : UsesRow xs t c.block r) (old : Option Lead) (l : IsLead xs t c r old) where
     -- One of the two cues is met by no join of the use.
     row : UseRow xs c.block r
     row = uses-use g may.block u
@@ -116,14 +106,14 @@ module _ {xs t m : List ℕ} (g : Loaded xs t) (c : Pair) (may : MayLead xs m c)
     pub unmet_from : (b joins i : ℕ) → b ≡ (use_at xs bs r).block → joins ≡ joins_of bs b → IsJoinAt xs r joins c.from i → joins ≤ i → Tried xs t c r old old
     unfolding best
     unmet_from b joins i eb ej p h =
-        kept (λ base met s. ap best
+        kept_as r old l (λ base met s. ap best
         (part-unmet (opening_row xs) bs c.block base met s _ _ (row_part xs t c.block base r) (row-part g u base met) c.from may.from
         (λ m. let (a, x, e) = mem_at c.from m in use_apart row eb ej p a h x e) (inl refl)))
 
     pub unmet_to : (b joins j : ℕ) → b ≡ (use_at xs bs r).block → joins ≡ joins_of bs b → IsJoinAt xs r joins c.to j → joins ≤ j → Tried xs t c r old old
     unfolding best
     unmet_to b joins j eb ej p h =
-        kept (λ base met s. ap best
+        kept_as r old l (λ base met s. ap best
         (part-unmet (opening_row xs) bs c.block base met s _ _ (row_part xs t c.block base r) (row-part g u base met) c.to may.to
         (λ m. let (a, x, e) = mem_at c.to m in use_apart row eb ej p a h x e) (inr refl)))
 
@@ -145,68 +135,66 @@ module _ {xs t m : List ℕ} (g : Loaded xs t) (c : Pair) (may : MayLead xs m c)
       new-level base met s =
           part-level r i j n u (omega (arith, many)) (omega (arith, many)) (use_meets row eb ej p hi) (use_meets row eb ej q hj) right base met s
 
-      new-lead : IsLead xs t c (r + 1) new
-      new-lead =
+      new-lead : n ≢ 0 → IsLead xs t c (r + 1) (Some new)
+      new-lead h =
           record {
-            led = λ h.
-                record {
-                  row = u;
-                  earlier = omega arith;
-                  from-join = omega (arith, many);
-                  to-join = omega (arith, many);
-                  from-cue = use_meets row eb ej p hi;
-                  to-cue = use_meets row eb ej q hj;
-                  level = right;
-                };
+            row = u;
+            earlier = omega arith;
+            from-join = omega (arith, many);
+            to-join = omega (arith, many);
+            from-cue = use_meets row eb ej p hi;
+            to-cue = use_meets row eb ej q hj;
+            level = right;
+            some = h;
           }
 
-      step-earlier : old.level ≢ 0 → step_of t c.block old.row < step_of t c.block r
-      step-earlier h = let d = l.led h in omega (arith, d.earlier, d.row.low, d.row.rows.begin)
+      step-earlier : (b : Lead) → Led xs t c r b → step_of t c.block b.row < step_of t c.block r
+      step-earlier b d = omega (arith, d.earlier, d.row.low, d.row.rows.begin)
 
       -- Both have links: which of the two is better.
-      both : (base : ℕ) (met : List ℕ) → Sound (z base met) → n ≢ 0 → old.level ≢ 0
-          → (x : Origin) × (y : Origin) × (led_to xs t c base met old ≡ into (step_of t c.block old.row) (Stands x))
-          × (part_best xs t c base met r ≡ Stands y) × (depth_wins (length y.path) (length x.path) ≡ depth_wins n old.level)
-      both base met s hn ho =
-          let (x, ex, lx) = level-some (part_best xs t c base met old.row) old.level (led-level r old (l.led ho) base met s) ho in
+      both : (b : Lead) → Led xs t c r b → (base : ℕ) (met : List ℕ) → Sound (z base met) → n ≢ 0
+          → (x : Origin) × (y : Origin) × (led_to xs t c base met (Some b) ≡ into (step_of t c.block b.row) (Stands x))
+          × (part_best xs t c base met r ≡ Stands y) × (depth_wins (length y.path) (length x.path) ≡ depth_wins n b.level)
+      unfolding led_to
+      both b d base met s hn =
+          let (x, ex, lx) = level-some (part_best xs t c base met b.row) b.level (led-level r b d base met s) d.some in
           let (y, ey, ly) = level-some (part_best xs t c base met r) n (new-level base met s) hn in
-          (x, y, led-some old base met ho ∙ ap (into (step_of t c.block old.row)) ex, ey, sym (depth-step (length y.path) (length x.path)) ∙ sym (ap₂ depth_wins ly lx))
+          (x, y, ap (into (step_of t c.block b.row)) ex, ey, sym (depth-step (length y.path) (length x.path)) ∙ sym (ap₂ depth_wins ly lx))
 
-      better-won : n ≢ 0 → old.level ≢ 0 → depth_wins n old.level ≡ true → (base : ℕ) (met : List ℕ) → Sound (z base met)
-          → winner (led_to xs t c base met old) (into (step_of t c.block r) (part_best xs t c base met r)) ≡ led_to xs t c base met new
-      better-won hn ho w base met s =
-          let (x, y, ex, ey, d) = both base met s hn ho in
+      better-won : (b : Lead) → Led xs t c r b → n ≢ 0 → depth_wins n b.level ≡ true → (base : ℕ) (met : List ℕ) → Sound (z base met)
+          → winner (led_to xs t c base met (Some b)) (into (step_of t c.block r) (part_best xs t c base met r)) ≡ led_to xs t c base met (Some new)
+      unfolding led_to
+      better-won b d hn w base met s =
+          let (x, y, ex, ey, f) = both b d base met s hn in
           ap₂ winner ex (ap (into (step_of t c.block r)) ey)
-          ∙ into-second (step_of t c.block old.row) (step_of t c.block r) x y (d ∙ w)
-          ∙ sym (led-some new base met hn ∙ ap (into (step_of t c.block r)) ey)
+          ∙ into-second (step_of t c.block b.row) (step_of t c.block r) x y (f ∙ w)
+          ∙ sym (ap (into (step_of t c.block r)) ey)
 
-      worse_won : n ≢ 0 → old.level ≢ 0 → depth_wins n old.level ≡ false → (base : ℕ) (met : List ℕ) → Sound (z base met)
-          → winner (led_to xs t c base met old) (into (step_of t c.block r) (part_best xs t c base met r)) ≡ led_to xs t c base met old
-      worse_won hn ho w base met s =
-          let (x, y, ex, ey, d) = both base met s hn ho in
+      worse_won : (b : Lead) → Led xs t c r b → n ≢ 0 → depth_wins n b.level ≡ false → (base : ℕ) (met : List ℕ) → Sound (z base met)
+          → winner (led_to xs t c base met (Some b)) (into (step_of t c.block r) (part_best xs t c base met r)) ≡ led_to xs t c base met (Some b)
+      worse_won b d hn w base met s =
+          let (x, y, ex, ey, f) = both b d base met s hn in
           ap₂ winner ex (ap (into (step_of t c.block r)) ey)
-          ∙ into-first (step_of t c.block old.row) (step_of t c.block r) x y (step-earlier ho) (d ∙ w)
+          ∙ into-first (step_of t c.block b.row) (step_of t c.block r) x y (step-earlier b d) (f ∙ w)
           ∙ sym ex
 
       -- The test of the code.
-      pub tried_better : (beats : Bool) → beats ≡ beats_level n old.level → beats ≡ true → Tried xs t c r old new
-      unfolding beats_level winner
-      tried_better beats e f = go (ℕ_discrete n 0) (ℕ_discrete old.level 0)
+      pub tried_better : (beats : Bool) → beats ≡ beats_level n (level_of old) → beats ≡ true → Tried xs t c r old (Some new)
+      unfolding beats_level level_of led_to winner
+      tried_better beats e f = go (ℕ_discrete n 0) old l e
         where
-          go : Dec (n ≡ 0) → Dec (old.level ≡ 0) → Tried xs t c r old new
-          go (yes x) d = absurd (false≢true (sym (eq_then n 0 _ _ x) ∙ sym e ∙ f))
-          go (no x) (yes y) =
-              record {
-                lead = new-lead;
-                won = λ base met s. ap (λ (b : Behind). winner b (into (step_of t c.block r) (part_best xs t c base met r))) (led-none old base met y) ∙ sym (led-some new base met x);
-              }
-          go (no x) (no y) = record { lead = new-lead; won = better-won x y (sym (eq_else n 0 _ _ x ∙ eq_else old.level 0 _ _ y) ∙ sym e ∙ f) }
+          go : Dec (n ≡ 0) → (o : Option Lead) → IsLead xs t c r o → beats ≡ beats_level n (level_of o) → Tried xs t c r o (Some new)
+          go (yes x) o l e = absurd (false≢true (sym (eq_then n 0 _ _ x) ∙ sym e ∙ f))
+          go (no x) None l e = record { lead = new-lead x; won = λ base met s. refl }
+          go (no x) (Some b) l e =
+              record { lead = new-lead x; won = better-won b l x (sym (eq_else n 0 _ _ x ∙ eq_else b.level 0 _ _ l.some) ∙ sym e ∙ f) }
 
-      pub tried_worse : (beats : Bool) → beats ≡ beats_level n old.level → beats ≡ false → Tried xs t c r old old
-      unfolding beats_level
-      tried_worse beats e f = go (ℕ_discrete n 0) (ℕ_discrete old.level 0)
+      pub tried_worse : (beats : Bool) → beats ≡ beats_level n (level_of old) → beats ≡ false → Tried xs t c r old old
+      unfolding beats_level level_of
+      tried_worse beats e f = go (ℕ_discrete n 0) old l e
         where
-          go : Dec (n ≡ 0) → Dec (old.level ≡ 0) → Tried xs t c r old old
-          go (yes x) d = kept (λ base met s. level-none (part_best xs t c base met r) (sym (new-level base met s) ∙ x))
-          go (no x) (yes y) = absurd (false≢true (sym f ∙ e ∙ eq_else n 0 _ _ x ∙ eq_then old.level 0 _ _ y))
-          go (no x) (no y) = record { lead = later r old l; won = worse_won x y (sym (eq_else n 0 _ _ x ∙ eq_else old.level 0 _ _ y) ∙ sym e ∙ f) }
+          go : Dec (n ≡ 0) → (o : Option Lead) → IsLead xs t c r o → beats ≡ beats_level n (level_of o) → Tried xs t c r o o
+          go (yes x) o l e = kept_as r o l (λ base met s. level-none (part_best xs t c base met r) (sym (new-level base met s) ∙ x))
+          go (no x) None l e = absurd (false≢true (sym f ∙ e ∙ eq_else n 0 _ _ x ∙ eq_then 0 0 _ _ refl))
+          go (no x) (Some b) l e =
+              record { lead = later r (Some b) l; won = worse_won b l x (sym (eq_else n 0 _ _ x ∙ eq_else b.level 0 _ _ l.some) ∙ sym e ∙ f) }

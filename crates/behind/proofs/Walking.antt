@@ -31,10 +31,10 @@ use Rattle.levels.proofs.Best.{here, own-next, join_meets}
 use Rattle.levels.proofs.Deep.{level-small}
 use Rattle.behind.specs.declared.Pair.{Pair}
 use Rattle.behind.specs.declared.Lead.{Lead}
-use Rattle.behind.specs.declared.RowAt.{RowAt}
-use Rattle.behind.specs.Leads.{row_between, stays_here, step_of, MayLead, Led, part_best, led_to, BestLead, MayFollow, Followed}
-use Rattle.behind.specs.Ways.{Leading, Reaches, RowBehind, MayWalk}
-use Rattle.behind.proofs.Trying.{level-some, row-part, uses-use, led-level, led-none, led-some}
+use Rattle.behind.specs.Leads.{row_between, stays_here, step_of, MayLead, Led, part_best, led_to, BestLead, IsFound, IsLead, level_of, MayFollow, Followed}
+use Rattle.behind.specs.Ways.{Leading, Reaches, StandsAt, MayWalk}
+use Rattle.std.specs.Prelude.{Option, None, Some, IfSome, unwrap_or}
+use Rattle.behind.proofs.Trying.{level-some, row-part, uses-use, led-level}
 
 -- A path in front of what a copy has.
 pub into_all-none : (path : List ℕ) → into_all path Missing ≡ Missing
@@ -182,11 +182,19 @@ module _ (xs : List ℕ) (k base : ℕ) (met : List ℕ) (g : Sound (copy_of (bl
 pub sound-as : {bs : List Block} {j k base : ℕ} {met : List ℕ} → j ≡ k → Sound (copy_of bs k base met) → Sound (copy_of bs j base met)
 sound-as e s = rw e s
 
+-- The number of a copy's own row, as the code has it.
+found_is : (o : Option ℕ) (n : ℕ) → IsFound o n → unwrap_or o 0 ≡ n
+found_is None n e = sym e
+found_is (Some k) n e = sym e.1
+
 -- The best link between two cues of a copy: that of its own row, or the one that the lead leads to.
-module _ {xs t m : List ℕ} (g : Loaded xs t) (c : Pair) (may : MayLead xs m c) {first end : ℕ} (links : LinkRows xs c.block first end) (b : Lead) (lead : BestLead xs t c b)
-    (row : ℕ) (is : row ≡ row_between c.from c.to (first + 1) (links_from xs first (end - first))) where
+module _ {xs t m : List ℕ} (g : Loaded xs t) (c : Pair) (may : MayLead xs m c) {first end : ℕ} (links : LinkRows xs c.block first end) (o : Option Lead) (lead : BestLead xs t c o)
+    (own : Option ℕ) (is : IsFound own (row_between c.from c.to (first + 1) (links_from xs first (end - first)))) where
   abbrev all : List Block
   all = blocks_of xs
+
+  abbrev row : ℕ
+  row = unwrap_or own 0
 
   abbrev copy : ℕ → List ℕ → Copy
   copy base met = copy_of all c.block base met
@@ -195,7 +203,7 @@ module _ {xs t m : List ℕ} (g : Loaded xs t) (c : Pair) (may : MayLead xs m c)
   whole base met =
       best (origins (number (copy base met) c.from) (number (copy base met) c.to) (traced (opening_row xs) all c.block base met))
 
-  copy-best : (base : ℕ) (met : List ℕ) → Sound (copy base met) → whole base met ≡ winner (own_best row) (led_to xs t c base met b)
+  copy-best : (base : ℕ) (met : List ℕ) → Sound (copy base met) → whole base met ≡ winner (own_best row) (led_to xs t c base met o)
   unfolding own_of
   copy-best base met s =
       ap best (copy-origins (opening_row xs) all c.block base met s _ _)
@@ -203,7 +211,7 @@ module _ {xs t m : List ℕ} (g : Loaded xs t) (c : Pair) (may : MayLead xs m c)
       ∙ ap₂ winner
       (own-best xs c.block base met s c.from c.to may.from may.to (suc (opening_row xs c.block)) (block_at all c.block).links (omega arith)
       (λ l i. s.fit.good.links l i)
-      ∙ ap own_best (sym (is ∙ same)))
+      ∙ ap own_best (sym (found_is own _ is ∙ same)))
       (lead.best base met s)
     where
       same : row_between c.from c.to (first + 1) (links_from xs first (end - first))
@@ -212,78 +220,81 @@ module _ {xs t m : List ℕ} (g : Loaded xs t) (c : Pair) (may : MayLead xs m c)
           let e : first + 1 ≡ suc (opening_row xs c.block) = omega (arith, links.opened) in
           ap₂ (row_between c.from c.to) e (sym links.links)
 
-  -- It ends here.
-  lead-small : b.level ≢ 0 → (o : Led xs t c lead.end b) → (base : ℕ) (met : List ℕ) → Sound (copy base met)
-      → (y : Origin) × (led_to xs t c base met b ≡ into (step_of t c.block b.row) (Stands y)) × (b.level ≡ suc (length y.path))
-  lead-small h o base met s =
-      let (y, e, l) = level-some (part_best xs t c base met b.row) b.level (led-level g c may lead.end b o base met s) h in
-      (y, led-some g c may b base met h ∙ ap (into (step_of t c.block b.row)) e, l)
+  -- The level of a lead is that of the best link that it leads to.
+  lead-small : (b : Lead) → Led xs t c lead.end b → (base : ℕ) (met : List ℕ) → Sound (copy base met)
+      → (y : Origin) × (led_to xs t c base met (Some b) ≡ into (step_of t c.block b.row) (Stands y)) × (b.level ≡ suc (length y.path))
+  unfolding led_to
+  lead-small b d base met s =
+      let (y, e, l) = level-some (part_best xs t c base met b.row) b.level (led-level g c may lead.end b d base met s) d.some in
+      (y, ap (into (step_of t c.block b.row)) e, l)
 
   module _ (base : ℕ) (met : List ℕ) (s : Sound (copy base met)) where
-    stays-best : stays_here row b.level ≡ true → whole base met ≡ own_best row
-    unfolding stays_here own_best
-    stays-best e = copy-best base met s ∙ go (ℕ_discrete b.level 0) (ℕ_discrete row 0) (depth_wins (b.level + 1) 1) refl
+    -- It ends here.
+    stays-best : stays_here row (level_of o) ≡ true → whole base met ≡ own_best row
+    unfolding stays_here own_best level_of led_to
+    stays-best e = copy-best base met s ∙ go o lead.lead e (ℕ_discrete row 0)
       where
-        go : Dec (b.level ≡ 0) → Dec (row ≡ 0) → (w : Bool) → depth_wins (b.level + 1) 1 ≡ w
-            → winner (own_best row) (led_to xs t c base met b) ≡ own_best row
-        go (yes n) d w f = ap (winner (own_best row)) (led-none g c may b base met n) ∙ winner-none (own_best row)
-        go (no n) (yes r) w f = absurd (false≢true (sym (eq_else b.level 0 _ _ n ∙ eq_then row 0 _ _ r) ∙ e))
-        go (no n) (no r) true f = absurd (false≢true (sym (eq_else b.level 0 _ _ n ∙ eq_else row 0 _ _ r ∙ true_then _ _ _ f) ∙ e))
-        go (no n) (no r) false f =
-            let (y, q, l) = lead-small n (lead.lead.led n) base met s in
-            let v : depth_wins (suc (length y.path)) 0 ≡ false =
-            sym (depth-step (suc (length y.path)) 0) ∙ ap (λ (i : ℕ). depth_wins i 1) (sym (add-one b.level ∙ ap suc l)) ∙ f in
-            ap₂ winner (eq_else row 0 _ _ r) q ∙ own_first (step_of t c.block b.row) row y v ∙ sym (eq_else row 0 _ _ r)
+        go : (o : Option Lead) → IsLead xs t c lead.end o → stays_here row (level_of o) ≡ true → Dec (row ≡ 0) → winner (own_best row) (led_to xs t c base met o) ≡ own_best row
+        go None l e d = winner-none (own_best row)
+        go (Some b) l e (yes r) = absurd (false≢true (sym (eq_else b.level 0 _ _ l.some ∙ eq_then row 0 _ _ r) ∙ e))
+        go (Some b) l e (no r) = by (depth_wins (b.level + 1) 1) refl
+          where
+            by : (w : Bool) → depth_wins (b.level + 1) 1 ≡ w → winner (own_best row) (led_to xs t c base met (Some b)) ≡ own_best row
+            by true f = absurd (false≢true (sym (eq_else b.level 0 _ _ l.some ∙ eq_else row 0 _ _ r ∙ true_then _ _ _ f) ∙ e))
+            by false f =
+                let (y, q, k) = lead-small b l base met s in
+                let v : depth_wins (suc (length y.path)) 0 ≡ false =
+                sym (depth-step (suc (length y.path)) 0) ∙ ap (λ (i : ℕ). depth_wins i 1) (sym (add-one b.level ∙ ap suc k)) ∙ f in
+                ap₂ winner (eq_else row 0 _ _ r) q ∙ own_first (step_of t c.block b.row) row y v ∙ sym (eq_else row 0 _ _ r)
 
-    goes-best : stays_here row b.level ≡ false → (b.level ≢ 0) × (whole base met ≡ into (step_of t c.block b.row) (part_best xs t c base met b.row))
-    unfolding stays_here own_best winner
-    goes-best e = go (ℕ_discrete b.level 0) (ℕ_discrete row 0) (depth_wins (b.level + 1) 1) refl
+    -- It goes on, along the lead.
+    goes-best : (b : Lead) → o ≡ Some b → stays_here row (level_of o) ≡ false → whole base met ≡ into (step_of t c.block b.row) (part_best xs t c base met b.row)
+    unfolding stays_here own_best level_of led_to winner
+    goes-best b eo e =
+        copy-best base met s ∙ ap (λ (o : Option Lead). winner (own_best row) (led_to xs t c base met o)) eo ∙ go (rw eo at lead.lead) (rw eo at e) (ℕ_discrete row 0) (depth_wins (b.level + 1) 1) refl
       where
-        go : Dec (b.level ≡ 0) → Dec (row ≡ 0) → (w : Bool) → depth_wins (b.level + 1) 1 ≡ w
-            → (b.level ≢ 0) × (whole base met ≡ into (step_of t c.block b.row) (part_best xs t c base met b.row))
-        go (yes n) d w f = absurd (false≢true (sym e ∙ eq_then b.level 0 _ _ n))
-        go (no n) (yes r) w f = (
-          n,
-          copy-best base met s ∙ ap₂ winner (eq_then row 0 _ _ r) (led-some g c may b base met n),
-        )
-        go (no n) (no r) false f = absurd (false≢true (sym e ∙ eq_else b.level 0 _ _ n ∙ eq_else row 0 _ _ r ∙ true_else _ _ _ f))
-        go (no n) (no r) true f =
-            let (y, q, l) = lead-small n (lead.lead.led n) base met s in
+        go : Led xs t c lead.end b → stays_here row b.level ≡ false → Dec (row ≡ 0) → (w : Bool) → depth_wins (b.level + 1) 1 ≡ w
+            → winner (own_best row) (led_to xs t c base met (Some b)) ≡ into (step_of t c.block b.row) (part_best xs t c base met b.row)
+        go d e (yes r) w f = ap (λ (a : Behind). winner a (led_to xs t c base met (Some b))) (eq_then row 0 _ _ r)
+        go d e (no r) false f = absurd (false≢true (sym e ∙ eq_else b.level 0 _ _ d.some ∙ eq_else row 0 _ _ r ∙ true_else _ _ _ f))
+        go d e (no r) true f =
+            let (y, q, l) = lead-small b d base met s in
             let v : depth_wins (suc (length y.path)) 0 ≡ true =
             sym (depth-step (suc (length y.path)) 0) ∙ ap (λ (i : ℕ). depth_wins i 1) (sym (add-one b.level ∙ ap suc l)) ∙ f in
-            (n, copy-best base met s ∙ ap₂ winner (eq_else row 0 _ _ r) q ∙ own-second (step_of t c.block b.row) row y v ∙ sym q ∙ led-some g c may b base met n)
+            ap₂ winner (eq_else row 0 _ _ r) q ∙ own-second (step_of t c.block b.row) row y v ∙ sym q
 
-  pub ends-here : {rows : List ℕ} {s v d : ℕ} (r : RowAt) → d + c.block ≤ max_depth → r.row ≡ row → r.depth ≡ d → (stay : Bool) → stay ≡ stays_here row b.level
-      → stay ≡ true → Reaches xs t rows s v d c → RowBehind xs t rows s v r
-  unfolding own_best
-  ends-here {rows} {s} {v} {d} r short er ed stay e f o =
-      record {
-        none = λ n. said ∙ ap (into_all o.path) (eq_then row 0 _ _ (sym er ∙ n)) ∙ into_all-none o.path;
-        some = λ n.
-            record {
-              path = o.path;
-              is = said ∙ ap (into_all o.path) (eq_else row 0 _ _ (λ z. n (er ∙ z))) ∙ into_all-row o.path row ∙ ap (λ (i : ℕ). Stands (record { path = o.path; row = i })) (sym er);
-              deep = ed ∙ sym o.depth;
-              few = omega arith;
-              leading = o.leading;
-            };
-      }
-    where
-      said : behind xs s v ≡ into_all o.path (own_best row)
-      said =
-          o.rest
-          ∙ ap (into_all o.path)
-          (ap₂ (λ (a w : ℕ). best (origins a w (traced (opening_row xs) all c.block o.base o.met))) (sym o.from) (sym o.to)
-          ∙ stays-best o.base o.met o.sound (sym e ∙ f))
+  -- Where the way ends, the copy's own row is the one behind the follow-on, if it has one.
+  module _ {rows : List ℕ} {s v d : ℕ} (e : stays_here row (level_of o) ≡ true) (r : Reaches xs t rows s v d c) where
+    said : behind xs s v ≡ into_all r.path (own_best row)
+    said =
+        r.rest
+        ∙ ap (into_all r.path)
+        (ap₂ (λ (a w : ℕ). best (origins a w (traced (opening_row xs) all c.block r.base r.met))) (sym r.from) (sym r.to)
+        ∙ stays-best r.base r.met r.sound e)
+
+    pub ends-without : own ≡ None → behind xs s v ≡ Missing
+    unfolding own_best
+    ends-without n = said ∙ ap (into_all r.path) (eq_then row 0 _ _ (ap (λ (a : Option ℕ). unwrap_or a 0) n)) ∙ into_all-none r.path
+
+    pub ends-at : (q : ℕ) → own ≡ Some q → d + c.block ≤ max_depth → (q ≢ 0) × StandsAt xs t rows s v q d
+    unfolding own_best
+    ends-at q n short =
+        let f : (q ≢ 0) × (row_between c.from c.to (first + 1) (links_from xs first (end - first)) ≡ q) = rw n at is in
+        let i : row ≡ q = ap (λ (a : Option ℕ). unwrap_or a 0) n in (
+          f.0,
+          record {
+            path = r.path;
+            is = said ∙ ap (into_all r.path) (eq_else row 0 _ _ (λ z. f.0 (sym i ∙ z))) ∙ into_all-row r.path row ∙ ap (λ (i : ℕ). Stands (record { path = r.path; row = i })) i;
+            deep = sym r.depth;
+            few = omega arith;
+            leading = r.leading;
+          },
+        )
 
   -- It goes on: in the copy that the lead leads to, with the cues that its joins meet.
-  goes-level : (stay : Bool) → stay ≡ stays_here row b.level → stay ≡ false → b.level ≢ 0
-  unfolding stays_here
-  goes-level stay e f n = false≢true (sym f ∙ e ∙ eq_then b.level 0 _ _ n)
-
-  module _ (stay : Bool) (e : stay ≡ stays_here row b.level) (f : stay ≡ false) where
+  module _ (b : Lead) (eo : o ≡ Some b) (stay : stays_here row (level_of o) ≡ false) where
     led : Led xs t c lead.end b
-    led = lead.lead.led (goes-level stay e f)
+    led = rw eo at lead.lead
 
     lead-use : UseRow xs c.block b.row
     lead-use = uses-use g may.block led.row
@@ -297,21 +308,21 @@ module _ {xs t m : List ℕ} (g : Loaded xs t) (c : Pair) (may : MayLead xs m c)
     pub row-few : b.row < max_rows
     row-few = lead-use.few
 
-    module _ (next : Pair) (o : Followed xs b next) where
+    module _ (next : Pair) (fd : Followed xs b next) where
       pub lower : next.block < c.block
-      lower = omega (arith, lead-use.lower, o.block)
+      lower = omega (arith, lead-use.lower, fd.block)
 
       known : IsBlock xs next.block
       known = omega (arith, lower, may.block)
 
       joins-are : used_joins xs b.row ≡ (block_at all next.block).joins
-      joins-are = rw o.block (joins_of-at all (use_at xs all b.row).block)
+      joins-are = rw fd.block (joins_of-at all (use_at xs all b.row).block)
 
       next-from : Cue (block_at all next.block) next.from
-      next-from = omega (arith, o.from, led.from-join, joins-are, own_of_at all next.block)
+      next-from = omega (arith, fd.from, led.from-join, joins-are, own_of_at all next.block)
 
       next-to : Cue (block_at all next.block) next.to
-      next-to = omega (arith, o.to, led.to-join, joins-are, own_of_at all next.block)
+      next-to = omega (arith, fd.to, led.to-join, joins-are, own_of_at all next.block)
 
       pub may_walk : {rows : List ℕ} {d : ℕ} (w : ℕ) → MayWalk xs m rows d c → MayWalk xs m (set rows d w) (d + 1) next
       may_walk {rows} {d} w may =
@@ -335,8 +346,8 @@ module _ {xs t m : List ℕ} (g : Loaded xs t) (c : Pair) (may : MayLead xs m c)
           → number (copy_of all next.block (part base).base (meets (copy base met) (part base))) n ≡ number (copy base met) x
       join_is base met i x n h ex en =
           let a : length (use_at xs all b.row).at ≡ used_joins xs b.row = lead-use.good.arity in
-          ap₂ (λ (k j : ℕ). number (copy_of all k (part base).base (meets (copy base met) (part base))) j) o.block
-          (en ∙ ap (λ (k : ℕ). join_cue (own_of all k) i) o.block)
+          ap₂ (λ (k j : ℕ). number (copy_of all k (part base).base (meets (copy base met) (part base))) j) fd.block
+          (en ∙ ap (λ (k : ℕ). join_cue (own_of all k) i) fd.block)
           ∙ join_meets (copy base met) (part base) i (omega arith)
           ∙ ap (number (copy base met)) ex
 
@@ -360,9 +371,9 @@ module _ {xs t m : List ℕ} (g : Loaded xs t) (c : Pair) (may : MayLead xs m c)
           r.rest
           ∙ ap (into_all r.path)
           (ap₂ (λ (a w : ℕ). best (origins a w (traced (opening_row xs) all c.block r.base r.met))) (sym r.from) (sym r.to)
-          ∙ (goes-best r.base r.met r.sound (sym e ∙ f)).1
+          ∙ goes-best r.base r.met r.sound b eo stay
           ∙ ap₂ (λ (a w : ℕ). into p (best (origins a w (traced (opening_row xs) all (use_at xs all b.row).block (part r.base).base (meets (copy r.base r.met) (part r.base)))))) r.from r.to
-          ∙ ap (λ (k : ℕ). into p (best (origins s v (traced (opening_row xs) all k (part r.base).base (meets (copy r.base r.met) (part r.base)))))) (sym o.block))
+          ∙ ap (λ (k : ℕ). into p (best (origins s v (traced (opening_row xs) all k (part r.base).base (meets (copy r.base r.met) (part r.base)))))) (sym fd.block))
           ∙ sym (into_all-snoc r.path p (best found))
 
       pub goes_on_is : {rows : List ℕ} {s v d : ℕ} (w : ℕ) → d < length rows → w ≡ b.row → Reaches xs t rows s v d c → Reaches xs t (set rows d w) s v (d + 1) next
@@ -374,22 +385,26 @@ module _ {xs t m : List ℕ} (g : Loaded xs t) (c : Pair) (may : MayLead xs m c)
             path = r.path ++ step_of t c.block b.row ∷ [];
             depth = length-append r.path (step_of t c.block b.row ∷ []) ∙ ap (λ (n : ℕ). n + 1) r.depth;
             leading = next-leading r room;
-            block = o.block ∙ sym at;
+            block = fd.block ∙ sym at;
             base = q.base;
             met = meets (copy r.base r.met) q;
-            sound = sound-as o.block (part_sound r.sound q (row-part g led.row r.base r.met));
-            from = join_is r.base r.met b.from c.from next.from led.from-join led.from-cue o.from ∙ r.from;
-            to = join_is r.base r.met b.to c.to next.to led.to-join led.to-cue o.to ∙ r.to;
+            sound = sound-as fd.block (part_sound r.sound q (row-part g led.row r.base r.met));
+            from = join_is r.base r.met b.from c.from next.from led.from-join led.from-cue fd.from ∙ r.from;
+            to = join_is r.base r.met b.to c.to next.to led.to-join led.to-cue fd.to ∙ r.to;
             rest = next-rest r;
           })
 
--- The level of a lead is small.
-pub lead-few : {xs t : List ℕ} (c : Pair) (b : Lead) → Loaded xs t → IsBlock xs c.block → BestLead xs t c b → b.level ≤ max_blocks
-lead-few {xs} c b g h lead = go (ℕ_discrete b.level 0)
+-- The level of a lead is small, and not none.
+pub lead-few : {xs t : List ℕ} (c : Pair) (o : Option Lead) → Loaded xs t → IsBlock xs c.block → BestLead xs t c o
+    → IfSome o (λ b. (b.level ≢ 0) × (b.level ≤ max_blocks))
+lead-few {xs} {t} c o g h lead = go o lead.lead
   where
-    go : Dec (b.level ≡ 0) → b.level ≤ max_blocks
-    go (yes e) = omega arith
-    go (no n) =
-        let o = lead.lead.led n in
-        let u = uses-use g h o.row in
-        omega (arith, level-small xs (loaded-show g).good _ _ _ _ o.level, u.lower, u.block, (loaded-show g).blocks)
+    go : (o : Option Lead) → IsLead xs t c lead.end o → IfSome o (λ b. (b.level ≢ 0) × (b.level ≤ max_blocks))
+    go None l = tt
+    go (Some b) d =
+        let u = uses-use g h d.row in
+        (d.some, omega (arith, level-small xs (loaded-show g).good _ _ _ _ d.level, u.lower, u.block, (loaded-show g).blocks))
+
+pub found_some : (o : Option ℕ) (n : ℕ) → IsFound o n → IfSome o (λ r. r ≢ 0)
+found_some None n e = tt
+found_some (Some k) n e = e.0

@@ -1,5 +1,6 @@
 -- The best row of a copy itself, and the use that leads on to the best row below it.
 use Rattle.std.specs.Prelude.{ℕ, suc, ◌+◌, ◌-◌, ◌≤◌, ◌<◌, ◌≡◌, ◌≢◌, Bool, true, false, List, [], ◌∷◌, map, get_or}
+use Rattle.std.specs.Prelude.{Option, None, Some, IfSome, MatchOption}
 use Rattle.model.specs.Choice.{if_eq, if_true}
 use Rattle.model.specs.Blocks.{Link, block_at, own_of, total, blocks_of}
 use Rattle.model.specs.Behind.{uses_traced, traced, opening_row, origins, depth_wins, Behind, Missing, winner, best}
@@ -17,6 +18,15 @@ use Rattle.behind.specs.declared.Lead.{Lead}
 unfoldable pub row_between : ℕ → ℕ → ℕ → List Link → ℕ
 row_between x y r [] = 0
 row_between x y r (l ∷ ls) = if_eq l.from x (if_eq l.to y r (row_between x y (suc r) ls)) (row_between x y (suc r) ls)
+
+-- The code has such a number as an Option: none where it is 0.
+abbrev pub IsFound : Option ℕ → ℕ → Type 0
+IsFound o n = MatchOption o (n ≡ 0) (λ k. (k ≢ 0) × (n ≡ k))
+
+-- The level of the link that a lead leads to; 0 where there is no lead.
+unfoldable pub level_of : Option Lead → ℕ
+level_of None = 0
+level_of (Some b) = b.level
 
 -- A level is better than one found before; 0 is none.
 unfoldable pub beats_level : ℕ → ℕ → Bool
@@ -45,7 +55,7 @@ pub record UsesRow (xs t : List ℕ) (k r : ℕ) : Type 0 where
   pub low : first ≤ r
   pub high : r < end
 
--- The use of a lead: its row stands before row r, its joins meet the two cues, and its level is that of the best link between these joins.
+-- The use of a lead: its row stands before row r, its joins meet the two cues, and its level is that of the best link between these joins: there is one.
 pub record Led (xs t : List ℕ) (c : Pair) (r : ℕ) (b : Lead) : Type 0 where
   pub row : UsesRow xs t c.block b.row
   pub earlier : b.row < r
@@ -55,9 +65,10 @@ pub record Led (xs t : List ℕ) (c : Pair) (r : ℕ) (b : Lead) : Type 0 where
   pub to-cue : get_or (use_at xs (blocks_of xs) b.row).at b.to 0 ≡ c.to
   pub level : IsLevel xs (use_at xs (blocks_of xs) b.row).block (join_cue (own_of (blocks_of xs) (use_at xs (blocks_of xs) b.row).block) b.from)
       (join_cue (own_of (blocks_of xs) (use_at xs (blocks_of xs) b.row).block) b.to) b.level
+  pub some : b.level ≢ 0
 
-pub record IsLead (xs t : List ℕ) (c : Pair) (r : ℕ) (b : Lead) : Type 0 where
-  pub led : b.level ≢ 0 → Led xs t c r b
+abbrev pub IsLead : List ℕ → List ℕ → Pair → ℕ → Option Lead → Type 0
+IsLead xs t c r o = IfSome o (λ b. Led xs t c r b)
 
 -- In a copy of the block: the best link of the part that the use of row r makes, and of the parts that the uses of rows r to end make.
 abbrev pub part_best : List ℕ → List ℕ → Pair → ℕ → List ℕ → ℕ → Behind
@@ -74,24 +85,25 @@ parts_best xs t c base met r end =
     (uses_traced (total (blocks_of xs)) (traced (opening_row xs) (blocks_of xs)) (number (copy_of (blocks_of xs) c.block base met)) (step_of t c.block r)
     (inner_base xs t c.block base r) (uses_from xs (blocks_of xs) r (end - r))))
 
--- The best link that a lead leads to.
-unfoldable pub led_to : List ℕ → List ℕ → Pair → ℕ → List ℕ → Lead → Behind
-led_to xs t c base met b = if_eq b.level 0 Missing (into (step_of t c.block b.row) (part_best xs t c base met b.row))
+-- The best link that a lead leads to, if there is a lead.
+unfoldable pub led_to : List ℕ → List ℕ → Pair → ℕ → List ℕ → Option Lead → Behind
+led_to xs t c base met None = Missing
+led_to xs t c base met (Some b) = into (step_of t c.block b.row) (part_best xs t c base met b.row)
 
 -- After the use of row r was tried, the lead is the better of the two, in every copy of the block.
-pub record Tried (xs t : List ℕ) (c : Pair) (r : ℕ) (old new : Lead) : Type 0 where
+pub record Tried (xs t : List ℕ) (c : Pair) (r : ℕ) (old new : Option Lead) : Type 0 where
   pub lead : IsLead xs t c (r + 1) new
   pub won : (base : ℕ) (met : List ℕ) → Sound (copy_of (blocks_of xs) c.block base met)
       → winner (led_to xs t c base met old) (into (step_of t c.block r) (part_best xs t c base met r)) ≡ led_to xs t c base met new
 
 -- The lead is the best of the uses before row r, in every copy of the block: with those from there on it makes the best of all, up to row end.
-pub record LeadsTo (xs t : List ℕ) (c : Pair) (first end r : ℕ) (b : Lead) : Type 0 where
+pub record LeadsTo (xs t : List ℕ) (c : Pair) (first end r : ℕ) (b : Option Lead) : Type 0 where
   pub lead : IsLead xs t c r b
   pub best : (base : ℕ) (met : List ℕ) → Sound (copy_of (blocks_of xs) c.block base met)
       → parts_best xs t c base met first end ≡ winner (led_to xs t c base met b) (parts_best xs t c base met r end)
 
 -- The lead is the best of all uses.
-pub record BestLead (xs t : List ℕ) (c : Pair) (b : Lead) : Type 0 where
+pub record BestLead (xs t : List ℕ) (c : Pair) (b : Option Lead) : Type 0 where
   pub end : ℕ
   pub lead : IsLead xs t c end b
   pub best : (base : ℕ) (met : List ℕ) → Sound (copy_of (blocks_of xs) c.block base met)

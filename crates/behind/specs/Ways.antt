@@ -1,5 +1,5 @@
 -- The way from the copy where it begins down to the copy with the best row.
-use Rattle.std.specs.Prelude.{ℕ, ◌+◌, ◌≤◌, ◌<◌, ◌≡◌, ◌≢◌, Bool, List, length, get_or}
+use Rattle.std.specs.Prelude.{ℕ, ◌+◌, ◌≤◌, ◌<◌, ◌≡◌, ◌≢◌, Bool, List, length, get_or, Option, MatchOption}
 use Rattle.model.specs.Choice.{if_true}
 use Rattle.model.specs.Limits.{max_depth}
 use Rattle.model.specs.Blocks.{block_at, blocks_of}
@@ -19,12 +19,6 @@ use Rattle.behind.specs.Leads.{MayLead}
 pub record SeenAs (xs : List ℕ) (z : Frame) (v c : ℕ) : Type 0 where
   pub seen : c ≢ 0 → Cue (block_at (blocks_of xs) z.block) c × (number (framed (blocks_of xs) z) c ≡ v)
   pub unseen : c ≡ 0 → (d : ℕ) → Cue (block_at (blocks_of xs) z.block) d → number (framed (blocks_of xs) z) d ≡ v → ⊥
-
--- v is the number at place j of some, or none of the first n where j is n.
-pub record IsMet (met : List ℕ) (n v j : ℕ) : Type 0 where
-  pub within : j ≤ n
-  pub found : j < n → get_or met j 0 ≡ v
-  pub before : (i : ℕ) → i < j → get_or met i 0 ≡ v → ⊥
 
 -- The rows lead along a path, and none of them stands before the first use of its block.
 pub record Leading (xs t rows path : List ℕ) : Type 0 where
@@ -53,9 +47,8 @@ pub record StandsAt (xs t rows : List ℕ) (s v row depth : ℕ) : Type 0 where
   pub few : depth ≤ max_depth
   pub leading : Leading xs t rows path
 
-pub record RowBehind (xs t rows : List ℕ) (s v : ℕ) (r : RowAt) : Type 0 where
-  pub none : r.row ≡ 0 → behind xs s v ≡ Missing
-  pub some : r.row ≢ 0 → StandsAt xs t rows s v r.row r.depth
+abbrev pub RowBehind : List ℕ → List ℕ → List ℕ → ℕ → ℕ → Option RowAt → Type 0
+RowBehind xs t rows s v r = MatchOption r (behind xs s v ≡ Missing) (λ a. (a.row ≢ 0) × StandsAt xs t rows s v a.row a.depth)
 
 -- What a walk may begin with: there is room for the rows to come.
 pub record MayWalk (xs m rows : List ℕ) (d : ℕ) (c : Pair) : Type 0 where
@@ -64,7 +57,7 @@ pub record MayWalk (xs m rows : List ℕ) (d : ℕ) (c : Pair) : Type 0 where
   pub short : d + c.block ≤ max_depth
 
 -- It leads to the row behind the follow-on from s to v, whatever these are, if it begins in a copy that sees them.
-abbrev pub Walked : List ℕ → List ℕ → List ℕ → ℕ → Pair → List ℕ → RowAt → Type 0
+abbrev pub Walked : List ℕ → List ℕ → List ℕ → ℕ → Pair → List ℕ → Option RowAt → Type 0
 Walked xs t rows d c after r = (s v : ℕ) → Reaches xs t rows s v d c → RowBehind xs t after s v r
 
 -- The link leads from cue v to the cue w, or from w to v.

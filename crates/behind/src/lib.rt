@@ -5,19 +5,19 @@
 // it. `behind` begins there, with the two as cues of its block, and goes on from copy to copy, by the levels of `levels`, to the best row.
 #![tactic(auto)]
 
-ghost use Rattle.std.specs.Prelude.{◌≡◌, ◌+◌, ◌-◌, ◌≤◌, ◌<◌, length};
-ghost use Rattle.model.specs.Limits.{max_joins, max_blocks, max_rows, max_depth};
+ghost use Rattle.std.specs.Prelude.{◌≡◌, ◌≢◌, ◌+◌, ◌-◌, ◌≤◌, ◌==◌, true, false, length, position, unwrap_or, IfSome, MatchOption};
+ghost use Rattle.model.specs.Limits.{max_blocks, max_rows, max_depth};
 ghost use Rattle.model.specs.Rows.{row_count};
 ghost use Rattle.verdicts.specs.Index.{links_from};
-ghost use Rattle.blocks.specs.Loaded.{Loaded};
 ghost use Rattle.blocks.specs.Places.{Found};
 ghost use Rattle.copies.specs.Copies.{IsCopy};
-ghost use Rattle.behind.specs.Leads.{row_between, beats_level, stays_here, MayLead, UsesRow, IsLead, Tried, BestLead, MayFollow, Followed};
-ghost use Rattle.behind.specs.Ways.{SeenAs, IsMet, MayWalk, Walked, RowBehind, source_of, target_of};
+ghost use Rattle.behind.specs.Leads.{row_between, IsFound, level_of, beats_level, stays_here, MayLead, UsesRow, IsLead, Tried, BestLead, MayFollow, Followed};
+ghost use Rattle.behind.specs.Ways.{SeenAs, MayWalk, Walked, RowBehind, source_of, target_of};
 
-use blocks::{INDEX, JOINS, Place, Rows, from, join_at, joins, link_rows, own, to, use_rows, used};
+use blocks::{Place, Show, from, join_at, to, used};
 use copies::{Frame, descend};
-use levels::{TABLE, level_at, levels, wins};
+use levels::{Table, levels, wins};
+use std::ops::Range;
 
 // Two cues of a block.
 #[derive(Clone, Copy)]
@@ -28,7 +28,7 @@ pub struct Pair {
 }
 
 // The use that leads on from a copy to the best link: the level of that link below it, the row of the use, from 0,
-// and the joins of the used block that meet the two cues, from 0. Level 0 is none.
+// and the joins of the used block that meet the two cues, from 0.
 #[derive(Clone, Copy)]
 pub struct Lead {
     pub level: u8,
@@ -37,222 +37,176 @@ pub struct Lead {
     pub to: usize,
 }
 
-// The number of a link's row, from 1, and how many uses lead to the copy in which it stands. Row 0 is none.
+// The number of a link's row, from 1, and how many uses lead to the copy in which it stands.
 #[derive(Clone, Copy)]
 pub struct RowAt {
     pub row: u32,
     pub depth: usize,
 }
 
-// The cues w and v of a block, leading inward to w or out from it.
-fn pair_of(k: usize, w: u32, v: u32, inward: bool) -> Pair
-    ensures { (result.block ≡ k) × (result.from ≡ source_of inward w v) × (result.to ≡ target_of inward w v) }
+// The number of the first of a block's link rows that leads from cue x to cue y.
+fn own_row(rows: &[u32], links: Range<usize>, x: u32, y: u32) -> Option<u32>
+    requires { (links.start ≤ links.end) × (links.end ≤ row_count rows.now) × (links.end ≤ max_rows) }
+    ensures { IsFound result (row_between x y (links.start + 1) (links_from rows.now links.start (links.end - links.start))) }
 {
-    if inward {
-        return Pair {
-            block: k,
-            from: v,
-            to: w,
-        };
-    }
-    Pair {
-        block: k,
-        from: w,
-        to: v,
-    }
-}
-
-// The number of the first of a block's link rows that leads from cue x to cue y, or 0.
-fn own_row(xs: &[u32], rows: Rows, x: u32, y: u32) -> u32
-    requires { (rows.first ≤ rows.end) × (rows.end ≤ row_count xs.now) × (rows.end ≤ max_rows) }
-    ensures { result ≡ row_between x y (rows.first + 1) (links_from xs.now rows.first (rows.end - rows.first)) }
-{
-    let mut r = rows.first;
-    while r < rows.end {
-        if from(xs, r) == x {
-            if to(xs, r) == y {
-                return (r + 1) as u32;
-            }
+    for r in links.start..links.end {
+        if from(rows, r) == x && to(rows, r) == y {
+            return Some((r + 1) as u32);
         }
-        r += 1;
     }
-    0
+    None
 }
 
-// A level that is better than one found before; 0 is none.
-fn beats(n: u8, old: u8) -> bool
-    ensures { result ≡ beats_level n old }
+// A level is better than that of the lead found before; 0 is none.
+// Kept: 0 and no Option, for fixed memory: a level is a byte of the table, and an Option would be made of each byte that is read and told apart here.
+#[tactic(auto, using(basics::proofs::Choices::ifs), unfolding(crate::specs::Leads::beats_level, crate::specs::Leads::level_of))]
+fn beats(n: u8, old: Option<Lead>) -> bool
+    requires { IfSome old (λ b. b.level ≢ 0) }
+    ensures { result ≡ beats_level n (level_of old) }
 {
-    if n == 0 {
-        return false;
+    match old {
+        _ if n == 0 => false,
+        None => true,
+        Some(old) => wins(n, old.level),
     }
-    if old == 0 {
-        return true;
-    }
-    wins(n, old)
 }
 
-// The better of a lead and the use of row r.
-fn try_use(xs: &[u32], t: &[u32; INDEX], m: &[u8], c: Pair, r: usize, lead: Lead) -> Lead
-    requires { Loaded xs.now t.now × MayLead xs.now m.now c × UsesRow xs.now t.now c.block r × IsLead xs.now t.now c r lead }
-    ensures { Tried xs.now t.now c r lead result }
+// The lead, unless the way ends here: no use leads to a better row than the copy's own, if it has one.
+#[tactic(auto, using(basics::proofs::Choices::ifs), unfolding(crate::specs::Leads::stays_here, crate::specs::Leads::level_of))]
+fn onward(own: Option<u32>, lead: Option<Lead>) -> Option<Lead>
+    requires { IfSome lead (λ b. (b.level ≢ 0) × (b.level ≤ max_blocks)) × IfSome own (λ r. r ≢ 0) }
+    ensures { MatchOption result (stays_here (unwrap_or own 0) (level_of lead) ≡ true)
+        (λ b. (lead ≡ Some b) × (stays_here (unwrap_or own 0) (level_of lead) ≡ false)) }
 {
-    let k = used(xs, r);
-    let joins = joins(xs, t, k);
-    let i = join_at(xs, r, joins, c.from);
-    if joins <= i {
-        return lead;
+    let lead = lead?;
+    let deeper = wins(lead.level + 1, 1);
+    if own.is_some() && !deeper {
+        return None;
     }
-    let j = join_at(xs, r, joins, c.to);
-    if joins <= j {
-        return lead;
+    Some(lead)
+}
+
+impl Pair {
+    // The cues w and v of a block, leading inward to w or out from it.
+    // Kept: `inward` is a Bool, for an enum is no plainer: each clause would turn it to the Bool that the definitions `source_of` and `target_of` read.
+    #[tactic(auto, using(basics::proofs::Choices::ifs), unfolding(crate::specs::Ways::source_of, crate::specs::Ways::target_of))]
+    fn new(block: usize, w: u32, v: u32, inward: bool) -> Pair
+        ensures { (result.block ≡ block) × (result.from ≡ source_of inward w v) × (result.to ≡ target_of inward w v) }
+    {
+        let (from, to) = if inward { (v, w) } else { (w, v) };
+        Pair { block, from, to }
     }
-    let n = level_at(m, k, i, j);
-    if beats(n, lead.level) {
-        return Lead {
-            level: n,
-            row: r,
-            from: i,
-            to: j,
+
+    // The better of a lead and the use of row r.
+    fn try_use(self, show: &Show, table: &Table, r: usize, lead: Option<Lead>) -> Option<Lead>
+        requires { MayLead show.now.rows.now table.now.levels self × UsesRow show.now.rows.now show.now.index.now self.block r
+            × IsLead show.now.rows.now show.now.index.now self r lead }
+        ensures { Tried show.now.rows.now show.now.index.now self r lead result }
+    {
+        let k = used(show.rows, r);
+        let joins = show.joins(k);
+        let Some(from) = join_at(show.rows, r, joins, self.from) else {
+            return lead;
         };
+        let Some(to) = join_at(show.rows, r, joins, self.to) else {
+            return lead;
+        };
+        let level = table.level_at(k, from, to);
+        if beats(level, lead) {
+            return Some(Lead {
+                level,
+                row: r,
+                from,
+                to,
+            });
+        }
+        lead
     }
-    lead
+
+    // The use that leads on to the best link below a copy of the block, from one of the cues to the other.
+    fn best_use(self, show: &Show, table: &Table) -> Option<Lead>
+        requires { MayLead show.now.rows.now table.now.levels self }
+        ensures { BestLead show.now.rows.now show.now.index.now self result }
+    {
+        let rows = show.use_rows(self.block);
+        let mut lead = None;
+        for r in rows.start..rows.end {
+            lead = self.try_use(show, table, r, lead);
+        }
+        lead
+    }
 }
 
-// The use that leads on to the best link below a copy of a block, from one of its cues to another.
-fn best_use(xs: &[u32], t: &[u32; INDEX], m: &[u8], c: Pair) -> Lead
-    requires { Loaded xs.now t.now × MayLead xs.now m.now c }
-    ensures { BestLead xs.now t.now c result }
-{
-    let rows = use_rows(xs, t, c.block);
-    let mut lead = Lead {
-        level: 0,
-        row: 0,
-        from: 0,
-        to: 0,
-    };
-    let mut r = rows.first;
-    while r < rows.end {
-        lead = try_use(xs, t, m, c, r, lead);
-        r += 1;
-    }
-    lead
-}
-
-// The way ends here: no use leads to a better row than the copy's own, if it has one.
-fn stays(row: u32, n: u8) -> bool
-    requires { n ≤ max_blocks }
-    ensures { result ≡ stays_here row n }
-{
-    if n == 0 {
-        return true;
-    }
-    if row == 0 {
-        return false;
-    }
-    let deeper = wins(n + 1, 1);
-    if deeper {
-        return false;
-    }
-    true
-}
-
-// The two cues in the copy that a lead leads to.
-fn follow(xs: &[u32], t: &[u32; INDEX], lead: Lead) -> Pair
-    requires { Loaded xs.now t.now × MayFollow xs.now lead }
-    ensures { Followed xs.now lead result }
-{
-    let k = used(xs, lead.row);
-    let own = own(xs, t, k);
-    Pair {
-        block: k,
-        from: own + 1 + (lead.from as u32),
-        to: own + 1 + (lead.to as u32),
+impl Lead {
+    // The two cues in the copy that it leads to.
+    fn follow(self, show: &Show) -> Pair
+        requires { MayFollow show.now.rows.now self }
+        ensures { Followed show.now.rows.now self result }
+    {
+        let block = used(show.rows, self.row);
+        let own = show.own(block);
+        Pair {
+            block,
+            from: own + 1 + (self.from as u32),
+            to: own + 1 + (self.to as u32),
+        }
     }
 }
 
 // The best row between two cues of the copy that the first depth rows lead to. The rows of the uses that lead on from there are put behind them.
-fn walk(
-    xs: &[u32],
-    t: &[u32; INDEX],
-    m: &[u8],
-    start: Pair,
-    depth: usize,
-    rows: &mut [u32],
-) -> RowAt
-    requires { Loaded xs.now t.now × MayWalk xs.now m.now rows.old depth start }
-    ensures { Walked xs.now t.now rows.old depth start rows.new result }
+fn walk(show: &Show, table: &Table, start: Pair, depth: usize, rows: &mut [u32]) -> Option<RowAt>
+    requires { MayWalk show.now.rows.now table.now.levels rows.old depth start }
+    ensures { Walked show.now.rows.now show.now.index.now rows.old depth start rows.new result }
 {
     let mut c = start;
     let mut d = depth;
+    // Kept: no plainer as a `for` or `while let`: it counts nothing, and its exit answers with the row that the same turn found.
     loop {
-        let row = own_row(xs, link_rows(xs, t, c.block), c.from, c.to);
-        let lead = best_use(xs, t, m, c);
-        if stays(row, lead.level) {
-            return RowAt { row: row, depth: d };
-        }
+        let own = own_row(show.rows, show.link_rows(c.block), c.from, c.to);
+        let Some(lead) = onward(own, c.best_use(show, table)) else {
+            return Some(RowAt {
+                row: own?,
+                depth: d,
+            });
+        };
         rows[d] = lead.row as u32;
         d += 1;
-        c = follow(xs, t, lead);
+        c = lead.follow(show);
     }
 }
 
-// The place of number v among the first n, or n.
-fn met_at(met: [u32; JOINS], n: usize, v: u32) -> usize
-    requires { n ≤ max_joins }
-    ensures { IsMet met n v result }
+// The place of number v among some.
+fn met_at(met: &[u32], v: u32) -> Option<usize>
+    ensures { result ≡ position (λ x. x == v) met.now }
 {
-    let mut j = 0;
-    while j < n {
-        if met[j] == v {
-            return j;
-        }
-        j += 1;
-    }
-    n
+    met.iter().position(|x| *x == v)
 }
 
-// The cue of a copy's block whose number is v, own or join, or 0.
-fn seen(xs: &[u32], t: &[u32; INDEX], z: Frame, v: u32) -> u32
-    requires { Loaded xs.now t.now × IsCopy xs.now z }
-    ensures { SeenAs xs.now z v result }
+// The cue of a copy's block whose number is v, own or join.
+fn seen(show: &Show, z: Frame, v: u32) -> Option<u32>
+    requires { IsCopy show.now.rows.now z }
+    ensures { MatchOption result (SeenAs show.now.rows.now z v 0) (λ c. (c ≢ 0) × SeenAs show.now.rows.now z v c) }
 {
-    let own = own(xs, t, z.block);
-    let base = z.base;
-    if base < v {
-        if v <= base + own {
-            return v - base;
-        }
+    let own = show.own(z.block);
+    if z.base < v && v <= z.base + own {
+        return Some(v - z.base);
     }
-    let joins = joins(xs, t, z.block);
-    let met = z.met;
-    let j = met_at(met, joins, v);
-    if j < joins {
-        return own + 1 + (j as u32);
-    }
-    0
+    let joins = show.joins(z.block);
+    let j = met_at(&z.met[..joins], v)?;
+    Some(own + 1 + (j as u32))
 }
 
 // The row behind the follow-on between the cue of a place and a cue v whose number is not larger, leading inward to the place or out from it. The rows of
 // the uses that lead to the row's copy stand first in the list afterwards.
-pub fn behind(
-    xs: &[u32],
-    t: &[u32; INDEX],
-    place: Place,
-    rows: &mut [u32],
-    v: u32,
-    inward: bool,
-) -> RowAt
-    requires { Loaded xs.now t.now × Found xs.now t.now rows.old place × (max_depth ≤ length rows.old) × (v ≤ place.cue) }
-    ensures { RowBehind xs.now t.now rows.new (source_of inward place.cue v) (target_of inward place.cue v) result }
+// Kept: `inward` is a Bool, for an enum is no plainer: each clause would turn it to the Bool that the definitions `source_of` and `target_of` read.
+pub fn behind(show: &Show, place: Place, rows: &mut [u32], v: u32, inward: bool) -> Option<RowAt>
+    requires { Found show.now.rows.now show.now.index.now rows.old place × (max_depth ≤ length rows.old) × (v ≤ place.cue) }
+    ensures { RowBehind show.now.rows.now show.now.index.now rows.new (source_of inward place.cue v) (target_of inward place.cue v) result }
 {
-    let z = descend(xs, t, place, rows);
-    let c = seen(xs, t, z, v);
-    if c == 0 {
-        return RowAt { row: 0, depth: 0 };
-    }
-    let mut m: [u8; TABLE] = [0; TABLE];
-    levels(xs, t, &mut m, z.block);
-    let start = pair_of(z.block, place.own, c, inward);
-    walk(xs, t, &m, start, place.depth, rows)
+    let z = descend(show, place, rows);
+    let c = seen(show, z, v)?;
+    let mut table = Table::new();
+    levels(show, &mut table, z.block);
+    let start = Pair::new(z.block, place.own, c, inward);
+    walk(show, &table, start, place.depth, rows)
 }

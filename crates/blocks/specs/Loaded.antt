@@ -4,9 +4,8 @@ use mathlib.Core.List.{List, Memᴰ}
 use Rattle.model.specs.Limits.{max_rows}
 use Rattle.model.specs.Rows.{cell, row_count}
 use Rattle.model.specs.Blocks.{block_at, joins_of, blocks_of}
-use Rattle.model.specs.Verdicts.{verdict}
+use Rattle.model.specs.Verdicts.{verdict, Accepted}
 use Rattle.model.specs.Behind.{opening_row}
-use Rattle.model.specs.declared.Verdict.TheVariants.{Accepted}
 use Rattle.shows.specs.WellFormed.{GoodUse, GoodLink}
 use Rattle.verdicts.specs.Index.{link_at, links_from, use_at, uses_from, Indexed}
 

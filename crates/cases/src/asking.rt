@@ -1,152 +1,109 @@
-// The questions of the library, with their answers as numbers.
-use crate::text;
-use model::{
-    CountAnswer, FewestAnswer, ListAnswer, LocateAnswer, NumberAnswer, QuickestAnswer, ReadAnswer,
-    Refusal, RowAnswer, WriteAnswer,
-};
+// The questions of the library, with their answers as numbers: 0 and what it gives, or a refusal and its place. What an answer lacks is 0.
+// Kept: four numbers and no Result, for that is no plainer: the data has its answers so, and they are only compared.
+use crate::shown::Shown;
+use model::{LineRefusal, Listed, Refusal, ShowSize};
 
-// An answer: 0 and what it gives, or a refusal with its place. What an answer lacks is 0.
-#[derive(Clone, Copy)]
-pub struct Said {
-    pub number: u32,
-    pub first: u32,
-    pub second: u32,
-    pub third: u32,
+// What a case asks.
+#[derive(Clone, Copy, PartialEq, Eq)]
+pub enum Question {
+    Count,
+    Locate,
+    Number,
+    LinksOut,
+    LinksIn,
+    Fewest,
+    Quickest,
+    Behind,
+    ReadDesk,
+    Read,
+    Write,
+    // A word that is none of these is read, too.
+    Unknown,
 }
 
-fn given(first: u32, second: u32, third: u32) -> Said {
-    Said {
-        number: 0,
-        first: first,
-        second: second,
-        third: third,
-    }
-}
-
-fn refused(refusal: Refusal) -> Said {
-    Said {
-        number: refusal.number,
-        first: refusal.place,
-        second: 0,
-        third: 0,
-    }
-}
-
-fn count(rows: &[u32]) -> Said {
-    match show::count(rows) {
-        CountAnswer::Cues(cues) => given(cues, 0, 0),
-        CountAnswer::Refused(refusal) => refused(refusal),
-    }
-}
-
-fn locate(rows: &[u32], n: u32, path: &mut [u32]) -> Said {
-    match show::locate(rows, n, path) {
-        LocateAnswer::Found(depth, block, own) => given(depth, block, own),
-        LocateAnswer::Refused(refusal) => refused(refusal),
-    }
-}
-
-fn number(rows: &[u32], path: &[u32], own: u32) -> Said {
-    match show::number(rows, path, own) {
-        NumberAnswer::Number(n) => given(n, 0, 0),
-        NumberAnswer::Refused(refusal) => refused(refusal),
-    }
-}
-
-fn paged(answer: ListAnswer) -> Said {
-    match answer {
-        ListAnswer::Page(written, more) => {
-            if more {
-                return given(written, 1, 0);
-            }
-            given(written, 0, 0)
+// A word asks by its first letter.
+impl From<&[u8]> for Question {
+    fn from(word: &[u8]) -> Question {
+        match word.first() {
+            Some(b'c') => Question::Count,
+            Some(b'l') => Question::Locate,
+            Some(b'n') => Question::Number,
+            Some(b'o') => Question::LinksOut,
+            Some(b'i') => Question::LinksIn,
+            Some(b'f') => Question::Fewest,
+            Some(b'q') => Question::Quickest,
+            Some(b'b') => Question::Behind,
+            Some(b'd') => Question::ReadDesk,
+            Some(b'r') => Question::Read,
+            Some(b'w') => Question::Write,
+            _ => Question::Unknown,
         }
-        ListAnswer::Refused(refusal) => refused(refusal),
     }
+}
+
+fn refused(refusal: Refusal) -> [u32; 4] {
+    [refusal.number(), refusal.place, 0, 0]
+}
+
+// A line that has no room in 32 bits counts as the largest that has.
+fn line_refused(refusal: LineRefusal) -> [u32; 4] {
+    let line = u32::try_from(refusal.place).unwrap_or(u32::MAX);
+    [refusal.number(), line, 0, 0]
+}
+
+fn listed(answer: Result<Listed, Refusal>) -> [u32; 4] {
+    answer.map_or_else(refused, |page| [0, page.written, u32::from(page.more), 0])
+}
+
+fn read(answer: Result<ShowSize, Refusal>) -> [u32; 4] {
+    answer.map_or_else(refused, |size| [0, size.rows, size.blocks, size.cues])
 }
 
 // No chain is 0; a number of follow-ons is 1 and the number.
-fn fewest(rows: &[u32], s: u32, t: u32, work: &mut [u32]) -> Said {
-    match show::fewest(rows, s, t, work) {
-        FewestAnswer::Steps(n) => given(1, n, 0),
-        FewestAnswer::None => given(0, 0, 0),
-        FewestAnswer::Refused(refusal) => refused(refusal),
-    }
+fn fewest(follow_ons: Option<u32>) -> [u32; 4] {
+    follow_ons.map_or([0; 4], |n| [0, 1, n, 0])
 }
 
-// The lower and the upper half of a number of 64 bits; a line that has no room in 32 counts as the largest that has.
-fn low(x: u64) -> u32 {
-    (x % 4294967296) as u32
+// No chain is 0; a sum of waits is 1 and its lower and its upper half.
+fn waited(sum: Option<u64>) -> [u32; 4] {
+    sum.map_or([0; 4], |n| {
+        [0, 1, (n & 0xffff_ffff) as u32, (n >> 32) as u32]
+    })
 }
 
-fn high(x: u64) -> u32 {
-    (x / 4294967296) as u32
+// The quickest way under a wait file.
+pub fn quickest(rows: &[u32], s: u32, t: u32, waits: &[u8], work: &mut [u64]) -> [u32; 4] {
+    show::quickest(rows, s, t, waits, work).map_or_else(line_refused, waited)
 }
 
-fn narrow(line: u64) -> u32 {
-    if line < 4294967295 {
-        return low(line);
-    }
-    4294967295
+pub fn write(rows: &[u32], out: &mut [u8]) -> [u32; 4] {
+    show::write(rows, out).map_or_else(refused, |length| [0, length, 0, 0])
 }
 
-// No chain is 0; a sum of waits is 1 and its halves.
-pub fn quickest(rows: &[u32], s: u32, t: u32, waits: &[u8], work: &mut [u64]) -> Said {
-    match show::quickest(rows, s, t, waits, work) {
-        QuickestAnswer::Tenths(n) => given(1, low(n), high(n)),
-        QuickestAnswer::None => given(0, 0, 0),
-        QuickestAnswer::Refused(number, place) => Said {
-            number: number,
-            first: narrow(place),
-            second: 0,
-            third: 0,
-        },
-    }
-}
-
-// The row behind a follow-on. In the data the question is called behind: r is the letter of reading.
-fn row(rows: &[u32], s: u32, t: u32, path: &mut [u32]) -> Said {
-    match show::row(rows, s, t, path) {
-        RowAnswer::Row(row, depth) => given(row, depth, 0),
-        RowAnswer::Refused(refusal) => refused(refusal),
-    }
-}
-
-fn handed_out(answer: ReadAnswer) -> Said {
-    match answer {
-        ReadAnswer::Read(rows, blocks, cues) => given(rows, blocks, cues),
-        ReadAnswer::Refused(refusal) => refused(refusal),
-    }
-}
-
-pub fn write(rows: &[u32], out: &mut [u8]) -> Said {
-    match show::write(rows, out) {
-        WriteAnswer::Written(length) => given(length, 0, 0),
-        WriteAnswer::Refused(refusal) => refused(refusal),
-    }
-}
-
-// The first given number is an own cue, the others are a path.
-fn number_of(rows: &[u32], given: &[u32]) -> Said {
-    if given.len() < 1 {
-        return number(rows, given, 0);
-    }
-    number(rows, &given[1..], given[0])
-}
-
-// A question by its first letter, but for writing.
-pub fn ask(letter: u8, file: &[u8], rows: &[u32], given: &[u32], lent: &mut [u32]) -> Said {
-    let first = text::get(given, 0);
-    let second = text::get(given, 1);
-    match letter {
-        b'c' => count(rows),
-        b'l' => locate(rows, first, lent),
-        b'n' => number_of(rows, given),
-        b'o' => paged(show::list_out(rows, first, second, lent)),
-        b'i' => paged(show::list_in(rows, first, second, lent)),
-        b'f' => fewest(rows, first, second, lent),
-        b'b' => row(rows, first, second, lent),
-        b'd' => handed_out(show::read_desk(file, lent)),
-        _ => handed_out(show::read(file, lent)),
+// A question whose lent list has 32 bits. The first number that the question for a number is given is an own cue, the others are a path.
+pub fn ask(question: Question, shown: &Shown, given: &[u32], lent: &mut [u32]) -> [u32; 4] {
+    let rows = shown.rows();
+    let (first, others) = given.split_first().unwrap_or((&0, &[]));
+    let second = others.first().copied().unwrap_or(0);
+    match question {
+        Question::Count => show::count(rows).map_or_else(refused, |cues| [0, cues, 0, 0]),
+        Question::Locate => show::locate(rows, *first, lent).map_or_else(
+            refused,
+            |place| [0, place.depth, place.block, place.own],
+        ),
+        Question::Number => {
+            show::number(rows, others, *first).map_or_else(refused, |n| [0, n, 0, 0])
+        }
+        Question::LinksOut => listed(show::list_out(rows, *first, second, lent)),
+        Question::LinksIn => listed(show::list_in(rows, *first, second, lent)),
+        Question::Fewest => {
+            show::fewest(rows, *first, second, lent).map_or_else(refused, fewest)
+        }
+        Question::Behind => show::row(rows, *first, second, lent).map_or_else(
+            refused,
+            |link| [0, link.row, link.depth, 0],
+        ),
+        Question::ReadDesk => read(show::read_desk(shown.file(), lent)),
+        _ => read(show::read(shown.file(), lent)),
     }
 }

@@ -1,242 +1,121 @@
-// What a case asks, and whether the answer and all that was lent are as they must be. Lent lists hold 7s before the call.
-ghost use Rattle.std.specs.Prelude.{◌≤◌};
-
-use crate::asking::Said;
+// Whether the answer to a case and all that was lent are as they must be. Lent lists hold 7s before the call.
+use crate::asking::Question;
+use crate::data_lines::Case;
+use crate::shown::{BYTES, Shown};
+use crate::text::Numbers;
 use crate::{asking, text};
+use std::alloc::{AllocError, Global};
+use std::array;
 
-// The lesser of two numbers.
-pub fn least(a: usize, b: usize) -> usize
-    ensures { (result ≤ a) × (result ≤ b) }
-{
-    if a < b {
-        return a;
-    }
-    b
+// The numbers that a lent list may have.
+pub const LENT: usize = 16400;
+
+// The numbers that a question may be given, and the bytes of a wait file.
+const GIVEN: usize = 140;
+
+const WAITS: usize = 4096;
+
+// The zeros that an answer leaves in a work area of 64 bits; a refusal leaves none.
+const ZEROS: usize = 16384;
+
+// A list begins with this content and holds sevens behind it, as far as it reaches.
+fn holds<T: Copy + PartialEq>(list: &[T], content: &[T], seven: T) -> bool {
+    let (begun, behind) = list.split_at(content.len().min(list.len()));
+    content.starts_with(begun) && behind.iter().all(|x| *x == seven)
 }
 
-fn wide(x: u32) -> usize {
-    x as usize
+// The first number of a text, or 0.
+fn single(text: &[u8]) -> u32 {
+    Numbers::new(text).next().unwrap_or(0)
 }
 
-// The answer is the one that stands in the case.
-fn agrees(said: Said, want: &[u32]) -> bool {
-    if said.number != text::get(want, 0) {
-        return false;
-    }
-    if said.first != text::get(want, 1) {
-        return false;
-    }
-    if said.second != text::get(want, 2) {
-        return false;
-    }
-    said.third == text::get(want, 3)
-}
-
-// A list begins with the numbers of another and holds 7s behind them.
-fn holds(list: &[u32], content: &[u32]) -> bool {
-    let mut i = 0;
-    while i < list.len() {
-        let expected = lent_at(content, i);
-        if list[i] != expected {
-            return false;
-        }
-        i += 1;
-    }
-    true
-}
-
-// What a lent list must hold at a place.
-fn lent_at(content: &[u32], i: usize) -> u32 {
-    if i < content.len() {
-        return content[i];
-    }
-    7
-}
-
-// The same for bytes.
-fn holds_text(bytes: &[u8], content: &[u8]) -> bool {
-    let mut i = 0;
-    while i < bytes.len() {
-        let expected = lent_byte(content, i);
-        if bytes[i] != expected {
-            return false;
-        }
-        i += 1;
-    }
-    true
-}
-
-fn lent_byte(content: &[u8], i: usize) -> u8 {
-    if i < content.len() {
-        return content[i];
-    }
-    7
-}
-
-// Writing leaves this content in what is lent, and gives what is wanted.
-fn is_written(rows: &[u32], out: &mut [u8], want: &[u32], content: &[u8]) -> bool {
-    let said = asking::write(rows, out);
-    let right = agrees(said, want);
-    if !right {
-        return false;
-    }
-    holds_text(out, content)
-}
-
-// Writing gives these bytes, if it is not refused.
-fn is_file(file: &[u8], rows: &[u32], out: &mut [u8], want: &[u32]) -> bool {
-    if text::get(want, 0) == 0 {
-        return is_written(rows, out, want, file);
-    }
-    is_written(rows, out, want, &file[0..0])
-}
-
-// Writing to the first so many bytes of what is lent.
-fn writes_to(file: &[u8], rows: &[u32], size: usize, out: &mut [u8], want: &[u32]) -> bool {
-    let end = least(size, out.len());
-    is_file(file, rows, &mut out[0..end], want)
-}
-
-// Writing gives the file without the zeros that pad its values.
-fn writes_plain(
-    file: &[u8],
-    plain: &mut [u8],
-    rows: &[u32],
+// What a case wants: the size of what is lent, and the answer.
+#[derive(Clone, Copy)]
+struct Wanted {
     size: usize,
-    out: &mut [u8],
-    want: &[u32],
-) -> bool {
-    let many = text::unpad(file, plain);
-    let end = least(many, plain.len());
-    writes_to(&plain[0..end], rows, size, out, want)
+    answer: [u32; 4],
 }
 
-fn writes(file: &[u8], rows: &[u32], size: usize, want: &[u32]) -> bool {
-    let mut out = [7u8; 65552];
-    let mut plain = [0u8; 65552];
-    writes_plain(file, &mut plain, rows, size, &mut out, want)
-}
-
-// The question leaves this content in the lent list, and gives what is wanted.
-fn is_asked(
-    letter: u8,
-    file: &[u8],
-    rows: &[u32],
-    given: &[u32],
-    lent: &mut [u32],
-    want: &[u32],
-    content: &[u32],
-) -> bool {
-    let said = asking::ask(letter, file, rows, given, lent);
-    let right = agrees(said, want);
-    if !right {
-        return false;
-    }
-    holds(lent, content)
-}
-
-// Reading gives the numbers of the file, if it is not refused.
-fn is_answered(
-    letter: u8,
-    file: &[u8],
-    rows: &[u32],
-    given: &[u32],
-    lent: &mut [u32],
-    want: &[u32],
-    content: &[u32],
-) -> bool {
-    if letter == b'r' {
-        if text::get(want, 0) == 0 {
-            return is_asked(letter, file, rows, given, lent, want, rows);
+impl Wanted {
+    fn new(case: &Case) -> Wanted {
+        let mut answer = Numbers::new(case.answer);
+        Wanted {
+            size: single(case.size) as usize,
+            answer: array::from_fn(|_| answer.next().unwrap_or(0)),
         }
     }
-    is_asked(letter, file, rows, given, lent, want, content)
-}
 
-// The question with the first so many numbers of the lent list.
-fn answers_to(
-    letter: u8,
-    file: &[u8],
-    rows: &[u32],
-    given: &[u32],
-    size: usize,
-    lent: &mut [u32],
-    want: &[u32],
-    content: &[u32],
-) -> bool {
-    let end = least(size, lent.len());
-    is_answered(letter, file, rows, given, &mut lent[0..end], want, content)
-}
-
-fn answers(
-    letter: u8,
-    file: &[u8],
-    rows: &[u32],
-    given: &[u32],
-    size: usize,
-    want: &[u32],
-    content: &[u32],
-) -> bool {
-    let mut list = [7u32; 16400];
-    answers_to(letter, file, rows, given, size, &mut list, want, content)
-}
-
-// What a work area of 64 bits must hold at a place, where so many of its numbers are 0.
-fn cleared_at(zeros: usize, i: usize) -> u64 {
-    if i < zeros {
-        return 0;
+    fn is_refusal(&self) -> bool {
+        self.answer[0] != 0
     }
-    7
-}
 
-fn is_cleared(work: &[u64], zeros: usize) -> bool {
-    let mut i = 0;
-    while i < work.len() {
-        let expected = cleared_at(zeros, i);
-        if work[i] != expected {
-            return false;
-        }
-        i += 1;
+    // A question leaves this content in the lent list.
+    fn is_asked(&self, question: Question, shown: &Shown, given: &[u32], content: &[u32]) -> bool {
+        let mut list = [7u32; LENT];
+        let lent = &mut list[..self.size.min(LENT)];
+        asking::ask(question, shown, given, lent) == self.answer && holds(lent, content, 7)
     }
-    true
-}
 
-// An answer leaves 16,384 zeros, a refusal none.
-fn zeros_left(want: &[u32]) -> usize {
-    if text::get(want, 0) == 0 {
-        return 16384;
+    // Writing gives the file without the zeros that pad its values, if it is not refused.
+    fn is_written(&self, rows: &[u32], plain: &[u8]) -> bool {
+        let mut list = [7u8; BYTES];
+        let out = &mut list[..self.size.min(BYTES)];
+        let content = if self.is_refusal() { b"" } else { plain };
+        asking::write(rows, out) == self.answer && holds(out, content, 7)
     }
-    0
-}
 
-fn times_to(rows: &[u32], s: u32, t: u32, waits: &[u8], work: &mut [u64], want: &[u32]) -> bool {
-    let said = asking::quickest(rows, s, t, waits, work);
-    let right = agrees(said, want);
-    if !right {
-        return false;
+    // The quickest way between two cues under a wait file clears its work area, if it is not refused.
+    fn is_timed(&self, rows: &[u32], s: u32, t: u32, waits: &[u8]) -> bool {
+        let mut list = [7u64; LENT];
+        let work = &mut list[..self.size.min(LENT)];
+        let zeros = [0u64; ZEROS];
+        let content = if self.is_refusal() {
+            &[]
+        } else {
+            zeros.as_slice()
+        };
+        asking::quickest(rows, s, t, waits, work) == self.answer && holds(work, content, 7)
     }
-    is_cleared(work, zeros_left(want))
 }
 
-// The quickest way under a wait file, with a work area of this size, is what is wanted.
-pub fn is_timed(rows: &[u32], s: u32, t: u32, waits: &[u8], size: u32, want: &[u32]) -> bool {
-    let mut work = [7u64; 16400];
-    let end = least(wide(size), work.len());
-    times_to(rows, s, t, waits, &mut work[0..end], want)
+// The case of the quickest way: two cues and a wait file, with a space behind each cue.
+fn is_timed(alloc: Global, case: &Case, shown: &Shown) -> Result<bool, AllocError> {
+    let (first, behind) = text::part(case.onward, b' ');
+    let (second, file) = text::part(behind, b' ');
+    let waits: Vec<u8> = file
+        .iter()
+        .take(WAITS)
+        .take_while(|b| **b != b'|')
+        .map(|b| text::fed(*b))
+        .collect(alloc)?;
+    let wanted = Wanted::new(case);
+    Ok(wanted.is_timed(
+        shown.rows(),
+        single(first),
+        single(second),
+        waits.as_slice(),
+    ))
 }
 
-// The question with this letter about the show, given its numbers and a lent list of this size, gives what is wanted.
+// The question of a case about the show gives what is wanted, and leaves this content in the lent list. Reading leaves the rows there.
 pub fn is_right(
-    letter: u8,
-    file: &[u8],
-    rows: &[u32],
-    given: &[u32],
-    size: u32,
-    want: &[u32],
+    alloc: Global,
+    case: &Case,
+    shown: &Shown,
     content: &[u32],
-) -> bool {
-    if letter == b'w' {
-        return writes(file, rows, wide(size), want);
+) -> Result<bool, AllocError> {
+    let wanted = Wanted::new(case);
+    match Question::from(case.question) {
+        Question::Quickest => is_timed(alloc, case, shown),
+        Question::Write => {
+            let plain = text::unpadded(alloc, shown.file())?;
+            Ok(wanted.is_written(shown.rows(), plain.as_slice()))
+        }
+        question => {
+            let given: Vec<u32> = Numbers::new(case.given).take(GIVEN).collect(alloc)?;
+            let reads = question == Question::Read && !wanted.is_refusal();
+            let content = if reads { shown.rows() } else { content };
+            Ok(wanted.is_asked(question, shown, given.as_slice(), content))
+        }
     }
-    answers(letter, file, rows, given, wide(size), want, content)
 }

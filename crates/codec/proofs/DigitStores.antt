@@ -1,24 +1,24 @@
 -- The digits of a number, one and two at a time.
 use Prim.Native.Nat.{ℕ, ◌+◌, ◌/◌, ◌≤◌, ◌<◌}
-use mathlib.Core.Path.{◌≡◌, ◌∙◌}
-use mathlib.Core.List.{List, [], ◌∷◌, ◌++◌}
+use mathlib.Core.Path.{◌≡◌, refl, ◌∙◌}
+use mathlib.Core.Bool.{Bool, true, false}
+use lib.Dec.{leb}
+use mir.Val.{bool_byte}
+use borrow.Author.Tests.{leb-true, leb-false}
+use mathlib.Core.List.{List, [], ◌∷◌, ◌++◌, append_assoc}
 use native.Mathlib.Omega.{arith}
 use native.Mathlib.Decide.{dec_lt}
 use lib.ListN.{length, set, length-append}
 use Rattle.model.specs.Choice.{if_lt}
 use Rattle.model.specs.Values.{digit_at, digits}
-use Rattle.basics.proofs.Choices.{lt_then, lt_else}
+use Rattle.basics.proofs.Choices.{lt_yes, lt_no, lt_then, lt_else}
 use Rattle.codec.specs.Writing.{one, two, value_text, Puts}
-use Rattle.codec.proofs.Stores.{puts-byte, puts-both, puts-as, puts-long}
+use Rattle.codec.proofs.Stores.{puts-byte, puts-both, puts-long}
 
 -- A digit of a part of a number is one of the number.
 part-digit : (p q k v : ℕ) → v / k / p ≡ v / q → digit_at p (v / k) ≡ digit_at q v
 unfolding digit_at
 part-digit p q k v e = rw e
-
-pub two_is : (q : ℕ) → two q ≡ one (q / 10) ++ one q
-unfolding one two
-two_is q = rw (part-digit 1 10 10 q (omega arith))
 
 module _ (v : ℕ) where
   pub one-digit : v < 10 → digits v ≡ one v
@@ -65,45 +65,46 @@ module _ (v : ℕ) where
             lt_else _ _ _ _ g ∙ lt_else _ _ _ _ k ∙ lt_else _ _ _ _ l ∙ lt_else _ _ _ _ h
             ∙ rw (part-digit 1 100 100 v (omega arith), part-digit 10 1000 100 v (omega arith), part-digit 1 10000 10000 v (omega arith))
 
+        pub five_parts : 10000 ≤ v → digits v ≡ one (v / 10000) ++ (two (v / 100) ++ two v)
+        five_parts h = five_digits h ∙ append_assoc (one (v / 10000)) (two (v / 100)) (two v)
+
         pub five_wide : 10000 ≤ v → 5 ≡ length (digits v)
         unfolding one two
         five_wide h = rw (five_digits h)
 
-        -- Behind the first of five digits there is room for the next two, and then for the last two.
-        module _
-            (h : 10000 ≤ v) (at i a b : ℕ) (o p : List ℕ) (room : at + length (digits v) ≤ length o) (s : Puts (one a) o at i p)
-          where
-            pub second-room : i + length (two b) ≤ length p
-            unfolding one two
-            second-room = omega (arith, five_wide h, puts-long s, s.place)
-
-            pub third_room : (j c : ℕ) (q : List ℕ) → Puts (two b) p i j q → j + length (two c) ≤ length q
-            unfolding one two
-            third_room j c q t = omega (arith, five_wide h, puts-long s, s.place, puts-long t, t.place)
-
 -- What is stored for them.
-pub puts_one : (q d at : ℕ) (o : List ℕ) → d ≡ digit_at 1 q → Puts (one q) o at (at + 1) (set o at d)
-unfolding one
-puts_one q d at o e = rw (← e) (puts-byte o at d)
+module _ (q : ℕ) (o : List ℕ) where
+  pub puts_one : (d : ℕ) → d ≡ digit_at 1 q → Puts (one q) o 0 1 (set o 0 d)
+  unfolding one
+  puts_one d e = rw (← e) (puts-byte o 0 d)
 
-pub puts-two : (q at i j : ℕ) (o p r : List ℕ) → Puts (one (q / 10)) o at i p → Puts (one q) p i j r → Puts (two q) o at j r
-puts-two q at i j o p r s t = puts-as (two_is q) (puts-both s t)
+  pub puts_two : (d e : ℕ) → d ≡ digit_at 1 (q / 10) → e ≡ digit_at 1 q → Puts (two q) o 0 2 (set (set o 0 d) 1 e)
+  unfolding two
+  puts_two d e f g = rw (← f ∙ part-digit 1 10 10 q (omega arith), ← g) (puts-both (puts-byte o 0 d) (puts-byte (set o 0 d) 1 e))
 
 -- A value and the byte behind it.
 pub value-long : (v e : ℕ) → length (value_text v e) ≡ length (digits v) + 1
 unfolding value_text
 value-long v e = length-append (digits v) (e ∷ [])
 
-pub value_room : (v e at n : ℕ) → at + length (value_text v e) ≤ n → at + length (digits v) ≤ n
-value_room v e at n h = omega (arith, value-long v e)
+pub value_room : (v e n : ℕ) → length (value_text v e) ≤ n → length (digits v) ≤ n
+value_room v e n h = omega (arith, value-long v e)
 
-module _ (v at i : ℕ) (o p : List ℕ) (s : Puts (digits v) o at i p) where
-  pub end-room : (e : ℕ) → at + length (value_text v e) ≤ length o → i < length p
+module _ (v i : ℕ) (o p : List ℕ) (s : Puts (digits v) o 0 i p) where
+  pub end-room : (e : ℕ) → length (value_text v e) ≤ length o → i < length p
   end-room e h = omega (arith, value-long v e, puts-long s, s.place)
 
-  pub puts-value : (e : ℕ) → Puts (value_text v e) o at (i + 1) (set p i e)
+  pub puts-value : (e : ℕ) → Puts (value_text v e) o 0 (i + 1) (set p i e)
   unfolding value_text
   puts-value e = puts-both s (puts-byte p i e)
+
+-- 1 where a limit is reached.
+pub reach_value : (r v l : ℕ) → r ≡ bool_byte (leb l v) → r ≡ if_lt v l 0 1
+reach_value r v l e = go (leb l v) refl e
+  where
+    go : (t : Bool) → leb l v ≡ t → r ≡ bool_byte t → r ≡ if_lt v l 0 1
+    go true t e = lt_no v l 0 1 r (leb-true l v t) e
+    go false t e = lt_yes v l 0 1 r (leb-false l v t) e
 
 -- How many digits: one, and one more for each limit that is reached.
 pub width_sum : (v a b c d : ℕ) → a ≡ if_lt v 10 0 1 → b ≡ if_lt v 100 0 1 → c ≡ if_lt v 1000 0 1 → d ≡ if_lt v 10000 0 1

@@ -8,4 +8,3 @@ pub mod Stores
 pub mod DigitStores
 pub mod Spills
 pub mod RowStores
-pub mod Again

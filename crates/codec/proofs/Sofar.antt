@@ -7,6 +7,8 @@ use native.Mathlib.Omega.{arith}
 use native.Mathlib.Decide.{dec_lt}
 use lib.ListN.{length, take, drop, length-append, drop_of_length-le}
 use lib.Seq.{take-nil, take_all, take_at, take-append-le, drop_at, drop-drop}
+use Rattle.std.proofs.Common.{Result, Ok, Err}
+use Rattle.model.specs.declared.Refusal.{Refusal}
 use Rattle.model.specs.Limits.{row_size, max_bytes}
 use Rattle.model.specs.Text.{ends, lines_of}
 use Rattle.model.specs.Rows.{row_count}
@@ -17,9 +19,6 @@ use Rattle.shows.proofs.Lines.{spelled_many}
 use Rattle.lines.proofs.LineTexts.{line_text_lem, line_counted}
 use Rattle.codec.specs.Scanning.{names_size, stored, StepSays, starts_named}
 use Rattle.codec.specs.Parsing.{filled, Parses}
-use Rattle.codec.specs.declared.Parsed.{Parsed}
-use Rattle.codec.specs.declared.Parsed.TheVariants.{Rows, Refused}
-use Rattle.codec.specs.declared.Step.TheVariants.{On, Done}
 use Rattle.codec.proofs.Names.{named-long, named-read, unnamed_read}
 use Rattle.codec.proofs.RowScan.{row_line}
 use Rattle.codec.proofs.FileScan.{read-on, read_off}
@@ -80,7 +79,10 @@ stored-in xs vs rows lent r long m n p = go (dec_lt r (length rows / row_size))
 
 module _ (f lent rows ys : List ℕ) (at n : ℕ) (s : Sofar f lent at n rows) (m : length ys ≡ length rows) where
   -- One more line: its row is stored, and less of the file is left.
-  module _ (next : ℕ) (w : StepSays f at n (On next) rows ys) where
+  module _ (next : ℕ) (b : Bool) (step : StepSays f at n (Ok b) next rows ys) (t : b ≡ true) where
+    w : StepSays f at n (Ok true) next rows ys
+    w = rw t at step
+
     pub sofar_less : length f - next < length f - at
     unfolding StepSays ends
     sofar_less =
@@ -105,24 +107,27 @@ module _ (f lent rows ys : List ℕ) (at n : ℕ) (s : Sofar f lent at n rows) (
         }
 
   -- The end of reading: the file's rows, or a line that is none.
-  pub sofar_done : (p : Parsed) → StepSays f at n (Done p) rows ys → Parses (read_file f) p lent ys
+  pub sofar_done : (next : ℕ) (b : Bool) → StepSays f at n (Ok b) next rows ys → b ≡ false → Parses (read_file f) (Ok n) lent ys
   unfolding StepSays Parses row_then read_lines lines_of row_count
-  sofar_done (Rows k) w =
-      let (h, e, q) = w in
+  sofar_done next b step t =
+      let (h, q) = rw t at step in
       let c : length s.xs / row_size ≡ n = omega (arith, s.many) in
-      rw (s.reads, drop_of_length-le f {i = at} h, append-nil s.xs, c, e, q) (refl, s.kept)
-  sofar_done (Refused r) w =
+      rw (s.reads, drop_of_length-le f {i = at} h, append-nil s.xs, c, q) (refl, s.kept)
+
+  pub sofar_refused : (next : ℕ) (r : Refusal) → StepSays f at n (Err r) next rows ys → Parses (read_file f) (Err r) lent ys
+  unfolding StepSays Parses row_then read_lines
+  sofar_refused next r w =
       let (h, e, q) = w in
       rw (s.reads, read_off f at (n + 2) h e, q)
 
 -- The refusals of a whole file.
-pub long-refused : (f lent ys : List ℕ) (p : Parsed) → max_bytes < length f → p ≡ Refused (record { number = 1; place = 0 })
+pub long-refused : (f lent ys : List ℕ) (p : Result ℕ Refusal) → max_bytes < length f → p ≡ Err (record { number = 1; place = 0 })
     → Parses (read_file f) p lent ys
 unfolding Parses read_file refusal
 long-refused f lent ys p h g = rw (lt_then max_bytes (length f) (Unread (refusal 1 0)) (read_all (lines_of f)) h) g
 
-pub unnamed_refused : (f lent ys : List ℕ) (p : Parsed) (t : Bool) → length f ≤ max_bytes → t ≡ starts_named f → t ≡ false
-    → p ≡ Refused (record { number = 2; place = 1 }) → Parses (read_file f) p lent ys
+pub unnamed_refused : (f lent ys : List ℕ) (p : Result ℕ Refusal) (t : Bool) → length f ≤ max_bytes → t ≡ starts_named f → t ≡ false
+    → p ≡ Err (record { number = 2; place = 1 }) → Parses (read_file f) p lent ys
 unfolding Parses read_file refusal
 unnamed_refused f lent ys p t h q e g =
     rw (lt_else max_bytes (length f) (Unread (refusal 1 0)) (read_all (lines_of f)) h, unnamed_read f (sym q ∙ e)) g

@@ -4,14 +4,14 @@ use mathlib.Core.Path.{◌≡◌, refl, sym, ◌∙◌, ap}
 use mathlib.Core.List.{List, [], ◌∷◌, ◌++◌, append-nil, append_assoc}
 use native.Mathlib.Omega.{arith}
 use native.Mathlib.Decide.{dec_lt}
-use lib.ListN.{length, get_or, take, drop, set, length-set, length-append}
-use lib.Seq.{sets, length-sets, length-take-le, drop-cons, set-set, set_comm, take_at, take-take, get_or_at, get_or-take, get_or-drop, take-append-add, drop-append-add}
+use lib.ListN.{length, get_or, take, drop, set, length-append}
+use lib.Seq.{sets, length-sets, length-take-le, set-set, set_comm, take_at, get_or_at, take-append-add, drop-append-add}
 use Rattle.model.specs.Choice.{if_lt}
 use Rattle.model.specs.Values.{digit_zero}
 use Rattle.model.specs.Text.{comma}
 use Rattle.basics.proofs.Choices.{lt_then, lt_else}
 use Rattle.codec.specs.Writing.{table_size, text_size, value_text, Puts, Spills, four_bytes, short_text, short_texts}
-use Rattle.codec.proofs.Stores.{sets_both}
+use Rattle.codec.proofs.Stores.{sets_both, sets-part}
 use Rattle.codec.proofs.DigitStores.{value-long, width_sum}
 
 -- A text that is as long as one before it overwrites that.
@@ -37,6 +37,17 @@ sets_next a m b o at h =
 
 pub spills_long : {a o p : List ℕ} {at i : ℕ} → Spills a o at i p → length p ≡ length o
 spills_long {a} {o} {p} {at} s = ap length s.bytes ∙ length-sets o at (a ++ s.more)
+
+-- What is written to the start of the part that is lent.
+pub spills-part : {a o zs : List ℕ} {at n : ℕ} → Spills a (take (length o - at) (drop at o)) 0 n zs
+    → Spills a o at (at + n) (take at o ++ (zs ++ drop (length o - at) (drop at o)))
+spills-part {a} {o} {zs} {at} s =
+    record {
+      more = s.more;
+      few = s.few;
+      place = omega (arith, s.place);
+      bytes = sets-part (a ++ s.more) o zs at s.bytes;
+    }
 
 pub puts-spill : {a o p : List ℕ} {at i : ℕ} → Puts a o at i p → Spills a o at i p
 puts-spill {a} s = record { more = []; few = omega arith; place = s.place; bytes = s.bytes ∙ rw (append-nil a) }
@@ -133,92 +144,72 @@ at_most_one v k = go (dec_lt v k)
     go (yes h) = let e : ◌≡◌ {A = ℕ} (if_lt v k 0 1) 0 = lt_then v k 0 1 h in omega arith
     go (no h) = let e : ◌≡◌ {A = ℕ} (if_lt v k 0 1) 1 = lt_else v k 0 1 (omega arith) in omega arith
 
+-- What stands there for a value is its text.
 module _ (v n : ℕ) (ts : List ℕ) (h : v < table_size) (e : n ≡ v) (t : ts ≡ short_texts 0 table_size) where
-  pub size_room : n * text_size + 4 < length ts
-  size_room = rw (t, texts_long 0 table_size) (omega arith)
+  pub text_room : n * text_size + text_size ≤ length ts
+  text_room = rw (t, texts_long 0 table_size) (omega arith)
 
-  pub four_room : n * text_size + 4 ≤ length ts
-  four_room = omega (arith, size_room)
+  pub entry : take (n * text_size + text_size - n * text_size) (drop (n * text_size) ts) ≡ short_text v
+  entry =
+      let z : 0 + v ≡ v = omega arith in
+      let d : n * text_size + text_size - n * text_size ≡ text_size = omega arith in
+      rw (d, e, t, texts_at 0 table_size v h, z)
 
-  entry : take text_size (drop (n * text_size) ts) ≡ short_text v
-  entry = let z : 0 + v ≡ v = omega arith in rw (e, t, texts_at 0 table_size v h, z)
+module _ (v : ℕ) (ys : List ℕ) (y : ys ≡ short_text v) where
+  pub four_room : 4 ≤ length ys
+  four_room = rw y (omega (arith, short-long v))
 
-  size-at : get_or ts (n * text_size + 4) 0 ≡ digit_zero + length (value_text v comma)
+  pub size_room : 4 < length ys
+  size_room = rw y (omega (arith, short-long v))
+
+  size-at : get_or ys 4 0 ≡ digit_zero + length (value_text v comma)
   unfolding short_text
-  size-at =
-      sym (get_or-drop (n * text_size) ts 4 0)
-      ∙ sym (get_or-take text_size (drop (n * text_size) ts) 4 0 (omega arith))
-      ∙ rw entry (get_or_at (four_bytes v) (digit_zero + length (value_text v comma)) [] 0 4 (four_long v))
+  size-at = rw y (get_or_at (four_bytes v) (digit_zero + length (value_text v comma)) [] 0 4 (four_long v))
 
-  four_at : take 4 (drop (n * text_size) ts) ≡ four_bytes v
-  unfolding short_text
-  four_at =
-      sym (take-take 4 text_size (drop (n * text_size) ts) (omega arith))
-      ∙ rw entry (take_at (four_bytes v) ((digit_zero + length (value_text v comma)) ∷ []) 4 (four_long v))
-
-  short-wide : length (value_text v comma) ≤ 4
-  short-wide =
-      omega (
-        arith,
-        value-long v comma,
-        width_sum v _ _ 0 0 refl refl (sym (lt_then v 1000 0 1 (omega arith))) (sym (lt_then v 10000 0 1 (omega arith))),
-        at_most_one v 10,
-        at_most_one v 100,
-      )
-
-  pub size-digit : digit_zero ≤ get_or ts (n * text_size + 4) 0
+  pub size-digit : digit_zero ≤ get_or ys 4 0
   size-digit = omega (arith, size-at)
 
-  pub comma-short : (o r : List ℕ) (at w : ℕ) → r ≡ sets o at (take 4 (drop (n * text_size) ts)) → w ≡ get_or ts (n * text_size + 4) 0 - digit_zero
-      → Spills (value_text v comma) o at (at + w) r
-  unfolding four_bytes
-  comma-short o r at w g s =
-      let rest = comma ∷ comma ∷ [] in
-      let m = 4 - length (value_text v comma) in
-      let k : 4 ≡ length (value_text v comma) + m = omega (arith, short-wide) in
-      let f : four_bytes v ≡ value_text v comma ++ take m rest =
-      ap (λ (j : ℕ). take j (value_text v comma ++ rest)) k ∙ take-append-add (value_text v comma) rest m in
-      record {
-        more = take m rest;
-        few = omega (arith, length-take-le m rest (omega (arith, text-some v comma)), text-some v comma);
-        place = omega (arith, size-at);
-        bytes = g ∙ rw four_at (ap (sets o at) f);
-      }
+  four_at : take 4 ys ≡ four_bytes v
+  unfolding short_text
+  four_at = rw y (take_at (four_bytes v) ((digit_zero + length (value_text v comma)) ∷ []) 4 (four_long v))
 
-pub comma-room : (v at : ℕ) (o : List ℕ) → at + length (value_text v comma) + 2 ≤ length o → at + 4 ≤ length o
-comma-room v at o h = omega (arith, text-some v comma)
+  module _ (h : v < table_size) where
+    short-wide : length (value_text v comma) ≤ 4
+    short-wide =
+        omega (
+          arith,
+          value-long v comma,
+          width_sum v _ _ 0 0 refl refl (sym (lt_then v 1000 0 1 (omega arith))) (sym (lt_then v 10000 0 1 (omega arith))),
+          at_most_one v 10,
+          at_most_one v 100,
+        )
+
+    pub comma-short : (o r : List ℕ) (w : ℕ) → r ≡ sets o 0 (take 4 ys) → w ≡ get_or ys 4 0 - digit_zero → Spills (value_text v comma) o 0 w r
+    unfolding four_bytes
+    comma-short o r w g s =
+        let rest = comma ∷ comma ∷ [] in
+        let m = 4 - length (value_text v comma) in
+        let k : 4 ≡ length (value_text v comma) + m = omega (arith, short-wide) in
+        let f : four_bytes v ≡ value_text v comma ++ take m rest =
+        ap (λ (j : ℕ). take j (value_text v comma ++ rest)) k ∙ take-append-add (value_text v comma) rest m in
+        record {
+          more = take m rest;
+          few = omega (arith, length-take-le m rest (omega (arith, text-some v comma)), text-some v comma);
+          place = omega (arith, size-at);
+          bytes = g ∙ rw four_at (ap (sets o 0) f);
+        }
+
+pub comma-room : (v n : ℕ) → length (value_text v comma) + 2 ≤ n → 4 ≤ n
+comma-room v n h = omega (arith, text-some v comma)
+
+pub value-comma : (v n : ℕ) → length (value_text v comma) + 2 ≤ n → length (value_text v comma) ≤ n
+value-comma v n h = omega arith
 
 -- Four bytes that are copied.
-module _ (o : List ℕ) (at x : ℕ) where
-  pub second-room : at + 4 ≤ length o → at + 1 < length (set o at x)
-  second-room h = omega (arith, length-set o at x)
-
-  pub third_room : (y : ℕ) → at + 4 ≤ length o → at + 2 < length (set (set o at x) (at + 1) y)
-  third_room y h = omega (arith, length-set o at x, length-set (set o at x) (at + 1) y)
-
-  pub fourth_room : (y z : ℕ) → at + 4 ≤ length o → at + 3 < length (set (set (set o at x) (at + 1) y) (at + 2) z)
-  fourth_room y z h =
-      omega (arith, length-set o at x, length-set (set o at x) (at + 1) y, length-set (set (set o at x) (at + 1) y) (at + 2) z)
-
-pub four_stored : (f o : List ℕ) (i at : ℕ) → i + 4 ≤ length f
-    → set (set (set (set o at (get_or f i 0)) (at + 1) (get_or f (i + 1) 0)) (at + 2) (get_or f (i + 2) 0)) (at + 3) (get_or f (i + 3) 0)
-    ≡ sets o at (take 4 (drop i f))
-four_stored f o i at h =
-    let a : at + 1 ≡ suc at = omega arith in
-    let b : at + 2 ≡ suc (suc at) = omega arith in
-    let c : at + 3 ≡ suc (suc (suc at)) = omega arith in
-    let x : i + 1 ≡ suc i = omega arith in
-    let y : i + 2 ≡ suc (suc i) = omega arith in
-    let z : i + 3 ≡ suc (suc (suc i)) = omega arith in
-    rw (
-      a,
-      b,
-      c,
-      x,
-      y,
-      z,
-      drop-cons f i 0 (omega arith),
-      drop-cons f (suc i) 0 (omega arith),
-      drop-cons f (suc (suc i)) 0 (omega arith),
-      drop-cons f (suc (suc (suc i))) 0 (omega arith),
-    )
+pub four_stored : (f o : List ℕ) → 4 ≤ length f
+    → set (set (set (set o 0 (get_or f 0 0)) 1 (get_or f 1 0)) 2 (get_or f 2 0)) 3 (get_or f 3 0) ≡ sets o 0 (take 4 f)
+four_stored [] o h = absurd (omega arith)
+four_stored (a ∷ []) o h = absurd (omega arith)
+four_stored (a ∷ b ∷ []) o h = absurd (omega arith)
+four_stored (a ∷ b ∷ c ∷ []) o h = absurd (omega arith)
+four_stored (a ∷ b ∷ c ∷ d ∷ f) o h = refl

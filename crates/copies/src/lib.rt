@@ -7,11 +7,11 @@
 ghost use Rattle.std.specs.Prelude.{◌≡◌, ◌+◌, ◌≤◌};
 ghost use Rattle.model.specs.Limits.{max_joins, max_total};
 ghost use Rattle.model.specs.Unfolding.{cue_at};
-ghost use Rattle.blocks.specs.Loaded.{Loaded, IsRow};
+ghost use Rattle.blocks.specs.Loaded.{IsRow};
 ghost use Rattle.blocks.specs.Places.{Found};
 ghost use Rattle.copies.specs.Copies.{inner_base, MayStep, Stepped, ColumnsFit, MeetIs, CopyAt};
 
-use blocks::{INDEX, JOINS, Place, column, joins, last, own, size_of, use_rows, used, wide};
+use blocks::{JOINS, Place, Show, column, used, wide};
 
 // A copy of a block in the show: its block, the number that its own cues follow, and the cues that its joins meet.
 #[derive(Clone, Copy)]
@@ -35,46 +35,42 @@ fn cue_number(own: u32, z: Frame, c: u32) -> u32
 }
 
 // The cues that the joins of the use of row r meet, in a copy.
-fn meet(xs: &[u32], r: usize, joins: usize, own: u32, z: Frame) -> [u32; JOINS]
-    requires { IsRow xs.now r × (joins ≤ max_joins) × (z.base + own ≤ max_total) × ColumnsFit xs.now r joins own }
-    ensures { MeetIs xs.now r joins own z result }
+fn meet(rows: &[u32], r: usize, joins: usize, own: u32, z: Frame) -> [u32; JOINS]
+    requires { IsRow rows.now r × (joins ≤ max_joins) × (z.base + own ≤ max_total) × ColumnsFit rows.now r joins own }
+    ensures { MeetIs rows.now r joins own z result }
 {
     let mut out: [u32; JOINS] = [0; JOINS];
-    let mut j = 0;
-    while j < joins {
-        let x = column(xs, r, j);
+    for j in 0..joins {
+        let x = column(rows, r, j);
         let y = cue_number(own, z, x);
         out[j] = y;
-        j += 1;
     }
     out
 }
 
 // The number that the cues of the copy of the use of row r follow, in a copy.
-fn inner_base(xs: &[u32], t: &[u32; INDEX], z: Frame, r: usize) -> u32
-    requires { Loaded xs.now t.now × MayStep xs.now t.now z r }
-    ensures { result ≡ inner_base xs.now t.now z.block z.base r }
+fn inner_base(show: &Show, z: Frame, r: usize) -> u32
+    requires { MayStep show.now.rows.now show.now.index.now z r }
+    ensures { result ≡ inner_base show.now.rows.now show.now.index.now z.block z.base r }
 {
-    let rows = use_rows(xs, t, z.block);
-    let mut b = z.base + own(xs, t, z.block);
-    let mut i = rows.first;
-    while i < r {
-        b += size_of(xs, t, z.block, i);
-        i += 1;
+    let mut b = z.base + show.own(z.block);
+    let rows = show.use_rows(z.block);
+    for i in rows.start..r {
+        b += show.size_of(z.block, i);
     }
     b
 }
 
 // One step down: into the copy of the use of row r.
-fn step(xs: &[u32], t: &[u32; INDEX], z: Frame, r: usize) -> Frame
-    requires { Loaded xs.now t.now × MayStep xs.now t.now z r }
-    ensures { Stepped xs.now t.now z r result }
+fn step(show: &Show, z: Frame, r: usize) -> Frame
+    requires { MayStep show.now.rows.now show.now.index.now z r }
+    ensures { Stepped show.now.rows.now show.now.index.now z r result }
 {
-    let own = own(xs, t, z.block);
-    let j = used(xs, r);
-    let joins = joins(xs, t, j);
-    let out = meet(xs, r, joins, own, z);
-    let b = inner_base(xs, t, z, r);
+    let own = show.own(z.block);
+    let j = used(show.rows, r);
+    let joins = show.joins(j);
+    let out = meet(show.rows, r, joins, own, z);
+    let b = inner_base(show, z, r);
     Frame {
         block: j,
         base: b,
@@ -83,22 +79,17 @@ fn step(xs: &[u32], t: &[u32; INDEX], z: Frame, r: usize) -> Frame
 }
 
 // The copy that owns the cue of a place: along the rows from the show, use by use.
-pub fn descend(xs: &[u32], t: &[u32; INDEX], place: Place, rows: &[u32]) -> Frame
-    requires { Loaded xs.now t.now × Found xs.now t.now rows.now place }
-    ensures { CopyAt xs.now t.now rows.now place.depth result }
+pub fn descend(show: &Show, place: Place, rows: &[u32]) -> Frame
+    requires { Found show.now.rows.now show.now.index.now rows.now place }
+    ensures { CopyAt show.now.rows.now show.now.index.now rows.now place.depth result }
 {
-    let none: [u32; JOINS] = [0; JOINS];
-    let depth = place.depth;
     let mut z = Frame {
-        block: last(xs, t),
+        block: show.last(),
         base: 0,
-        met: none,
+        met: [0; JOINS],
     };
-    let mut l = 0;
-    while l < depth {
-        let r = wide(rows[l]);
-        z = step(xs, t, z, r);
-        l += 1;
+    for l in 0..place.depth {
+        z = step(show, z, wide(rows[l]));
     }
     z
 }

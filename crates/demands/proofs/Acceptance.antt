@@ -4,12 +4,11 @@ use native.Mathlib.Omega.{arith}
 use mathlib.Core.Path.{◌≡◌, refl, sym, ◌∙◌, ap}
 use mathlib.Core.Logic.{◌⊎◌, inl, inr, ◌↔◌}
 use mathlib.Core.List.{List, []}
-use Rattle.model.specs.Verdicts.{refusal, refused, verdict}
+use Rattle.std.specs.Prelude.{Ok, Err}
+use Rattle.model.specs.Verdicts.{refusal, refused, verdict, Verdict, Accepted}
 use Rattle.model.specs.Answers.{Returned, returned}
 use Rattle.model.specs.Questions.{on_accepted}
 use Rattle.model.specs.declared.Refusal.{Refusal}
-use Rattle.model.specs.declared.Verdict.{Verdict}
-use Rattle.model.specs.declared.Verdict.TheVariants.{Accepted, Refused}
 use Rattle.demands.specs.Acceptance.{
   Lawful,
   Check,
@@ -83,12 +82,12 @@ module _ (xs : List ℕ) where
 
 -- The number and the place of a refusal.
 number_in : Verdict → ℕ
-number_in Accepted = 0
-number_in (Refused r) = r.number
+number_in (Ok _) = 0
+number_in (Err r) = r.number
 
 place_in : Verdict → ℕ
-place_in Accepted = 0
-place_in (Refused r) = r.place
+place_in (Ok _) = 0
+place_in (Err r) = r.place
 
 -- Rows are accepted exactly if they are lawful.
 pub accepted-exactly : (xs : List ℕ) → (verdict xs ≡ Accepted) ↔ Lawful xs
@@ -99,14 +98,14 @@ accepted-exactly xs = go (verdict-says xs)
     go (unlawful c p e f) = (λ h. absurd (not-accepted _ p (sym e ∙ h)), λ l. absurd (not-both xs c p f (all-kept xs l)))
 
 -- A refusal has the number of a check and its place, and that is broken first there.
-pub refused-is : (xs : List ℕ) (r : Refusal) → verdict xs ≡ Refused r → (c : Check) × (r.number ≡ refusal_number c) × FirstBroken xs c r.place
+pub refused-is : (xs : List ℕ) (r : Refusal) → verdict xs ≡ Err r → (c : Check) × (r.number ≡ refusal_number c) × FirstBroken xs c r.place
 unfolding refused refusal number_in place_in
 refused-is xs r h = go (verdict-says xs)
   where
     go : VerdictSays xs (verdict xs) → (c : Check) × (r.number ≡ refusal_number c) × FirstBroken xs c r.place
     go (lawful e k) = absurd (not-accepted r.number r.place (sym h ∙ e))
     go (unlawful c p e f) =
-        let z : Refused r ≡ refused (refusal_number c) p = sym h ∙ e in
+        let z : Err r ≡ refused (refusal_number c) p = sym h ∙ e in
         (c, ap number_in z, rw (ap place_in z) f)
 
 -- Rows are refused by a check at a place exactly if it is broken there first.

@@ -6,6 +6,7 @@ use mathlib.Core.Path.{◌≡◌, refl, sym, ap}
 use mathlib.Core.Bool.{Bool, true, false}
 use mathlib.Core.List.{List, [], ◌∷◌}
 use lib.ListN.{length}
+use Rattle.std.specs.Prelude.{Ok, Err, Some, None}
 use Rattle.model.specs.Choice.{if_true}
 use Rattle.model.specs.Rules.{is_cue}
 use Rattle.model.specs.Blocks.{Block, blocks_of, count}
@@ -13,29 +14,15 @@ use Rattle.model.specs.Unfolding.{show_links}
 use Rattle.model.specs.Lists.{is_out, is_into}
 use Rattle.model.specs.Behind.{Behind, Stands, Missing, behind}
 use Rattle.model.specs.Chains.{Distance, Far, Unreachable}
-use Rattle.model.specs.Verdicts.{refusal, verdict, read_file, numbers_of, file_verdict}
+use Rattle.model.specs.Verdicts.{refusal, verdict, read_file, numbers_of, file_verdict, Verdict}
 use Rattle.model.specs.Desk.{with_desk, desk_file_verdict}
 use Rattle.model.specs.Waits.{WaitFile, WaitTable, Unfit, wait_file}
-use Rattle.model.specs.Answers.{Returned, given, returned, of_read, of_write, of_count, of_locate, of_number, of_list, of_row, of_fewest, of_quickest}
+use Rattle.model.specs.Answers.{Returned, given, returned, of_read, of_write, of_count, of_locate, of_number, of_list, of_row, of_fewest, of_quickest, CountAnswer, NumberAnswer, QuickestAnswer, show_size, cue_place, listing, row_at_depth, line_refusal}
 use Rattle.model.specs.Questions.{Outcome, outcome, answer, refuse, on_accepted, with_room, with_cue, read_into, read_asked, desk_read_asked, write_into, write_asked}
 use Rattle.model.specs.Questions.{count_asked, located, locate_in, locate_asked, numbered, show_number, number_asked, listed, list_in, out_asked, in_asked, row_found, row_in, row_asked}
 use Rattle.model.specs.Questions.{distance_values, fewest_in, fewest_asked, sum_values, quickest_under, quickest_in, quickest_asked}
 use Rattle.model.specs.Asking.{AsksRead, AsksDeskRead, AsksWrite, AsksCount, AsksLocate, AsksNumber, AsksOut, AsksIn, AsksRow, AsksFewest, AsksQuickest}
 use Rattle.model.specs.declared.Refusal.{Refusal}
-use Rattle.model.specs.declared.Verdict.{Verdict}
-use Rattle.model.specs.declared.Verdict.TheVariants.{Accepted, Refused as Rejected}
-use Rattle.model.specs.declared.ReadAnswer.TheVariants.{Read, Refused as Unread}
-use Rattle.model.specs.declared.WriteAnswer.TheVariants.{Written, Refused as Unwritten}
-use Rattle.model.specs.declared.CountAnswer.{CountAnswer}
-use Rattle.model.specs.declared.CountAnswer.TheVariants.{Cues, Refused as Uncounted}
-use Rattle.model.specs.declared.LocateAnswer.TheVariants.{Found, Refused as Unlocated}
-use Rattle.model.specs.declared.NumberAnswer.{NumberAnswer}
-use Rattle.model.specs.declared.NumberAnswer.TheVariants.{Number, Refused as Unnumbered}
-use Rattle.model.specs.declared.ListAnswer.TheVariants.{Page, Refused as Unlisted}
-use Rattle.model.specs.declared.RowAnswer.TheVariants.{Row, Refused as Untraced}
-use Rattle.model.specs.declared.FewestAnswer.TheVariants.{Steps, None, Refused as Unsearched}
-use Rattle.model.specs.declared.QuickestAnswer.{QuickestAnswer}
-use Rattle.model.specs.declared.QuickestAnswer.TheVariants.{Tenths, None as NoWay, Refused as Untimed}
 use Rattle.basics.proofs.Choices.{lt_then, lt_else, eq_then, eq_else}
 use Rattle.demands.specs.Refusals.{HasAnswer}
 
@@ -67,36 +54,36 @@ module _ {A : Type 0} (of : A → Returned) (refused : Refusal → A) (says : (q
 
   rows : (v : Verdict) (o : Outcome) → Told of o → Told of (on_accepted v (λ r. refuse r lent) o)
   unfolding on_accepted
-  rows Accepted o told = told
-  rows (Rejected q) o told = refuses q
+  rows (Ok _) o told = told
+  rows (Err q) o told = refuses q
 
 -- The answer that says each refusal.
-no_read : (q : Refusal) → of_read (Unread q) ≡ returned q
+no_read : (q : Refusal) → of_read (Err q) ≡ returned q
 unfolding of_read
 no_read q = refl
 
-no_write : (q : Refusal) → of_write (Unwritten q) ≡ returned q
+no_write : (q : Refusal) → of_write (Err q) ≡ returned q
 unfolding of_write
 no_write q = refl
 
-no_locate : (q : Refusal) → of_locate (Unlocated q) ≡ returned q
+no_locate : (q : Refusal) → of_locate (Err q) ≡ returned q
 unfolding of_locate
 no_locate q = refl
 
-no_list : (q : Refusal) → of_list (Unlisted q) ≡ returned q
+no_list : (q : Refusal) → of_list (Err q) ≡ returned q
 unfolding of_list
 no_list q = refl
 
-no_row : (q : Refusal) → of_row (Untraced q) ≡ returned q
+no_row : (q : Refusal) → of_row (Err q) ≡ returned q
 unfolding of_row
 no_row q = refl
 
-no_fewest : (q : Refusal) → of_fewest (Unsearched q) ≡ returned q
+no_fewest : (q : Refusal) → of_fewest (Err q) ≡ returned q
 unfolding of_fewest
 no_fewest q = refl
 
 unfoldable untimed : Refusal → QuickestAnswer
-untimed q = Untimed q.number q.place
+untimed q = Err (line_refusal q.number q.place)
 
 no_quickest : (q : Refusal) → of_quickest (untimed q) ≡ returned q
 unfolding of_quickest untimed returned refusal
@@ -105,20 +92,20 @@ no_quickest q = refl
 -- Reading and writing.
 read-into : (xs out : List ℕ) → Told of_read (read_into xs out)
 unfolding read_into answer of_read
-read-into xs out = room of_read Unread no_read out _ _ (record { answer = Read _ _ _; after = _; asks = refl })
+read-into xs out = room of_read Err no_read out _ _ (record { answer = Ok (show_size _ _ _); after = _; asks = refl })
 
 pub read-answers : (file out : List ℕ) → HasAnswer (AsksRead file out)
 unfolding read_asked
-read-answers file out = rows of_read Unread no_read out (file_verdict file) _ (read-into (numbers_of (read_file file)) out)
+read-answers file out = rows of_read Err no_read out (file_verdict file) _ (read-into (numbers_of (read_file file)) out)
 
 pub desk_answers : (file out : List ℕ) → HasAnswer (AsksDeskRead file out)
 unfolding desk_read_asked
-desk_answers file out = rows of_read Unread no_read out (desk_file_verdict file) _ (read-into (with_desk (numbers_of (read_file file))) out)
+desk_answers file out = rows of_read Err no_read out (desk_file_verdict file) _ (read-into (with_desk (numbers_of (read_file file))) out)
 
 pub write-answers : (xs out : List ℕ) → HasAnswer (AsksWrite xs out)
 unfolding write_asked write_into answer of_write
 write-answers xs out =
-    rows of_write Unwritten no_write out (verdict xs) _ (room of_write Unwritten no_write out _ _ (record { answer = Written _; after = _; asks = refl }))
+    rows of_write Err no_write out (verdict xs) _ (room of_write Err no_write out _ _ (record { answer = Ok _; after = _; asks = refl }))
 
 -- Count and number, which write nothing.
 pub count-answers : (xs : List ℕ) → HasAnswer (λ (r : CountAnswer) (after : List ℕ). AsksCount xs r)
@@ -127,35 +114,35 @@ count-answers xs = go (verdict xs)
   where
     go : (v : Verdict)
         → HasAnswer (λ (r : CountAnswer) (after : List ℕ). of_count r ≡ on_accepted v (λ r. returned r) (given (count (blocks_of xs) ∷ [])))
-    go Accepted = record { answer = Cues _; after = []; asks = refl }
-    go (Rejected q) = record { answer = Uncounted q; after = []; asks = refl }
+    go (Ok _) = record { answer = Ok _; after = []; asks = refl }
+    go (Err q) = record { answer = Err q; after = []; asks = refl }
 
 pub number-answers : (xs path : List ℕ) (c : ℕ) → HasAnswer (λ (r : NumberAnswer) (after : List ℕ). AsksNumber xs path c r)
 unfolding number_asked numbered on_accepted of_number
 number-answers xs path c = go (verdict xs) (show_number (blocks_of xs) path c)
   where
     at : (n : ℕ) → Dec (n ≡ 0) → HasAnswer (λ (r : NumberAnswer) (after : List ℕ). of_number r ≡ numbered n)
-    at n (yes e) = record { answer = Unnumbered (refusal 13 0); after = []; asks = sym (eq_then n 0 _ _ e) }
-    at n (no e) = record { answer = Number n; after = []; asks = sym (eq_else n 0 _ _ e) }
+    at n (yes e) = record { answer = Err (refusal 13 0); after = []; asks = sym (eq_then n 0 _ _ e) }
+    at n (no e) = record { answer = Ok n; after = []; asks = sym (eq_else n 0 _ _ e) }
 
     go : (v : Verdict) (n : ℕ) → HasAnswer (λ (r : NumberAnswer) (after : List ℕ). of_number r ≡ on_accepted v (λ r. returned r) (numbered n))
-    go Accepted n = at n (ℕ_discrete n 0)
-    go (Rejected q) n = record { answer = Unnumbered q; after = []; asks = refl }
+    go (Ok _) n = at n (ℕ_discrete n 0)
+    go (Err q) n = record { answer = Err q; after = []; asks = refl }
 
 -- Those that write a lent list.
 pub locate-answers : (xs : List ℕ) (n : ℕ) (lent : List ℕ) → HasAnswer (AsksLocate xs n lent)
 unfolding locate_asked locate_in located answer of_locate
 locate-answers xs n lent =
-    rows of_locate Unlocated no_locate lent (verdict xs) _
-    (room of_locate Unlocated no_locate lent _ _
-    (cue of_locate Unlocated no_locate lent (blocks_of xs) n _ (record { answer = Found _ _ _; after = _; asks = refl })))
+    rows of_locate Err no_locate lent (verdict xs) _
+    (room of_locate Err no_locate lent _ _
+    (cue of_locate Err no_locate lent (blocks_of xs) n _ (record { answer = Ok (cue_place _ _ _); after = _; asks = refl })))
 
 list_answers : (xs : List ℕ) (linked : ℕ → Bool) (v n : ℕ) (page : List ℕ)
     → Told of_list (on_accepted (verdict xs) (λ r. refuse r page) (list_in (blocks_of xs) linked v n page))
 unfolding list_in listed answer of_list
 list_answers xs linked v n page =
-    rows of_list Unlisted no_list page (verdict xs) _
-    (cue of_list Unlisted no_list page (blocks_of xs) v _ (record { answer = Page _ _; after = _; asks = refl }))
+    rows of_list Err no_list page (verdict xs) _
+    (cue of_list Err no_list page (blocks_of xs) v _ (record { answer = Ok (listing _ _); after = _; asks = refl }))
 
 pub out_answers : (xs : List ℕ) (v n : ℕ) (page : List ℕ) → HasAnswer (AsksOut xs v n page)
 unfolding out_asked
@@ -167,32 +154,32 @@ in_answers xs v n page = list_answers xs (is_into (show_links (blocks_of xs)) v)
 
 row-found : (b : Behind) (path : List ℕ) → Told of_row (row_found b path)
 unfolding row_found answer of_row
-row-found (Stands o) path = record { answer = Row _ _; after = _; asks = refl }
-row-found Missing path = refuses of_row Untraced no_row path (refusal 14 0)
+row-found (Stands o) path = record { answer = Ok (row_at_depth _ _); after = _; asks = refl }
+row-found Missing path = refuses of_row Err no_row path (refusal 14 0)
 
 pub row-answers : (xs : List ℕ) (s t : ℕ) (lent : List ℕ) → HasAnswer (AsksRow xs s t lent)
 unfolding row_asked row_in
 row-answers xs s t lent =
-    rows of_row Untraced no_row lent (verdict xs) _
-    (room of_row Untraced no_row lent _ _
-    (cue of_row Untraced no_row lent (blocks_of xs) s _ (cue of_row Untraced no_row lent (blocks_of xs) t _ (row-found (behind xs s t) lent))))
+    rows of_row Err no_row lent (verdict xs) _
+    (room of_row Err no_row lent _ _
+    (cue of_row Err no_row lent (blocks_of xs) s _ (cue of_row Err no_row lent (blocks_of xs) t _ (row-found (behind xs s t) lent))))
 
 steps : (d : Distance) (after : List ℕ) → Told of_fewest (answer (distance_values d) after)
 unfolding answer distance_values of_fewest
-steps (Far n) after = record { answer = Steps n; after = after; asks = refl }
-steps Unreachable after = record { answer = None; after = after; asks = refl }
+steps (Far n) after = record { answer = Ok (Some n); after = after; asks = refl }
+steps Unreachable after = record { answer = Ok None; after = after; asks = refl }
 
 pub fewest-answers : (xs : List ℕ) (s t : ℕ) (work : List ℕ) → HasAnswer (AsksFewest xs s t work)
 unfolding fewest_asked fewest_in
 fewest-answers xs s t work =
-    rows of_fewest Unsearched no_fewest work (verdict xs) _
-    (room of_fewest Unsearched no_fewest work _ _
-    (cue of_fewest Unsearched no_fewest work (blocks_of xs) s _ (cue of_fewest Unsearched no_fewest work (blocks_of xs) t _ (steps _ _))))
+    rows of_fewest Err no_fewest work (verdict xs) _
+    (room of_fewest Err no_fewest work _ _
+    (cue of_fewest Err no_fewest work (blocks_of xs) s _ (cue of_fewest Err no_fewest work (blocks_of xs) t _ (steps _ _))))
 
 sums : (d : Distance) (after : List ℕ) → Told of_quickest (answer (sum_values d) after)
 unfolding answer sum_values of_quickest
-sums (Far n) after = record { answer = Tenths n; after = after; asks = refl }
-sums Unreachable after = record { answer = NoWay; after = after; asks = refl }
+sums (Far n) after = record { answer = Ok (Some n); after = after; asks = refl }
+sums Unreachable after = record { answer = Ok None; after = after; asks = refl }
 
 under : (w : WaitFile) (bs : List Block) (s t : ℕ) (work : List ℕ) → Told of_quickest (quickest_under w bs s t work)
 unfolding quickest_under

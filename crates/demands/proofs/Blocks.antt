@@ -6,8 +6,7 @@ use mathlib.Core.List.{List}
 use lib.ListN.{length}
 use Rattle.model.specs.Rows.{row_count}
 use Rattle.model.specs.Blocks.{blocks_of, total, last_block, count}
-use Rattle.model.specs.Verdicts.{verdict}
-use Rattle.model.specs.declared.Verdict.TheVariants.{Accepted}
+use Rattle.model.specs.Verdicts.{verdict, Accepted}
 use Rattle.shows.proofs.Accepted.{Passes, passes, counted, accepted-show}
 use Rattle.demands.specs.Acceptance.{nth_row, AreTotals}
 use Rattle.demands.specs.Blocks.{AreBlocks}

@@ -6,14 +6,13 @@ use mathlib.Core.Path.{◌≡◌, refl, sym, ◌∙◌, ap}
 use mathlib.Core.List.Memᴰ
 use mathlib.Core.List.{List, [], ◌∷◌, ◌++◌, append-nil, append_assoc}
 use lib.ListN.{length}
+use Rattle.std.specs.Prelude.{Ok}
+use Rattle.model.specs.Answers.{NumberAnswer}
 use Rattle.model.specs.Blocks.{Block, block_at, blocks_of, last_block}
-use Rattle.model.specs.Verdicts.{verdict}
+use Rattle.model.specs.Verdicts.{verdict, Accepted}
 use Rattle.model.specs.Paths.{number_in}
 use Rattle.model.specs.Lists.{range}
 use Rattle.model.specs.Asking.{AsksNumber}
-use Rattle.model.specs.declared.Verdict.TheVariants.{Accepted}
-use Rattle.model.specs.declared.NumberAnswer.{NumberAnswer}
-use Rattle.model.specs.declared.NumberAnswer.TheVariants.{Number}
 use Rattle.shows.specs.Accepted.{Show}
 use Rattle.shows.specs.Copies.{Copy, number, meets, copy_of, show_copy, nth_use, part_at, after, Steps, goes}
 use Rattle.shows.proofs.Accepted.{accepted-show}
@@ -89,7 +88,7 @@ module _ (xs : List ℕ) (v : verdict xs ≡ Accepted) where
   known path t = let (u, s, e) = goes_on_is blocks (whole blocks) (whole-stands blocks) 0 [] path t in rw (← e, (stands u s).leads) (stands u s).known
 
   own-cue : (path : List ℕ) (c : ℕ) (r : NumberAnswer) → Steps (show_copy blocks) path → 1 ≤ c → c ≤ own_in xs (block_at_path xs path)
-      → AsksNumber xs path c r → r ≡ Number (number (copy_at xs path) c)
+      → AsksNumber xs path c r → r ≡ Ok (number (copy_at xs path) c)
   own-cue path c r s low high asked = go (number-says xs v path c r asked)
     where
       z : Copy
@@ -101,7 +100,7 @@ module _ (xs : List ℕ) (v : verdict xs ≡ Accepted) where
       same : number_in blocks last 0 path c ≡ number z c
       same = number-after blocks shown.good last 0 [] path c s low own
 
-      go : Says (number_in blocks last 0 path c) r → r ≡ Number (number z c)
+      go : Says (number_in blocks last 0 path c) r → r ≡ Ok (number z c)
       go (says some e) = rw same at e
       go (none e _) = absurd (omega (arith, same, cue_at-own z.block.own z.base z.met c own))
 

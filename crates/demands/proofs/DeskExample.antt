@@ -31,10 +31,8 @@ use Rattle.model.specs.Rules.{
   after,
 }
 use Rattle.model.specs.Blocks.{no_block, block_at, joins_of, own_of, add_link, add_use, add_row, add_rows, blocks_of, sum_over, total}
-use Rattle.model.specs.Verdicts.{and_then, check_length, check_rows, opening_rows, check_blocks, may_stand, total_fits, verdict}
+use Rattle.model.specs.Verdicts.{and_then, check_length, check_rows, opening_rows, check_blocks, may_stand, total_fits, verdict, Verdict, Accepted}
 use Rattle.model.specs.Desk.{plain_opening, plain_link, plain_run, built_in, with_desk, check_own, check_first, desk_verdict}
-use Rattle.model.specs.declared.Verdict.{Verdict}
-use Rattle.model.specs.declared.Verdict.TheVariants.{Accepted}
 use Rattle.basics.proofs.Every.{each_at}
 use Rattle.shows.specs.Files.{SpellsFile}
 use Rattle.shows.proofs.Files.{rows-file}

@@ -6,12 +6,13 @@ use mathlib.Core.Path.{◌≡◌, refl, sym, ◌∙◌, ap}
 use mathlib.Core.Logic.{◌⊎◌, inl, inr, ◌↔◌}
 use mathlib.Core.List.{List, [], ◌∷◌}
 use lib.ListN.{length, take}
+use Rattle.std.specs.Prelude.{Ok, Err}
 use Rattle.model.specs.Limits.{row_size, max_rows, desk_rows, desk_blocks}
 use Rattle.model.specs.Rows.{row_at, row_count, rows_of, file_text}
 use Rattle.model.specs.Blocks.{blocks_of, count}
 use Rattle.model.specs.Summaries.{Search, summary_by}
 use Rattle.model.specs.Lists.{overwrite}
-use Rattle.model.specs.Verdicts.{refusal, refused, and_then, verdict, Numbers, Unread, read_file, numbers_of}
+use Rattle.model.specs.Verdicts.{refusal, refused, and_then, verdict, Numbers, Unread, read_file, numbers_of, Verdict, Accepted}
 use Rattle.model.specs.Desk.{
   built_in_numbers,
   with_desk,
@@ -23,15 +24,9 @@ use Rattle.model.specs.Desk.{
   desk_read_verdict,
   desk_file_verdict,
 }
-use Rattle.model.specs.Answers.{of_write}
+use Rattle.model.specs.Answers.{of_write, WriteAnswer, ReadAnswer, show_size}
 use Rattle.model.specs.Questions.{Outcome, outcome, refuse, answer, on_accepted, read_into, desk_read_asked}
 use Rattle.model.specs.declared.Refusal.{Refusal}
-use Rattle.model.specs.declared.Verdict.{Verdict}
-use Rattle.model.specs.declared.Verdict.TheVariants.{Accepted, Refused}
-use Rattle.model.specs.declared.ReadAnswer.{ReadAnswer}
-use Rattle.model.specs.declared.ReadAnswer.TheVariants.{Read, Refused as ReadRefused}
-use Rattle.model.specs.declared.WriteAnswer.{WriteAnswer}
-use Rattle.model.specs.declared.WriteAnswer.TheVariants.{Written}
 use Rattle.basics.proofs.Choices.{lt_then, lt_else, eq_then, eq_else}
 use Rattle.shows.specs.Files.{SpellsFile}
 use Rattle.shows.proofs.Accepted.{not-accepted, both_accepted}
@@ -100,12 +95,12 @@ pub desk_whole : (xs : List ℕ) → desk_verdict xs ≡ Accepted → verdict (b
 desk_whole xs v = (accepted-exactly (built_in_first xs)).1 ((desk_right xs).0 v).lawful
 
 -- and refused exactly by the first sentence that is broken.
-pub desk_broken : (xs : List ℕ) (q : Refusal) → desk_verdict xs ≡ Refused q → (c : Check) × (q.number ≡ refusal_number c) × DeskBroken xs c q.place
+pub desk_broken : (xs : List ℕ) (q : Refusal) → desk_verdict xs ≡ Err q → (c : Check) × (q.number ≡ refusal_number c) × DeskBroken xs c q.place
 unfolding refused refusal refusal_number
 desk_broken xs q v = go (desk_case xs)
   where
     same : (n p : ℕ) → desk_verdict xs ≡ refused n p → q ≡ refusal n p
-    same n p e = let z : Refused q ≡ Refused (refusal n p) = sym v ∙ e in cc
+    same n p e = let z : Err q ≡ Err (refusal n p) = sym v ∙ e in cc
 
     go : DeskCase xs → (c : Check) × (q.number ≡ refusal_number c) × DeskBroken xs c q.place
     go (no_count n e) = rw (same 4 0 e) (Length, refl, bad-count n)
@@ -180,7 +175,7 @@ pub unread-second : (f out : List ℕ) (q : Refusal) → read_file f ≡ Unread 
 unfolding desk_read_asked desk_file_verdict desk_read_verdict on_accepted
 unread-second f out q e = rw e
 
-pub refused-second : (f out xs : List ℕ) (q : Refusal) → read_file f ≡ Numbers xs → desk_verdict xs ≡ Refused q
+pub refused-second : (f out xs : List ℕ) (q : Refusal) → read_file f ≡ Numbers xs → desk_verdict xs ≡ Err q
     → desk_read_asked f out ≡ refuse (by_own_line q) out
 unfolding desk_read_asked desk_file_verdict desk_read_verdict in_own_lines on_accepted
 refused-second f out xs q e v = rw (e, v)
@@ -216,7 +211,7 @@ pub record DeskLeft (xs : List ℕ) (cues : ℕ) : Type 0 where
   pub blocks : 16 < length (blocks_of xs)
   pub same : (find : Search) (k i j : ℕ) → k < 16 → summary_by find (blocks_of xs) k i j ≡ summary_by find (blocks_of built_in_numbers) k i j
 
-pub desk_left : (f out after : List ℕ) (rows blocks cues : ℕ) → AsksDeskRead f out (Read rows blocks cues) after → DeskLeft (take (rows * row_size) after) cues
+pub desk_left : (f out after : List ℕ) (rows blocks cues : ℕ) → AsksDeskRead f out (Ok (show_size rows blocks cues)) after → DeskLeft (take (rows * row_size) after) cues
 unfolding with_desk desk_verdict
 desk_left f out after rows blocks cues e = go (answered second_way f out after _ e rows blocks cues refl)
   where
@@ -232,7 +227,7 @@ desk_left f out after rows blocks cues e = go (answered second_way f out after _
           same = desk_summary k.own own first;
         })
 
-pub desk_lawful : (f out after : List ℕ) (rows blocks cues : ℕ) → AsksDeskRead f out (Read rows blocks cues) after → Lawful (take (rows * row_size) after)
+pub desk_lawful : (f out after : List ℕ) (rows blocks cues : ℕ) → AsksDeskRead f out (Ok (show_size rows blocks cues)) after → Lawful (take (rows * row_size) after)
 desk_lawful f out after rows blocks cues e = (accepted-exactly (take (rows * row_size) after)).0 (desk_left f out after rows blocks cues e).accepted
 
 -- "places are still the file's own lines".
@@ -261,7 +256,7 @@ own-lines f out after r e n p a low high xs s = go ((is-desk_read f out after r 
     go (of_room q) = absurd (omega (arith, number 11 0 q))
     go (of-rows c o q) =
         lines c o (number (refusal_number c) (own_line c o) q) (ap (λ (x : Refusal). x.place) q)
-        (((is-desk_read f out after r e).refused c o).0 (a ∙ ap ReadRefused q))
+        (((is-desk_read f out after r e).refused c o).0 (a ∙ ap Err q))
 
 -- How much longer all rows are than the file's own.
 long-table : (xs : List ℕ) → length (built_in_first xs) ≡ 168 * 11 + length xs
@@ -269,13 +264,13 @@ unfolding with_desk
 long-table = with_length
 
 -- What is written for rows that were read the second way is "a whole file, which the first way reads to the same rows".
-pub writes_whole : (f out after : List ℕ) (rows blocks cues : ℕ) → AsksDeskRead f out (Read rows blocks cues) after
+pub writes_whole : (f out after : List ℕ) (rows blocks cues : ℕ) → AsksDeskRead f out (Ok (show_size rows blocks cues)) after
     → (w : WriteAnswer) (out' after' : List ℕ) → AsksWrite (take (rows * row_size) after) out' w after' → 65536 ≤ length out'
-    → WritesWhole f (Read rows blocks cues) (take (rows * row_size) after) w after'
+    → WritesWhole f (Ok (show_size rows blocks cues)) (take (rows * row_size) after) w after'
 unfolding answer
 writes_whole f out after rows blocks cues e w out' after' e' room = go (answered second_way f out after _ e rows blocks cues refl)
   where
-    go : Answered second_way f out after rows blocks cues → WritesWhole f (Read rows blocks cues) (take (rows * row_size) after) w after'
+    go : Answered second_way f out after rows blocks cues → WritesWhole f (Ok (show_size rows blocks cues)) (take (rows * row_size) after) w after'
     go k =
         record {
           bytes = length text;
@@ -307,7 +302,7 @@ writes_whole f out after rows blocks cues e w out' after' e' room = go (answered
         given : outcome (of_write w) after' ≡ answer (length text ∷ []) (overwrite text out')
         given = (rw left at e') ∙ write-answer xs out' v (omega (arith, fits))
 
-        said : w ≡ Written (length text)
+        said : w ≡ Ok (length text)
         said = written_is w (length text) (ap (λ (o : Outcome). o.answer) given)
 
         same_text : take (length text) after' ≡ text

@@ -4,14 +4,14 @@ use native.Mathlib.Omega.{arith}
 use mathlib.Core.Path.{◌≡◌, ◌∙◌, ap}
 use mathlib.Core.List.{List}
 use lib.ListN.{length, get_or, take}
+use Rattle.std.specs.Prelude.{Ok}
+use Rattle.model.specs.Answers.{FewestAnswer, show_size}
 use Rattle.model.specs.Limits.{row_size}
 use Rattle.model.specs.Blocks.{blocks_of}
 use Rattle.model.specs.Chains.{fewest}
 use Rattle.model.specs.Summaries.{summary, work_after}
 use Rattle.model.specs.Desk.{built_in_numbers}
 use Rattle.model.specs.Questions.{Outcome, answer}
-use Rattle.model.specs.declared.ReadAnswer.TheVariants.{Read}
-use Rattle.model.specs.declared.FewestAnswer.{FewestAnswer}
 use Rattle.model.specs.Asking.{AsksDeskRead, AsksFewest}
 use Rattle.demands.specs.Desk.{HasDeskSummaries}
 use Rattle.demands.specs.WorkArea.{place}
@@ -20,7 +20,7 @@ use Rattle.demands.proofs.DeskReading.{DeskLeft, desk_left}
 use Rattle.demands.proofs.Shortest.{said}
 use Rattle.demands.proofs.WorkArea.{holds}
 
-pub has-desk_summaries : (file out after : List ℕ) (rows blocks cues : ℕ) → AsksDeskRead file out (Read rows blocks cues) after
+pub has-desk_summaries : (file out after : List ℕ) (rows blocks cues : ℕ) → AsksDeskRead file out (Ok (show_size rows blocks cues)) after
     → (s t : ℕ) (work after' : List ℕ) (r : FewestAnswer) → 1 ≤ s → s ≤ cues → 1 ≤ t → t ≤ cues → 16384 ≤ length work
     → AsksFewest (take (rows * row_size) after) s t work r after' → HasDeskSummaries after'
 unfolding answer

@@ -7,10 +7,9 @@ use mathlib.Core.List.{List, Memᴰ}
 use lib.ListN.{length}
 use Rattle.model.specs.Rows.{rows_of}
 use Rattle.model.specs.Blocks.{Link, Block, blocks_of}
-use Rattle.model.specs.Verdicts.{verdict}
+use Rattle.model.specs.Verdicts.{verdict, Accepted}
 use Rattle.model.specs.Unfolding.{renamed, links}
 use Rattle.model.specs.Behind.{Traced, traced, opening_row}
-use Rattle.model.specs.declared.Verdict.TheVariants.{Accepted}
 use Rattle.basics.proofs.Members.{map-mem, mem_map}
 use Rattle.shows.specs.Accepted.{Show}
 use Rattle.shows.specs.Copies.{Copy, number, copy_of, after, Steps}

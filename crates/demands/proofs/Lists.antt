@@ -10,12 +10,10 @@ use lib.Dec.{ltb}
 use borrow.Author.Tests.{lt-ltb, ltb-true}
 use Rattle.model.specs.Blocks.{Link, blocks_of, total, last_block, count}
 use Rattle.model.specs.Unfolding.{show_links}
-use Rattle.model.specs.Verdicts.{verdict}
+use Rattle.model.specs.Verdicts.{verdict, Accepted}
 use Rattle.model.specs.Lists.{cues_after, is_out, is_into}
-use Rattle.model.specs.Answers.{of_list}
+use Rattle.model.specs.Answers.{of_list, ListAnswer}
 use Rattle.model.specs.Questions.{Outcome, outcome, refuse, on_accepted, answer, listed, list_in, out_asked, in_asked}
-use Rattle.model.specs.declared.Verdict.TheVariants.{Accepted}
-use Rattle.model.specs.declared.ListAnswer.{ListAnswer}
 use Rattle.basics.proofs.Members.{get_d_mem, mem_at}
 use Rattle.shows.specs.Accepted.{Show}
 use Rattle.shows.specs.Lists.{Rising}

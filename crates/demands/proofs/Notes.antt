@@ -8,19 +8,18 @@ use mathlib.Core.List.{List, [], Memᴰ}
 use lib.ListN.{length}
 use lib.Dec.{ltb}
 use borrow.Author.Tests.{ltb-true}
+use Rattle.model.specs.Answers.{FewestAnswer}
 use Rattle.model.specs.Choice.{if_true}
 use Rattle.model.specs.Limits.{max_label}
 use Rattle.model.specs.Rows.{cell, row_at, row_count}
 use Rattle.model.specs.Rules.{every}
 use Rattle.model.specs.Blocks.{Link, Block, blocks_of, last_block, count}
-use Rattle.model.specs.Verdicts.{verdict}
+use Rattle.model.specs.Verdicts.{verdict, Accepted}
 use Rattle.model.specs.Unfolding.{links, show_links}
 use Rattle.model.specs.Chains.{followed}
 use Rattle.model.specs.Summaries.{block_links}
 use Rattle.model.specs.Asking.{AsksFewest}
 use Rattle.model.specs.Ring.{ring, noted_ring}
-use Rattle.model.specs.declared.Verdict.TheVariants.{Accepted}
-use Rattle.model.specs.declared.FewestAnswer.{FewestAnswer}
 use Rattle.basics.proofs.Members.{get_d_mem, every-mem}
 use Rattle.shows.proofs.Followed.{followed-is, followed-has, followed-all}
 use Rattle.demands.specs.Acceptance.{nth_row, IsRow}

@@ -6,20 +6,15 @@ use mathlib.Core.Path.{◌≡◌, sym, ◌∙◌, ap}
 use mathlib.Core.Logic.{◌⊎◌, inl, inr, ◌≢◌}
 use mathlib.Core.List.{List, Memᴰ}
 use lib.ListN.{length, take, length-map}
+use Rattle.std.specs.Prelude.{Ok, Err}
 use Rattle.model.specs.Limits.{max_depth}
 use Rattle.model.specs.Blocks.{own_of, blocks_of, last_block, count}
-use Rattle.model.specs.Verdicts.{refusal, verdict}
+use Rattle.model.specs.Verdicts.{refusal, verdict, Accepted}
 use Rattle.model.specs.Unfolding.{show_links}
 use Rattle.model.specs.Paths.{Place, number_in, place_in}
 use Rattle.model.specs.Lists.{range, overwrite}
-use Rattle.model.specs.Answers.{of_locate, of_number}
+use Rattle.model.specs.Answers.{of_locate, of_number, CountAnswer, NumberAnswer, LocateAnswer, cue_place}
 use Rattle.model.specs.Questions.{Outcome, outcome, answer, located, locate_in, count_asked, locate_asked, numbered, number_asked, on_accepted}
-use Rattle.model.specs.declared.Verdict.TheVariants.{Accepted}
-use Rattle.model.specs.declared.CountAnswer.{CountAnswer}
-use Rattle.model.specs.declared.LocateAnswer.{LocateAnswer}
-use Rattle.model.specs.declared.LocateAnswer.TheVariants.{Found}
-use Rattle.model.specs.declared.NumberAnswer.{NumberAnswer}
-use Rattle.model.specs.declared.NumberAnswer.TheVariants.{Number, Refused as Unnumbered}
 use Rattle.basics.proofs.Choices.{eq_then, eq_else}
 use Rattle.basics.proofs.Members.{range_length}
 use Rattle.shows.specs.Accepted.{Show}
@@ -41,12 +36,12 @@ use Rattle.demands.proofs.Replacement.{unfolds_show}
 
 -- What number says of the number of a path and an own cue, which is 0 where they have none.
 pub data Says (n : ℕ) (r : NumberAnswer) : Type 0 where
-  says : n ≢ 0 → r ≡ Number n → Says n r
-  none : n ≡ 0 → r ≡ Unnumbered (refusal 13 0) → Says n r
+  says : n ≢ 0 → r ≡ Ok n → Says n r
+  none : n ≡ 0 → r ≡ Err (refusal 13 0) → Says n r
 
 -- The answer that has a place's values, and what it leaves.
 located-given : (r : LocateAnswer) (q : Place) (lent after : List ℕ) → outcome (of_locate r) after ≡ located q lent
-    → (r ≡ Found (length q.path) q.block q.own) × (after ≡ overwrite q.path lent)
+    → (r ≡ Ok (cue_place (length q.path) q.block q.own)) × (after ≡ overwrite q.path lent)
 unfolding located answer
 located-given r q lent after e = (found-is r _ _ _ (ap (λ (o : Outcome). o.answer) e), ap (λ (o : Outcome). o.after) e)
 
@@ -77,7 +72,7 @@ module _ (xs : List ℕ) (v : verdict xs ≡ Accepted) where
 
   locate-says : (n : ℕ) (lent after : List ℕ) (r : LocateAnswer) → 1 ≤ n → n ≤ count (blocks_of xs) → max_depth ≤ length lent
       → AsksLocate xs n lent r after
-      → (r ≡ Found (length (place_of n).path) (place_of n).block (place_of n).own) × (after ≡ overwrite (place_of n).path lent)
+      → (r ≡ Ok (cue_place (length (place_of n).path) (place_of n).block (place_of n).own)) × (after ≡ overwrite (place_of n).path lent)
   unfolding locate_asked locate_in
   locate-says n lent after r low high room e =
       located-given r (place_of n) lent after
@@ -111,10 +106,10 @@ module _ (xs : List ℕ) (v : verdict xs ≡ Accepted) where
   node-number path c n e = sym e
 
   -- A number that number gives is that of the path and the own cue.
-  given_is : (path : List ℕ) (c n : ℕ) → AsksNumber xs path c (Number n) → (number_of path c ≡ n) × (n ≢ 0)
-  given_is path c n e = go (number-says path c (Number n) e)
+  given_is : (path : List ℕ) (c n : ℕ) → AsksNumber xs path c (Ok n) → (number_of path c ≡ n) × (n ≢ 0)
+  given_is path c n e = go (number-says path c (Ok n) e)
     where
-      go : Says (number_of path c) (Number n) → (number_of path c ≡ n) × (n ≢ 0)
+      go : Says (number_of path c) (Ok n) → (number_of path c ≡ n) × (n ≢ 0)
       go (says some q) = let w : number_of path c ≡ n = cc in (w, rw w at some)
       go (none z q) = absurd (let w : ◌≡◌ {A = ℕ} 0 1 = cc in omega arith)
 
@@ -133,7 +128,7 @@ module _ (xs : List ℕ) (v : verdict xs ≡ Accepted) where
   depth n low high = omega (arith, (number-of_place n low high).located.depth, shown.blocks)
 
   leads-back : (path : List ℕ) (c n : ℕ) → number_of path c ≡ n → n ≢ 0 → (lent after : List ℕ) (a : LocateAnswer) → max_depth ≤ length lent
-      → AsksLocate xs n lent a after → ((block : ℕ) × (a ≡ Found (length path) block c)) × (take (length path) after ≡ path)
+      → AsksLocate xs n lent a after → ((block : ℕ) × (a ≡ Ok (cue_place (length path) block c))) × (take (length path) after ≡ path)
   leads-back path c n e some lent after a room q =
       let (low, high) = in_range_is path c n e some in
       let (f, g) = locate-says n lent after a low high room q in
@@ -152,33 +147,33 @@ module _ (xs : List ℕ) (v : verdict xs ≡ Accepted) where
         in_order_is = λ m q way d n f o. rises m q way d n f o;
       }
     where
-      asked : (n : ℕ) → r ≡ Number n → AsksNumber xs path c (Number n)
+      asked : (n : ℕ) → r ≡ Ok n → AsksNumber xs path c (Ok n)
       asked n q = rw q at e
 
-      named : (n : ℕ) → r ≡ Number n → number_of path c ≡ n
+      named : (n : ℕ) → r ≡ Ok n → number_of path c ≡ n
       named n q = (given_is path c n (asked n q)).0
 
-      some' : (n : ℕ) → r ≡ Number n → n ≢ 0
+      some' : (n : ℕ) → r ≡ Ok n → n ≢ 0
       some' n q = (given_is path c n (asked n q)).1
 
-      some : (n : ℕ) → r ≡ Number n → number_of path c ≢ 0
+      some : (n : ℕ) → r ≡ Ok n → number_of path c ≢ 0
       some n q = rw (named n q) (some' n q)
 
-      either : ((n : ℕ) × (r ≡ Number n)) ⊎ (r ≡ Unnumbered (refusal 13 0))
+      either : ((n : ℕ) × (r ≡ Ok n)) ⊎ (r ≡ Err (refusal 13 0))
       either = go (number-says path c r e)
         where
-          go : Says (number_of path c) r → ((n : ℕ) × (r ≡ Number n)) ⊎ (r ≡ Unnumbered (refusal 13 0))
+          go : Says (number_of path c) r → ((n : ℕ) × (r ≡ Ok n)) ⊎ (r ≡ Err (refusal 13 0))
           go (says some q) = inl (_, q)
           go (none z q) = inr q
 
-      found : number_of path c ≢ 0 → (n : ℕ) × (r ≡ Number n)
+      found : number_of path c ≢ 0 → (n : ℕ) × (r ≡ Ok n)
       found some = go (number-says path c r e)
         where
-          go : Says (number_of path c) r → (n : ℕ) × (r ≡ Number n)
+          go : Says (number_of path c) r → (n : ℕ) × (r ≡ Ok n)
           go (says _ q) = (_, q)
           go (none z q) = absurd (some z)
 
-      rises : (m : ℕ) → r ≡ Number m → (way : List ℕ) (d n : ℕ) → AsksNumber xs way d (Number n) → Before path c way d → m < n
+      rises : (m : ℕ) → r ≡ Ok m → (way : List ℕ) (d n : ℕ) → AsksNumber xs way d (Ok n) → Before path c way d → m < n
       rises m q way d n f o =
           let (h, k) = given_is way d n f in
           rw (← (named m q), ← h)
@@ -214,9 +209,9 @@ module _ (xs : List ℕ) (v : verdict xs ≡ Accepted) where
       owned : (1 ≤ (place_of n).own) × ((place_of n).own ≤ own_in xs (place_of n).block)
       owned = let (low, high) = p.located.owned in (low, rw (← own_is (place_of n).block p.located.known) high)
 
-      said : (r ≡ Found (length (place_of n).path) (place_of n).block (place_of n).own) × (after ≡ overwrite (place_of n).path lent)
+      said : (r ≡ Ok (cue_place (length (place_of n).path) (place_of n).block (place_of n).own)) × (after ≡ overwrite (place_of n).path lent)
       said = locate-says n lent after r low high room e
 
-      back : (a : NumberAnswer) → Says (number_of (place_of n).path (place_of n).own) a → a ≡ Number n
+      back : (a : NumberAnswer) → Says (number_of (place_of n).path (place_of n).own) a → a ≡ Ok n
       back a (says some f) = rw p.number at f
       back a (none z f) = absurd (omega (arith, p.number))

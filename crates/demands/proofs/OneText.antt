@@ -7,18 +7,15 @@ use mathlib.Core.Logic.{◌⊎◌, inl, inr}
 use mathlib.Core.List.Memᴰ
 use mathlib.Core.List.{List, [], ◌∷◌, ◌++◌, Memᴰ}
 use lib.ListN.{length, get_or, replicate, length-append, length-replicate}
+use Rattle.std.specs.Prelude.{Ok, Err}
 use Rattle.model.specs.Values.{decimal}
 use Rattle.model.specs.Rows.{row_count}
 use Rattle.model.specs.Blocks.{Link, blocks_of, count}
 use Rattle.model.specs.Lists.{overwrite}
-use Rattle.model.specs.Verdicts.{file_verdict}
-use Rattle.model.specs.Answers.{of_read}
+use Rattle.model.specs.Verdicts.{file_verdict, Verdict}
+use Rattle.model.specs.Answers.{of_read, ReadAnswer, show_size}
 use Rattle.model.specs.Questions.{refuse, answer, on_accepted, read_asked}
 use Rattle.model.specs.Asking.{AsksRead}
-use Rattle.model.specs.declared.ReadAnswer.{ReadAnswer}
-use Rattle.model.specs.declared.ReadAnswer.TheVariants.{Read, Refused as ReadRefused}
-use Rattle.model.specs.declared.Verdict.{Verdict}
-use Rattle.model.specs.declared.Verdict.TheVariants.{Accepted, Refused}
 use Rattle.basics.specs.Members.{Each}
 use Rattle.basics.specs.Values.{Digit}
 use Rattle.basics.proofs.Every.{each_append}
@@ -140,29 +137,29 @@ unfolding of_read read_asked on_accepted refuse answer
 an_answer file out room = go (file_verdict file) refl
   where
     go : (v : Verdict) → file_verdict file ≡ v → (r : ReadAnswer) × (after : List ℕ) × AsksRead file out r after
-    go Accepted e =
+    go (Ok _) e =
         let (xs, s, v) = accepted-file file e in
         let fits : length xs ≤ length out = omega (arith, whole-rows xs v) in
-        (Read (row_count xs) (length (blocks_of xs)) (count (blocks_of xs)), overwrite xs out, sym (read_answer file xs out s v fits))
-    go (Refused q) e = (ReadRefused q, out, rw e refl)
+        (Ok (show_size (row_count xs) (length (blocks_of xs)) (count (blocks_of xs))), overwrite xs out, sym (read_answer file xs out s v fits))
+    go (Err q) e = (Err q, out, rw e refl)
 
 -- So a file has one text, whatever the answer is.
 module _ (file a b : List ℕ) (p : IsPrinted file a) (q : IsPrinted file b) where
   text-so : (out after : List ℕ) (r : ReadAnswer) → 1024 * 11 ≤ length out → AsksRead file out r after → a ≡ b
-  text-so out after (Read rows blocks cues) room e = go (dec_lt 1000 cues)
+  text-so out after (Ok z) room e = go (dec_lt 1000 z.cues)
     where
-      go : Dec (1000 < cues) → a ≡ b
+      go : Dec (1000 < z.cues) → a ≡ b
       go (yes h) =
-          let (_, s, x) = p.count out after rows blocks cues e h in
-          let (_, t, y) = q.count out after rows blocks cues e h in
+          let (_, s, x) = p.count out after z.rows z.blocks z.cues e h in
+          let (_, t, y) = q.count out after z.rows z.blocks z.cues e h in
           let same = line_once s t in
           cc
       go (no h) =
-          let (ks, E, s, u, x) = p.links out after rows blocks cues e (omega arith) in
-          let (ls, F, t, v, y) = q.links out after rows blocks cues e (omega arith) in
+          let (ks, E, s, u, x) = p.links out after z.rows z.blocks z.cues e (omega arith) in
+          let (ls, F, t, v, y) = q.links out after z.rows z.blocks z.cues e (omega arith) in
           let same : ks ≡ ls = lines-once s (rw (← listed-once _ E F u v) at t) in
           cc
-  text-so out after (ReadRefused f) room e =
+  text-so out after (Err f) room e =
       let (_, s, x) = p.refusal out after f room e in
       let (_, t, y) = q.refusal out after f room e in
       let same = line_once s t in

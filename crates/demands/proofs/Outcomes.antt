@@ -4,12 +4,11 @@ use native.Mathlib.Omega.{arith}
 use mathlib.Core.Path.{◌≡◌, refl, sym, ap}
 use mathlib.Core.List.{List, ◌∷◌}
 use lib.ListN.{length}
-use Rattle.model.specs.Verdicts.{refusal}
+use Rattle.std.specs.Prelude.{Ok, Err}
+use Rattle.model.specs.Verdicts.{refusal, Verdict, Accepted}
 use Rattle.model.specs.Answers.{given, returned}
 use Rattle.model.specs.Questions.{Outcome, outcome, refuse, on_accepted, with_room}
 use Rattle.model.specs.declared.Refusal.{Refusal}
-use Rattle.model.specs.declared.Verdict.{Verdict}
-use Rattle.model.specs.declared.Verdict.TheVariants.{Accepted, Refused}
 use Rattle.basics.proofs.Choices.{lt_second}
 
 -- A refusal has no values.
@@ -22,8 +21,8 @@ module _ (x : ℕ) (xs after lent : List ℕ) (o : Outcome) where
   pub was_accepted : (v : Verdict) → outcome (given (x ∷ xs)) after ≡ on_accepted v (λ r. refuse r lent) o
       → (v ≡ Accepted) × (outcome (given (x ∷ xs)) after ≡ o)
   unfolding on_accepted
-  was_accepted Accepted e = (refl, e)
-  was_accepted (Refused r) e = absurd (refused-not r x xs after lent (sym e))
+  was_accepted (Ok _) e = (refl, e)
+  was_accepted (Err r) e = absurd (refused-not r x xs after lent (sym e))
 
   pub had_room : (need : ℕ) → outcome (given (x ∷ xs)) after ≡ with_room need lent o
       → (need ≤ length lent) × (o ≡ outcome (given (x ∷ xs)) after)

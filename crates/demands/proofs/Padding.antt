@@ -13,10 +13,9 @@ use Rattle.model.specs.Values.{digit_zero, is_digit, run, after_run, decimal, is
 use Rattle.model.specs.Text.{line_feed, names, ends, value_then, ended_by, values_of, into_first, lines_of, line_text}
 use Rattle.model.specs.Rows.{rows_from, row_count, rows_of, row_lines, file_text}
 use Rattle.model.specs.Lists.{overwrite}
-use Rattle.model.specs.Verdicts.{verdict, Numbers, row_then, read_lines, same, read_all, read_file}
+use Rattle.model.specs.Verdicts.{verdict, Numbers, row_then, read_lines, same, read_all, read_file, Accepted}
 use Rattle.model.specs.Questions.{answer, write_asked}
 use Rattle.model.specs.Ring.{opening, padded_file}
-use Rattle.model.specs.declared.Verdict.TheVariants.{Accepted}
 use Rattle.basics.specs.Members.{Each}
 use Rattle.basics.specs.Values.{Digit, shown, SpellsValue, Small, Other}
 use Rattle.basics.proofs.Every.{each_at, each_append, each-parts}

@@ -1,4 +1,6 @@
 -- Pages asked for one after another, whatever links the cues and whatever is asked, if each page is what document 01 demands.
+use Rattle.std.specs.Prelude.{Ok}
+use Rattle.model.specs.Answers.{ListAnswer, listing}
 use Prim.Native.Nat.{ℕ, suc, ◌-◌, ◌≤◌, ◌<◌}
 use native.Mathlib.Omega.{arith}
 use mathlib.Core.Path.{◌≡◌, refl, sym, ◌∙◌}
@@ -7,9 +9,8 @@ use mathlib.Core.Bool.{Bool, true, false, false≢true}
 use mathlib.Core.List.Memᴰ
 use mathlib.Core.List.{List, ◌++◌, Memᴰ}
 use lib.ListN.{length, get_or, take, length-append}
-use Rattle.model.specs.declared.ListAnswer.{ListAnswer}
-use Rattle.model.specs.declared.ListAnswer.TheVariants.{Page}
 use Rattle.basics.proofs.Members.{get_d_mem}
+use Rattle.demands.proofs.Answers.{listings-same}
 use Rattle.demands.specs.Lists.{Smallest, IsList, Pages, one-page, one-more_page, ArePages}
 use Rattle.demands.proofs.Rising.{not_in, rising-append, rising-last, rising-few}
 
@@ -102,11 +103,10 @@ module _ (Linked : ℕ → Type 0) where
     smallest : Smallest Linked n cues more
     some : more ≡ true → 1 ≤ length cues
 
-  wrote : (n : ℕ) (page after : List ℕ) (written : ℕ) (more : Bool) → 1 ≤ length page → IsList Linked n page (Page written more) after
+  wrote : (n : ℕ) (page after : List ℕ) (written : ℕ) (more : Bool) → 1 ≤ length page → IsList Linked n page (Ok (listing written more)) after
       → Wrote n (take written after) more
   wrote n page after written more h l =
-      let w : written ≡ length l.cues = cc l.answer in
-      let m : more ≡ l.more = cc l.answer in
+      let (w, m) = listings-same (Ok (listing written more)) _ _ _ _ refl l.answer in
       rw (w, l.leaves.first, m) (record { smallest = l.smallest; some = λ e. omega (arith, l.full e) })
 
   -- Pages asked for one after another: one at least, and what they come to.
@@ -123,7 +123,7 @@ module _ (Linked : ℕ → Type 0) where
 
     came : {n many : ℕ} {cues : List ℕ} {more : Bool} → Pages Asks n many cues more → Came n many cues more
     came {n} (one-page {page = page} {after = after} {written = written} {more = more} h a) =
-        let w : Wrote n (take written after) more = wrote n page after written more h (lists n page after (Page written more) a) in
+        let w : Wrote n (take written after) more = wrote n page after written more h (lists n page after (Ok (listing written more)) a) in
         record { smallest = w.smallest; some = w.some }
     came {n} (one-more_page {many = many} {cues = cues} {page = page} {after = after} {written = written} {more = more} p h a) = go (came p)
       where
@@ -131,7 +131,7 @@ module _ (Linked : ℕ → Type 0) where
         last = get_or cues (length cues - 1) 0
 
         w : Wrote last (take written after) more
-        w = wrote last page after written more h (lists last page after (Page written more) a)
+        w = wrote last page after written more h (lists last page after (Ok (listing written more)) a)
 
         go : Came n many cues true → Came n (suc many) (cues ++ take written after) more
         go q =

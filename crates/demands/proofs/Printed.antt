@@ -4,17 +4,17 @@ use native.Mathlib.Omega.{arith}
 use mathlib.Core.Path.{◌≡◌, refl, ◌∙◌, ap}
 use mathlib.Core.List.{List, [], ◌∷◌, ◌++◌, flat_map, Memᴰ}
 use lib.ListN.{length, length-append}
+use Rattle.std.specs.Prelude.{Ok, Err}
+use Rattle.model.specs.Answers.{show_size}
 use Rattle.model.specs.Limits.{row_size, max_rows, max_total}
 use Rattle.model.specs.Text.{names}
 use Rattle.model.specs.Rows.{row_count}
 use Rattle.model.specs.Blocks.{Link, blocks_of, last_block, count}
-use Rattle.model.specs.Verdicts.{refusal, verdict, Numbers, Unread, read_file, numbers_of, by_line, in_lines, read_verdict, file_verdict}
+use Rattle.model.specs.Verdicts.{refusal, verdict, Numbers, Unread, read_file, numbers_of, by_line, in_lines, read_verdict, file_verdict, Accepted}
 use Rattle.model.specs.Questions.{on_accepted}
 use Rattle.model.specs.Printed.{values_text, triples, links_title, cues_title, refusal_title, refusal_text, show_text, printed}
 use Rattle.model.specs.Asking.{AsksRead}
 use Rattle.model.specs.declared.Refusal.{Refusal}
-use Rattle.model.specs.declared.Verdict.TheVariants.{Accepted, Refused}
-use Rattle.model.specs.declared.ReadAnswer.TheVariants.{Read, Refused as ReadRefused}
 use Rattle.basics.specs.Members.{Each}
 use Rattle.basics.proofs.Choices.{lt_then, lt_else}
 use Rattle.shows.specs.Accepted.{Show}
@@ -52,7 +52,7 @@ row_fits xs Order p h l = omega arith
 row_fits xs Ends p h l = omega (arith, l.0.1)
 row_fits xs Totals p h l = omega (arith, l.0.1)
 
-refusal-fits : (f out after : List ℕ) (q : Refusal) → IsRead f out (ReadRefused q) after → Fits q.number × Fits q.place
+refusal-fits : (f out after : List ℕ) (q : Refusal) → IsRead f out (Err q) after → Fits q.number × Fits q.place
 unfolding refusal
 refusal-fits f out after q is = go (is.no_other q refl)
   where
@@ -63,12 +63,12 @@ refusal-fits f out after q is = go (is.no_other q refl)
     go (of_length e) = so 1 0 e (omega arith) (omega arith)
     go (of-names e) = so 2 1 e (omega arith) (omega arith)
     go (of-line n e) =
-        let (h, b) = (is.malformed n).0 (ap ReadRefused e) in
+        let (h, b) = (is.malformed n).0 (ap Err e) in
         so 3 n e (omega arith)
         (omega
         (arith, few-rows b.values, b.place, ap length b.text, length-append names (b.before ++ b.broken), length-append b.before b.broken))
     go (of-rows c p e) =
-        let (xs, s, b) = (is.refused c p).0 (ap ReadRefused e) in
+        let (xs, s, b) = (is.refused c p).0 (ap Err e) in
         so (refusal_number c) (line_place c p) e (omega (arith, (numbers c).high))
         (row_fits xs c p (omega (arith, few-rows s.values, s.short, ap length s.text, length-append names s.lines)) b.looks)
     go (of_room e) = so 11 0 e (omega arith) (omega arith)
@@ -82,7 +82,7 @@ text-unread : (f : List ℕ) (q : Refusal) → read_file f ≡ Unread q → prin
 unfolding printed file_verdict read_verdict on_accepted
 text-unread f q e = rw e
 
-text-refused : (f xs : List ℕ) (q : Refusal) → read_file f ≡ Numbers xs → verdict xs ≡ Refused q → printed f ≡ refusal_text (by_line q)
+text-refused : (f xs : List ℕ) (q : Refusal) → read_file f ≡ Numbers xs → verdict xs ≡ Err q → printed f ≡ refusal_text (by_line q)
 unfolding printed file_verdict read_verdict in_lines on_accepted
 text-refused f xs q e v = rw (e, v)
 
@@ -96,14 +96,14 @@ unfolding count
 count_most xs v = (accepted-show xs v).totals (last_block (blocks_of xs))
 
 -- What is printed of a refusal that reading gives where there is room for all rows.
-refused-so : (f out after : List ℕ) (q : Refusal) → 1024 * 11 ≤ length out → AsksRead f out (ReadRefused q) after → printed f ≡ refusal_text q
-refused-so f out after q room e = go (read-case first_way f out after (ReadRefused q) e)
+refused-so : (f out after : List ℕ) (q : Refusal) → 1024 * 11 ≤ length out → AsksRead f out (Err q) after → printed f ≡ refusal_text q
+refused-so f out after q room e = go (read-case first_way f out after (Err q) e)
   where
-    go : ReadCase first_way f out (ReadRefused q) after → printed f ≡ refusal_text q
+    go : ReadCase first_way f out (Err q) after → printed f ≡ refusal_text q
     go (not-read k t s l) = let z : q ≡ k = cc in rw z (text-unread f k t)
     go (not-lawful xs k t v s l) = let z : q ≡ by_line k = cc in rw z (text-refused f xs k t v)
     go (too_short xs t v h s l) = absurd (omega (arith, whole-rows xs v))
-    go (was_read xs t v h s l) = absurd (no_refusal (ReadRefused q) _ _ _ q s refl)
+    go (was_read xs t v h s l) = absurd (no_refusal (Err q) _ _ _ q s refl)
 
 -- The lines of links between cues of a show.
 among_fits : (n : ℕ) → n ≤ 1000 → (l : Link) → Among n l → Each Fits (triple l)
@@ -120,7 +120,7 @@ unfolding refusal_text refusal_title show_text links_title cues_title
 is-printed file =
     record {
       links = λ out after rows blocks cues e few.
-          let a = answered first_way file out after (Read rows blocks cues) e rows blocks cues refl in
+          let a = answered first_way file out after (Ok (show_size rows blocks cues)) e rows blocks cues refl in
           let bs = blocks_of a.own in
           let same : rows * 11 ≡ length a.own = omega (arith, a.rows_are, (whole-rows a.own a.lawful).0) in
           let fits : count bs ≤ 1000 = omega (arith, a.cues-are) in (
@@ -131,12 +131,12 @@ is-printed file =
             text-read file a.own a.says a.lawful ∙ lt_else 1000 (count bs) _ _ fits,
           );
       count = λ out after rows blocks cues e many.
-          let a = answered first_way file out after (Read rows blocks cues) e rows blocks cues refl in (
+          let a = answered first_way file out after (Ok (show_size rows blocks cues)) e rows blocks cues refl in (
             values_text (cues ∷ []),
             numbers-line cues [] (omega (arith, a.cues-are, count_most a.own a.lawful), tt),
             text-read file a.own a.says a.lawful ∙ rw (← a.cues-are) (lt_then 1000 cues _ _ many),
           );
       refusal = λ out after q room e.
-          let (n, p) = refusal-fits file out after q (is_read file out after (ReadRefused q) e) in
+          let (n, p) = refusal-fits file out after q (is_read file out after (Err q) e) in
           (values_text (q.number ∷ q.place ∷ []), numbers-line _ _ (n, (p, tt)), refused-so file out after q room e);
     }

@@ -5,19 +5,15 @@ use mathlib.Core.Path.{◌≡◌, refl, sym, ◌∙◌, ap}
 use mathlib.Core.Logic.{◌↔◌}
 use mathlib.Core.List.{List}
 use lib.ListN.{length}
+use Rattle.std.specs.Prelude.{Ok, Err, Some, None}
 use Rattle.model.specs.Blocks.{Link, Block, blocks_of, last_block, count}
 use Rattle.model.specs.Unfolding.{show_links}
 use Rattle.model.specs.Chains.{Distance, Far, Unreachable}
-use Rattle.model.specs.Verdicts.{refusal, verdict}
+use Rattle.model.specs.Verdicts.{refusal, verdict, Accepted}
 use Rattle.model.specs.Quickest.{quickest}
-use Rattle.model.specs.Answers.{Returned, given, returned, halves, of_quickest}
+use Rattle.model.specs.Answers.{Returned, given, returned, halves, of_quickest, FewestAnswer, QuickestAnswer, line_refusal}
 use Rattle.model.specs.Questions.{sum_values}
 use Rattle.model.specs.Asking.{AsksFewest}
-use Rattle.model.specs.declared.Verdict.TheVariants.{Accepted}
-use Rattle.model.specs.declared.QuickestAnswer.{QuickestAnswer}
-use Rattle.model.specs.declared.QuickestAnswer.TheVariants.{Tenths, None, Refused}
-use Rattle.model.specs.declared.FewestAnswer.{FewestAnswer}
-use Rattle.model.specs.declared.FewestAnswer.TheVariants.{None as NoSteps}
 use Rattle.shows.specs.Waits.{AreWaits}
 use Rattle.shows.proofs.Accepted.{accepted-show}
 use Rattle.distances.specs.Walks.{Walk, stop, Linked}
@@ -34,8 +30,8 @@ use Rattle.demands.proofs.Sums.{Agree, lasts_walk, walk_lasts}
 
 -- The answer of a sum.
 unfoldable pub answer_of : Distance → QuickestAnswer
-answer_of (Far n) = Tenths n
-answer_of Unreachable = None
+answer_of (Far n) = Ok (Some n)
+answer_of Unreachable = Ok None
 
 -- A number is known by its two halves.
 halves-same : (n m : ℕ) → n % 4294967296 ≡ m % 4294967296 → n / 4294967296 ≡ m / 4294967296 → n ≡ m
@@ -44,28 +40,28 @@ halves-same n m e f = omega arith
 -- An answer has a sum's values only if it is that sum's answer, and a refusal's number and place only if it is that refusal.
 pub same_answer : (r : QuickestAnswer) (d : Distance) → of_quickest r ≡ given (sum_values d) → r ≡ answer_of d
 unfolding of_quickest sum_values halves answer_of
-same_answer (Tenths n) (Far m) e = ap Tenths (halves-same n m (same-value _ _ e 1) (same-value _ _ e 2))
-same_answer (Tenths n) Unreachable e = let z : ◌≡◌ {A = ℕ} 1 0 = same-value _ _ e 0 in absurd (omega arith)
-same_answer None (Far m) e = let z : ◌≡◌ {A = ℕ} 0 1 = same-value _ _ e 0 in absurd (omega arith)
-same_answer None Unreachable e = refl
-same_answer (Refused n p) (Far m) e = absurd (no_values _ _ (omega arith) (sym e))
-same_answer (Refused n p) Unreachable e = absurd (no_values _ _ (omega arith) (sym e))
+same_answer (Ok (Some n)) (Far m) e = ap (λ n. Ok (Some n)) (halves-same n m (same-value _ _ e 1) (same-value _ _ e 2))
+same_answer (Ok (Some n)) Unreachable e = let z : ◌≡◌ {A = ℕ} 1 0 = same-value _ _ e 0 in absurd (omega arith)
+same_answer (Ok None) (Far m) e = let z : ◌≡◌ {A = ℕ} 0 1 = same-value _ _ e 0 in absurd (omega arith)
+same_answer (Ok None) Unreachable e = refl
+same_answer (Err f) (Far m) e = absurd (no_values _ _ (omega arith) (sym e))
+same_answer (Err f) Unreachable e = absurd (no_values _ _ (omega arith) (sym e))
 
-pub refused-alike : (r : QuickestAnswer) (n p : ℕ) → of_quickest r ≡ returned (refusal n p) → r ≡ Refused n p
+pub refused-alike : (r : QuickestAnswer) (n p : ℕ) → of_quickest r ≡ returned (refusal n p) → r ≡ Err (line_refusal n p)
 unfolding of_quickest halves returned refusal
-refused-alike (Tenths m) n p e = absurd (no_values _ _ (omega arith) e)
-refused-alike None n p e = absurd (no_values _ _ (omega arith) e)
-refused-alike (Refused m q) n p e =
-    let a : m ≡ n = ap (λ (x : Returned). x.number) e in
-    let b : q ≡ p = ap (λ (x : Returned). x.place) e in
-    cc
+refused-alike (Ok (Some m)) n p e = absurd (no_values _ _ (omega arith) e)
+refused-alike (Ok None) n p e = absurd (no_values _ _ (omega arith) e)
+refused-alike (Err f) n p e =
+    let a : f.number ≡ n = ap (λ (x : Returned). x.number) e in
+    let b : f.place ≡ p = ap (λ (x : Returned). x.place) e in
+    rw (← a, ← b)
 
-tenths-far : (d : Distance) (n : ℕ) → answer_of d ≡ Tenths n → d ≡ Far n
+tenths-far : (d : Distance) (n : ℕ) → answer_of d ≡ Ok (Some n) → d ≡ Far n
 unfolding answer_of
 tenths-far (Far m) n e = cc
 tenths-far Unreachable n e = absurd (let z : ◌≡◌ {A = ℕ} 0 1 = cc in omega arith)
 
-none-unreachable : (d : Distance) → answer_of d ≡ None → d ≡ Unreachable
+none-unreachable : (d : Distance) → answer_of d ≡ Ok None → d ≡ Unreachable
 unfolding answer_of
 none-unreachable (Far m) e = absurd (let z : ◌≡◌ {A = ℕ} 0 1 = cc in omega arith)
 none-unreachable Unreachable e = refl
@@ -98,7 +94,7 @@ module _ (xs : List ℕ) (v : verdict xs ≡ Accepted) (s t : ℕ) (low : 1 ≤ 
       let (m, d, b) = walk_cut {price = priced waits} (count bs) 6000 starts low' high' (λ label w p. omega (arith, p.1, fit.most label)) n (light.has n e) in
       omega (arith, light.least n m e d, (accepted-show xs v).totals (last_block bs))
 
-  same : (r : QuickestAnswer) → r ≡ answer_of far → (s ≡ t → r ≡ Tenths 0)
+  same : (r : QuickestAnswer) → r ≡ answer_of far → (s ≡ t → r ≡ Ok (Some 0))
   unfolding answer_of
   same r q z =
       let (n, d) = light.found 0 (stop z refl) in
@@ -110,7 +106,7 @@ module _ (xs : List ℕ) (v : verdict xs ≡ Accepted) (s t : ℕ) (low : 1 ≤ 
   lost (Far n) e z = absurd (z n (lasts n (light.has n e)))
 
   as_fewest : (r : QuickestAnswer) → r ≡ answer_of far → (work after : List ℕ) (q : FewestAnswer) → 16384 ≤ length work → AsksFewest xs s t work q after
-      → (r ≡ None) ↔ (q ≡ NoSteps)
+      → (r ≡ Ok None) ↔ (q ≡ Ok None)
   unfolding answer_of
   as_fewest r p work after q room e =
       let f = is-fewest xs v s t work after q low high low' high' room e in

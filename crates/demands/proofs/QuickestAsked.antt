@@ -7,6 +7,7 @@ use mathlib.Core.Path.{◌≡◌, refl, sym, ◌∙◌, ap}
 use mathlib.Core.Logic.{◌⊎◌, inl, inr, ⊎_elim, ◌↔◌}
 use mathlib.Core.List.{List, [], ◌∷◌, Memᴰ}
 use lib.ListN.{length, get_or, replicate, length-replicate, get_or-replicate}
+use Rattle.std.specs.Prelude.{Ok, Err, Some, None}
 use Rattle.model.specs.Blocks.{blocks_of, count}
 use Rattle.model.specs.Unfolding.{show_links}
 use Rattle.model.specs.Chains.{Distance, Far, Unreachable}
@@ -14,11 +15,9 @@ use Rattle.model.specs.Verdicts.{refusal, verdict}
 use Rattle.model.specs.Lists.{overwrite}
 use Rattle.model.specs.Waits.{WaitFile, WaitTable, Unfit, wait_file}
 use Rattle.model.specs.Quickest.{quickest}
-use Rattle.model.specs.Answers.{given, returned, of_quickest}
+use Rattle.model.specs.Answers.{Returned, given, returned, of_quickest, QuickestAnswer, line_refusal}
 use Rattle.model.specs.Questions.{Outcome, outcome, answer, refuse, cleared, quickest_under, quickest_in, quickest_asked}
 use Rattle.model.specs.Asking.{AsksQuickest}
-use Rattle.model.specs.declared.QuickestAnswer.{QuickestAnswer}
-use Rattle.model.specs.declared.QuickestAnswer.TheVariants.{Tenths, None, Refused}
 use Rattle.shows.proofs.Waits.{waits_fit}
 use Rattle.shows.proofs.Outcomes.{on-yes, has_room}
 use Rattle.demands.specs.Acceptance.{Lawful}
@@ -88,7 +87,7 @@ module _ (xs : List ℕ) (s t : ℕ) (f work after : List ℕ) (r : QuickestAnsw
       wrong n i k = not 12 (omega arith) (omega arith) (ref.no_cue.1 (l, (λ k. omega (arith, room)), (n, i, k)))
 
   -- A refusal of the file is the answer, and an answer has a lawful file.
-  unfit : Askable xs s t work → (n p : ℕ) → wait_file f ≡ Unfit n p → r ≡ Refused n p
+  unfit : Askable xs s t work → (n p : ℕ) → wait_file f ≡ Unfit n p → r ≡ Err (line_refusal n p)
   unfolding quickest_under refuse
   unfit a n p w = refused-alike r n p (ap (λ (o : Outcome). o.answer) (rw w at (said a)))
 
@@ -100,35 +99,39 @@ module _ (xs : List ℕ) (s t : ℕ) (f work after : List ℕ) (r : QuickestAnsw
       (same_answer r _ (ap (λ (o : Outcome). o.answer) o), ap (λ (o : Outcome). o.after) o)
 
   -- The number of a refusal is that of what is returned.
-  number_is : (n p : ℕ) → r ≡ Refused n p → (of_quickest r).number ≡ n
+  number_is : (n p : ℕ) → r ≡ Err (line_refusal n p) → (of_quickest r).number ≡ n
   unfolding of_quickest returned refusal
   number_is n p q = rw q
 
-  answered-is : ((n : ℕ) × (r ≡ Tenths n)) ⊎ (r ≡ None) → (of_quickest r).number ≡ 0
+  answered-is : ((n : ℕ) × (r ≡ Ok (Some n))) ⊎ (r ≡ Ok None) → (of_quickest r).number ≡ 0
   unfolding of_quickest given
   answered-is (inl (n, q)) = rw q
   answered-is (inr q) = rw q
 
   -- A refusal from 15 on is what the file says, and so is an answer.
-  file-unfit : (n p : ℕ) → 12 < n → r ≡ Refused n p → Askable xs s t work × (wait_file f ≡ Unfit n p)
-  unfolding answer_of
+  file-unfit : (n p : ℕ) → 12 < n → r ≡ Err (line_refusal n p) → Askable xs s t work × (wait_file f ≡ Unfit n p)
+  unfolding answer_of of_quickest returned refusal
   file-unfit n p h q = go (wait_file f) refl
     where
       a : Askable xs s t work
       a = askable (inr (omega (arith, number_is n p q)))
 
       go : (w : WaitFile) → wait_file f ≡ w → Askable xs s t work × (wait_file f ≡ Unfit n p)
-      go (Unfit m l) w = (a, w ∙ same m l n p (sym (unfit a m l w) ∙ q))
+      go (Unfit m l) w = (a, w ∙ same m l n p (unfit a m l w) q)
         where
-          same : (m l n p : ℕ) → Refused m l ≡ Refused n p → Unfit m l ≡ Unfit n p
-          same m l n p e = let x : m ≡ n = cc in let y : l ≡ p = cc in cc
+          same : (m l n p : ℕ) → r ≡ Err (line_refusal m l) → r ≡ Err (line_refusal n p) → Unfit m l ≡ Unfit n p
+          same m l n p e d =
+              let k = ap of_quickest (sym e ∙ d) in
+              let x : m ≡ n = ap (λ (x : Returned). x.number) k in
+              let y : l ≡ p = ap (λ (x : Returned). x.place) k in
+              cc
       go (WaitTable ws) w = absurd (none (quickest ws (show_links (blocks_of xs)) (count (blocks_of xs)) s t) (sym (under a ws w).0 ∙ q))
         where
-          none : (d : Distance) → answer_of d ≡ Refused n p → ⊥
+          none : (d : Distance) → answer_of d ≡ Err (line_refusal n p) → ⊥
           none (Far m) e = let z : ◌≡◌ {A = ℕ} 0 1 = cc in omega arith
           none Unreachable e = let z : ◌≡◌ {A = ℕ} 0 1 = cc in omega arith
 
-  file-fit : ((n : ℕ) × (r ≡ Tenths n)) ⊎ (r ≡ None) → Askable xs s t work × ((ws : List ℕ) × (wait_file f ≡ WaitTable ws))
+  file-fit : ((n : ℕ) × (r ≡ Ok (Some n))) ⊎ (r ≡ Ok None) → Askable xs s t work × ((ws : List ℕ) × (wait_file f ≡ WaitTable ws))
   file-fit q = go (wait_file f) refl
     where
       a : Askable xs s t work
@@ -138,7 +141,7 @@ module _ (xs : List ℕ) (s t : ℕ) (f work after : List ℕ) (r : QuickestAnsw
       go (WaitTable ws) w = (a, (ws, w))
       go (Unfit m l) w = absurd (refused q)
         where
-          refused : ((n : ℕ) × (r ≡ Tenths n)) ⊎ (r ≡ None) → ⊥
+          refused : ((n : ℕ) × (r ≡ Ok (Some n))) ⊎ (r ≡ Ok None) → ⊥
           refused (inl (n, p)) = let no = unfit a m l w in let z : ◌≡◌ {A = ℕ} 0 1 = cc in omega arith
           refused (inr p) = let no = unfit a m l w in let z : ◌≡◌ {A = ℕ} 0 1 = cc in omega arith
 
@@ -151,7 +154,7 @@ agree f ws vss w p =
       has = λ label low high. (waits label _ low high).1 refl;
     }
 
-either : (d : Distance) (r : QuickestAnswer) → r ≡ answer_of d → ((n : ℕ) × (r ≡ Tenths n)) ⊎ (r ≡ None)
+either : (d : Distance) (r : QuickestAnswer) → r ≡ answer_of d → ((n : ℕ) × (r ≡ Ok (Some n))) ⊎ (r ≡ Ok None)
 unfolding answer_of
 either (Far n) r q = inl (n, q)
 either Unreachable r q = inr q
@@ -166,7 +169,7 @@ module _ (xs : List ℕ) (s t : ℕ) (f work after : List ℕ) (r : QuickestAnsw
   Asked = Askable xs s t work
 
   -- A refusal of the wait file, from what is said of the file.
-  refuses_file : (n p : ℕ) → 12 < n → {P : Type 0} → (wait_file f ≡ Unfit n p) ↔ P → (r ≡ Refused n p) ↔ (Asked × P)
+  refuses_file : (n p : ℕ) → 12 < n → {P : Type 0} → (wait_file f ≡ Unfit n p) ↔ P → (r ≡ Err (line_refusal n p)) ↔ (Asked × P)
   refuses_file n p h says = (
     λ q. let (a, w) = file-unfit xs s t f work after r e n p h q in (a, says.0 w),
     λ (a, b). unfit xs s t f work after r e a n p (says.1 b),

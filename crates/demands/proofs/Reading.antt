@@ -6,16 +6,14 @@ use mathlib.Core.Logic.Iff
 use mathlib.Core.Logic.{◌↔◌}
 use mathlib.Core.List.{List}
 use lib.ListN.{length}
+use Rattle.std.specs.Prelude.{Ok, Err}
 use Rattle.model.specs.Choice.{if_lt}
 use Rattle.model.specs.Rows.{row_count}
 use Rattle.model.specs.Blocks.{blocks_of, count}
-use Rattle.model.specs.Verdicts.{refusal, refused, verdict, Numbers, Unread, read_file, numbers_of, by_line, in_lines, read_verdict, file_verdict}
-use Rattle.model.specs.Answers.{of_read}
+use Rattle.model.specs.Verdicts.{refusal, refused, verdict, Numbers, Unread, read_file, numbers_of, by_line, in_lines, read_verdict, file_verdict, Accepted}
+use Rattle.model.specs.Answers.{of_read, ReadAnswer, show_size}
 use Rattle.model.specs.Questions.{outcome, refuse, on_accepted, read_into, read_asked}
 use Rattle.model.specs.declared.Refusal.{Refusal}
-use Rattle.model.specs.declared.Verdict.TheVariants.{Accepted, Refused}
-use Rattle.model.specs.declared.ReadAnswer.{ReadAnswer}
-use Rattle.model.specs.declared.ReadAnswer.TheVariants.{Read, Refused as ReadRefused}
 use Rattle.demands.specs.Buffers.{Leaves}
 use Rattle.demands.specs.Acceptance.{Lawful, Check, Length, Sequence, Ranges, Repeats, Order, Ends, Totals, refusal_number, FirstBroken}
 use Rattle.model.specs.Asking.{AsksRead}
@@ -31,7 +29,7 @@ use Rattle.demands.proofs.ReadCases.{ReadCase, not-read, not-lawful, too_short, 
 module _ {all : List ℕ → List ℕ} {Right : List ℕ → Type 0} {Broken : List ℕ → Check → ℕ → Type 0} {line : Check → ℕ → ℕ}
     (way : Way all Right Broken line) where
   -- A refusal of rows, told by its line, is that of the first sentence that is broken,
-  broken-line : (xs : List ℕ) (q : Refusal) → way.verdict-on xs ≡ Refused q
+  broken-line : (xs : List ℕ) (q : Refusal) → way.verdict-on xs ≡ Err q
       → (c : Check) × (p : ℕ) × (way.told q ≡ refusal (refusal_number c) (line c p)) × Broken xs c p
   unfolding refusal
   broken-line xs q v =
@@ -40,7 +38,7 @@ module _ {all : List ℕ → List ℕ} {Right : List ℕ → Type 0} {Broken : L
       (c, q.place, ap way.told t ∙ way.in_line c q.place, b)
 
   -- at no other place,
-  broken-so : (xs : List ℕ) (q : Refusal) (c : Check) (p : ℕ) → way.verdict-on xs ≡ Refused q
+  broken-so : (xs : List ℕ) (q : Refusal) (c : Check) (p : ℕ) → way.verdict-on xs ≡ Err q
       → way.told q ≡ refusal (refusal_number c) (line c p) → Broken xs c p
   unfolding refusal
   broken-so xs q c p v e =
@@ -52,7 +50,7 @@ module _ {all : List ℕ → List ℕ} {Right : List ℕ → Type 0} {Broken : L
       rw at at k
 
   -- and its number is 4 to 10.
-  told-range : (xs : List ℕ) (q : Refusal) → way.verdict-on xs ≡ Refused q → (4 ≤ (way.told q).number) × ((way.told q).number ≤ 10)
+  told-range : (xs : List ℕ) (q : Refusal) → way.verdict-on xs ≡ Err q → (4 ≤ (way.told q).number) × ((way.told q).number ≤ 10)
   unfolding refusal
   told-range xs q v =
       let (c, p, t, b) = broken-line xs q v in
@@ -88,7 +86,7 @@ module _ {all : List ℕ → List ℕ} {Right : List ℕ → Type 0} {Broken : L
           → (xs : List ℕ) × SpellsFile f xs × Right xs × (length (all xs) ≤ length out)
       answered-so rows blocks cues a = (a.own, (file-reads f a.own).0 a.says, (way.right a.own).0 a.lawful, a.fits)
 
-      answers : (xs : List ℕ) → SpellsFile f xs → Right xs → length (all xs) ≤ length out → (rows blocks cues : ℕ) × (r ≡ Read rows blocks cues)
+      answers : (xs : List ℕ) → SpellsFile f xs → Right xs → length (all xs) ≤ length out → (rows blocks cues : ℕ) × (r ≡ Ok (show_size rows blocks cues))
       answers xs s l h =
           (row_count (all xs), length (blocks_of (all xs)), count (blocks_of (all xs)), is-answered way f out after r e xs (says xs s) ((way.right xs).1 l) h)
 
@@ -99,46 +97,46 @@ module _ {all : List ℕ → List ℕ} {Right : List ℕ → Type 0} {Broken : L
           let same : a.own ≡ xs = cc in
           rw (← same) (a.rows_are, a.blocks-are, a.cues-are, a.left)
 
-      number : (q k : Refusal) → r ≡ ReadRefused q → r ≡ ReadRefused k → q.number ≡ k.number
+      number : (q k : Refusal) → r ≡ Err q → r ≡ Err k → q.number ≡ k.number
       number q k s a = let e : q ≡ k = cc in ap (λ (x : Refusal). x.number) e
 
-      unread : (q : Refusal) → q.number ≤ 3 → r ≡ ReadRefused q → ReadCase way f out r after → read_file f ≡ Unread q
+      unread : (q : Refusal) → q.number ≤ 3 → r ≡ Err q → ReadCase way f out r after → read_file f ≡ Unread q
       unread q h a (not-read k t s l) = let z : k ≡ q = cc in rw (← z) t
       unread q h a (not-lawful xs k t v s l) = absurd (omega (arith, told-range xs k v, number (way.told k) q s a))
       unread q h a (too_short xs t v k s l) = absurd (omega (arith, number (refusal 11 0) q s a))
       unread q h a (was_read xs t v k s l) = absurd (no_refusal r _ _ _ q s a)
 
-      text : (q : Refusal) → q.number ≤ 3 → (r ≡ ReadRefused q) ↔ (read_file f ≡ Unread q)
+      text : (q : Refusal) → q.number ≤ 3 → (r ≡ Err q) ↔ (read_file f ≡ Unread q)
       text q h = (λ a. unread q h a case, λ t. is-refused way f out after r e q (way.unread f out q t))
 
-      broken : (c : Check) (p : ℕ) → r ≡ ReadRefused (refusal (refusal_number c) (line c p)) → ReadCase way f out r after
+      broken : (c : Check) (p : ℕ) → r ≡ Err (refusal (refusal_number c) (line c p)) → ReadCase way f out r after
           → (xs : List ℕ) × SpellsFile f xs × Broken xs c p
       broken c p a (not-read q t s l) = absurd (omega (arith, (numbers c).low, (numbers c).high, file-early f q t, number q _ s a))
       broken c p a (not-lawful xs q t v s l) = (xs, (file-reads f xs).0 t, broken-so xs q c p v cc)
       broken c p a (too_short xs t v h s l) = absurd (omega (arith, (numbers c).low, (numbers c).high, number (refusal 11 0) _ s a))
       broken c p a (was_read xs t v h s l) = absurd (no_refusal r _ _ _ _ s a)
 
-      refuses : (c : Check) (p : ℕ) (xs : List ℕ) → SpellsFile f xs → Broken xs c p → r ≡ ReadRefused (refusal (refusal_number c) (line c p))
+      refuses : (c : Check) (p : ℕ) (xs : List ℕ) → SpellsFile f xs → Broken xs c p → r ≡ Err (refusal (refusal_number c) (line c p))
       refuses c p xs s b =
           is-refused way f out after r e _ (way.declined f out xs (refusal (refusal_number c) p) (says xs s) (way.breaks xs c p b))
-          ∙ ap ReadRefused (way.in_line c p)
+          ∙ ap Err (way.in_line c p)
 
-      short : r ≡ ReadRefused (refusal 11 0) → ReadCase way f out r after → (xs : List ℕ) × SpellsFile f xs × Right xs × (length out < length (all xs))
+      short : r ≡ Err (refusal 11 0) → ReadCase way f out r after → (xs : List ℕ) × SpellsFile f xs × Right xs × (length out < length (all xs))
       short a (not-read q t s l) = absurd (omega (arith, file-early f q t, number q _ s a))
       short a (not-lawful xs q t v s l) = absurd (omega (arith, told-range xs q v, number (way.told q) _ s a))
       short a (too_short xs t v h s l) = (xs, (file-reads f xs).0 t, (way.right xs).0 v, h)
       short a (was_read xs t v h s l) = absurd (no_refusal r _ _ _ _ s a)
 
-      no_room : (xs : List ℕ) → SpellsFile f xs → Right xs → length out < length (all xs) → r ≡ ReadRefused (refusal 11 0)
+      no_room : (xs : List ℕ) → SpellsFile f xs → Right xs → length out < length (all xs) → r ≡ Err (refusal 11 0)
       no_room xs s l h = is-refused way f out after r e _ (is-short way f out after r e xs (says xs s) ((way.right xs).1 l) h)
 
-      kept : (q : Refusal) → r ≡ ReadRefused q → ReadCase way f out r after → after ≡ out
+      kept : (q : Refusal) → r ≡ Err q → ReadCase way f out r after → after ≡ out
       kept q a (not-read k t s l) = l
       kept q a (not-lawful xs k t v s l) = l
       kept q a (too_short xs t v h s l) = l
       kept q a (was_read xs t v h s l) = absurd (no_refusal r _ _ _ q s a)
 
-      other : (q : Refusal) → r ≡ ReadRefused q → ReadCase way f out r after → ReadRefusal line q
+      other : (q : Refusal) → r ≡ Err q → ReadCase way f out r after → ReadRefusal line q
       other q a (not-read k t s l) = let z : q ≡ k = cc in rw z (file-refusal line f k t)
       other q a (not-lawful xs k t v s l) =
           let z : q ≡ way.told k = cc in
@@ -179,7 +177,7 @@ pub unread-first : (f out : List ℕ) (q : Refusal) → read_file f ≡ Unread q
 unfolding read_asked file_verdict read_verdict on_accepted
 unread-first f out q e = rw e
 
-pub refused-first : (f out xs : List ℕ) (q : Refusal) → read_file f ≡ Numbers xs → verdict xs ≡ Refused q → read_asked f out ≡ refuse (by_line q) out
+pub refused-first : (f out xs : List ℕ) (q : Refusal) → read_file f ≡ Numbers xs → verdict xs ≡ Err q → read_asked f out ≡ refuse (by_line q) out
 unfolding read_asked file_verdict read_verdict in_lines on_accepted
 refused-first f out xs q e v = rw (e, v)
 

@@ -7,27 +7,18 @@ use mathlib.Core.Logic.{◌⊎◌, inl, inr, ⊎_elim, ◌↔◌}
 use mathlib.Core.List.Memᴰ
 use mathlib.Core.List.{List, [], ◌∷◌, Memᴰ}
 use lib.ListN.{length}
+use Rattle.std.specs.Prelude.{Ok, Err}
 use Rattle.model.specs.Rules.{is_cue}
 use Rattle.model.specs.Blocks.{blocks_of, count}
 use Rattle.model.specs.Behind.{Behind, Stands, Missing, behind}
 use Rattle.model.specs.Waits.{WaitFile, wait_file}
-use Rattle.model.specs.Verdicts.{refusal, verdict}
-use Rattle.model.specs.Answers.{Returned, given, returned, of_write, of_count, of_locate, of_number, of_list, of_row, of_fewest, of_quickest}
+use Rattle.model.specs.Verdicts.{refusal, verdict, Verdict, Accepted}
+use Rattle.model.specs.Answers.{Returned, given, returned, of_write, of_count, of_locate, of_number, of_list, of_row, of_fewest, of_quickest, WriteAnswer, CountAnswer, NumberAnswer, LocateAnswer, ListAnswer, RowAnswer, FewestAnswer, QuickestAnswer}
 use Rattle.model.specs.Questions.{Outcome, outcome, refuse, answer, on_accepted, with_room, with_cue, write_into, write_asked, count_asked}
 use Rattle.model.specs.Questions.{located, locate_in, locate_asked, numbered, number_asked}
 use Rattle.model.specs.Questions.{listed, list_in, out_asked, in_asked, row_found, row_in, row_asked, fewest_in, fewest_asked, quickest_under, quickest_in, quickest_asked}
 use Rattle.model.specs.Asking.{AsksWrite, AsksCount, AsksLocate, AsksNumber, AsksOut, AsksIn, AsksRow, AsksFewest, AsksQuickest}
 use Rattle.model.specs.declared.Refusal.{Refusal}
-use Rattle.model.specs.declared.Verdict.{Verdict}
-use Rattle.model.specs.declared.Verdict.TheVariants.{Accepted, Refused}
-use Rattle.model.specs.declared.WriteAnswer.{WriteAnswer}
-use Rattle.model.specs.declared.CountAnswer.{CountAnswer}
-use Rattle.model.specs.declared.LocateAnswer.{LocateAnswer}
-use Rattle.model.specs.declared.NumberAnswer.{NumberAnswer}
-use Rattle.model.specs.declared.ListAnswer.{ListAnswer}
-use Rattle.model.specs.declared.RowAnswer.{RowAnswer}
-use Rattle.model.specs.declared.FewestAnswer.{FewestAnswer}
-use Rattle.model.specs.declared.QuickestAnswer.{QuickestAnswer}
 use Rattle.basics.proofs.Choices.{lt_then, lt_else, eq_then, eq_else}
 use Rattle.shows.proofs.Outcomes.{has_room, no_room, has-cue, no_cue}
 use Rattle.demands.specs.Acceptance.{Lawful, ChecksRows}
@@ -143,10 +134,10 @@ with_cue_lem {xs} {Short} {cues} {later} {lent} {n} {o} room c = go (cue-known x
         })
 
 -- Refused rows are not lawful, and their number is at most 10.
-not-lawful : (xs : List ℕ) (q : Refusal) → verdict xs ≡ Refused q → Lawful xs → ⊥
+not-lawful : (xs : List ℕ) (q : Refusal) → verdict xs ≡ Err q → Lawful xs → ⊥
 not-lawful xs q v l = let a = (accepted-exactly xs).1 l in let z : ◌≡◌ {A = ℕ} 0 1 = cc in omega arith
 
-row_number : (xs : List ℕ) (q : Refusal) → verdict xs ≡ Refused q → q.number ≤ 10
+row_number : (xs : List ℕ) (q : Refusal) → verdict xs ≡ Err q → q.number ≤ 10
 row_number xs q v = let (c, n, b) = refused-is xs q v in omega (arith, (numbers c).high)
 
 -- What it returns for any rows: their refusal, or what it comes to.
@@ -157,14 +148,14 @@ unfolding on_accepted refuse returned
 asked {xs} {Short} {cues} {later} {lent} {after} {a} {o} e c = go (verdict xs) refl
   where
     answered : (v : Verdict) → (on_accepted v (λ f. refuse f lent) o).answer ≡ on_accepted v (λ f. returned f) o.answer
-    answered Accepted = refl
-    answered (Refused q) = refl
+    answered (Ok _) = refl
+    answered (Err q) = refl
 
     checks : ChecksRows xs a
     checks = checks_rows xs a o.answer (ap (λ (o : Outcome). o.answer) e ∙ answered (verdict xs)) (λ v. (c v).outside)
 
     go : (v : Verdict) → verdict xs ≡ v → Refuses xs Short cues later lent a after
-    go Accepted v =
+    go (Ok _) v =
         let l = (accepted-exactly xs).0 v in
         let p : outcome a after ≡ o = rw v at e in
         let k = rw (← p) at (c v) in
@@ -176,7 +167,7 @@ asked {xs} {Short} {cues} {later} {lent} {after} {a} {o} e c = go (verdict xs) r
           place = λ _. k.place;
           unchanged = k.unchanged;
         }
-    go (Refused q) v =
+    go (Err q) v =
         let p : outcome a after ≡ refuse q lent = rw v at e in
         let n : a.number ≤ 10 = omega (arith, row_number xs q v, ap (λ (o : Outcome). o.answer.number) p) in
         record {
@@ -191,8 +182,8 @@ asked {xs} {Short} {cues} {later} {lent} {after} {a} {o} e c = go (verdict xs) r
 -- A question that writes no lent list returns what one would that writes an empty one.
 nothing_lent : (a b : Returned) (v : Verdict) → a ≡ on_accepted v (λ f. returned f) b → outcome a [] ≡ on_accepted v (λ f. refuse f []) (outcome b [])
 unfolding on_accepted refuse
-nothing_lent a b Accepted e = ap (λ (a : Returned). outcome a []) e
-nothing_lent a b (Refused q) e = ap (λ (a : Returned). outcome a []) e
+nothing_lent a b (Ok _) e = ap (λ (a : Returned). outcome a []) e
+nothing_lent a b (Err q) e = ap (λ (a : Returned). outcome a []) e
 
 -- The questions.
 

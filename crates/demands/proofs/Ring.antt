@@ -12,8 +12,7 @@ use Rattle.model.specs.Limits.{no_chain}
 use Rattle.model.specs.Rows.{cell, row_at, rows_from, row_count, rows_of}
 use Rattle.model.specs.Blocks.{Link, Block, no_block, block_at, joins_of, own_of, add_link, add_use, add_row, add_rows, blocks_of, sum_over, total, last_block, count}
 use Rattle.model.specs.Rules.{start, cues_in, may_open, goes_on, may_follow, columns_used, named, every, is_cue, is_zero, label_fits, own_fits, in_range, differs, distinct, is_below, link_key, use_key, in_order, fault, after}
-use Rattle.model.specs.Verdicts.{refusal, refused, and_then, check_length, check_rows, opening_rows, check_blocks, may_stand, total_fits, verdict}
-use Rattle.model.specs.declared.Verdict.TheVariants.{Accepted}
+use Rattle.model.specs.Verdicts.{refusal, refused, and_then, check_length, check_rows, opening_rows, check_blocks, may_stand, total_fits, verdict, Accepted}
 use Rattle.model.specs.Unfolding.{cue_at, renamed, uses_links, links, show_links}
 use Rattle.model.specs.Paths.{own_number, uses_number, copy_number, number_in, nowhere, step_then, uses_place, place_in}
 use Rattle.model.specs.Lists.{range, keep, cues_after, is_linked, is_out, is_into}

@@ -4,17 +4,13 @@ use native.Mathlib.Omega.{arith}
 use mathlib.Core.Path.{◌≡◌, refl, sym, ◌∙◌, ap}
 use mathlib.Core.List.{List, [], ◌∷◌}
 use lib.ListN.{length, get_or, take}
+use Rattle.std.specs.Prelude.{Ok}
 use Rattle.model.specs.Limits.{row_size}
 use Rattle.model.specs.Rows.{row_count, rows_of, file_text}
 use Rattle.model.specs.Lists.{overwrite}
-use Rattle.model.specs.Verdicts.{verdict}
-use Rattle.model.specs.Answers.{given, of_read, of_write}
+use Rattle.model.specs.Verdicts.{verdict, Accepted}
+use Rattle.model.specs.Answers.{given, of_read, of_write, WriteAnswer, ReadAnswer, show_size}
 use Rattle.model.specs.Questions.{Outcome, outcome, answer, write_into, read_asked, write_asked}
-use Rattle.model.specs.declared.Verdict.TheVariants.{Accepted}
-use Rattle.model.specs.declared.ReadAnswer.{ReadAnswer}
-use Rattle.model.specs.declared.ReadAnswer.TheVariants.{Read}
-use Rattle.model.specs.declared.WriteAnswer.{WriteAnswer}
-use Rattle.model.specs.declared.WriteAnswer.TheVariants.{Written}
 use Rattle.shows.proofs.Accepted.{accepted-show}
 use Rattle.shows.specs.Files.{SpellsFile}
 use Rattle.shows.proofs.Files.{file-reads, file-shortest}
@@ -45,7 +41,7 @@ module _ {all : List ℕ → List ℕ} {Right : List ℕ → Type 0} {Broken : L
 
 -- What was written back, for the numbers that the file says.
 pub writes_back : (f out after : List ℕ) (r : ReadAnswer) (rows blocks cues : ℕ)
-    → outcome (of_read r) after ≡ read_asked f out → r ≡ Read rows blocks cues
+    → outcome (of_read r) after ≡ read_asked f out → r ≡ Ok (show_size rows blocks cues)
     → (w : WriteAnswer) (out' after' : List ℕ) → outcome (of_write w) after' ≡ write_asked (take (rows * row_size) after) out' → length f ≤ length out'
     → WritesBack f (take (rows * row_size) after) w out' after'
 unfolding answer
@@ -75,7 +71,7 @@ pub record Wrote (xs out after : List ℕ) (bytes : ℕ) : Type 0 where
   pub bytes-are : bytes ≡ length (file_text (rows_of xs))
   pub left : Leaves (file_text (rows_of xs)) out after
 
-pub wrote : (xs out after : List ℕ) (w : WriteAnswer) → outcome (of_write w) after ≡ write_asked xs out → (bytes : ℕ) → w ≡ Written bytes
+pub wrote : (xs out after : List ℕ) (w : WriteAnswer) → outcome (of_write w) after ≡ write_asked xs out → (bytes : ℕ) → w ≡ Ok bytes
     → Wrote xs out after bytes
 unfolding of_write write_asked write_into answer given
 wrote xs out after w e bytes a =
@@ -90,7 +86,7 @@ wrote xs out after w e bytes a =
     }
 
 -- What was read back, for rows that were written.
-pub reads_back : (xs out after : List ℕ) (w : WriteAnswer) (bytes : ℕ) → outcome (of_write w) after ≡ write_asked xs out → w ≡ Written bytes
+pub reads_back : (xs out after : List ℕ) (w : WriteAnswer) (bytes : ℕ) → outcome (of_write w) after ≡ write_asked xs out → w ≡ Ok bytes
     → (r : ReadAnswer) (out' after' : List ℕ) → outcome (of_read r) after' ≡ read_asked (take bytes after) out' → length xs ≤ length out'
     → ReadsBack xs r out' after'
 unfolding answer
@@ -105,15 +101,15 @@ reads_back xs out after w bytes e a r out' after' e' h =
 
 -- What was read again, of a file that was read in some way and whose rows were written.
 pub reads_again : {all : List ℕ → List ℕ} {Right : List ℕ → Type 0} {Broken : List ℕ → Check → ℕ → Type 0} {line : Check → ℕ → ℕ}
-    (way : Way all Right Broken line) (f out after : List ℕ) (rows blocks cues : ℕ) → outcome (of_read (Read rows blocks cues)) after ≡ way.asked f out
-    → (bytes : ℕ) (out' after' : List ℕ) → outcome (of_write (Written bytes)) after' ≡ write_asked (take (rows * row_size) after) out'
+    (way : Way all Right Broken line) (f out after : List ℕ) (rows blocks cues : ℕ) → outcome (of_read (Ok (show_size rows blocks cues))) after ≡ way.asked f out
+    → (bytes : ℕ) (out' after' : List ℕ) → outcome (of_write (Ok bytes)) after' ≡ write_asked (take (rows * row_size) after) out'
     → (r : ReadAnswer) (out'' after'' : List ℕ) → outcome (of_read r) after'' ≡ read_asked (take bytes after') out'' → rows * row_size ≤ length out''
-    → ReadsAgain (Read rows blocks cues) (take (rows * row_size) after) r out'' after''
+    → ReadsAgain (Ok (show_size rows blocks cues)) (take (rows * row_size) after) r out'' after''
 reads_again {all} way f out after rows blocks cues e bytes out' after' e' r out'' after'' e'' h = go (answered way f out after _ e rows blocks cues refl)
   where
-    go : Answered way f out after rows blocks cues → ReadsAgain (Read rows blocks cues) (take (rows * row_size) after) r out'' after''
+    go : Answered way f out after rows blocks cues → ReadsAgain (Ok (show_size rows blocks cues)) (take (rows * row_size) after) r out'' after''
     go k =
         let t = rows_left way f out after rows blocks cues k in
         let n : length (all k.own) ≤ length out'' = omega (arith, numbers-many way f out after rows blocks cues k) in
-        let b = reads_back (all k.own) out' after' (Written bytes) bytes (rw t at e') refl r out'' after'' e'' n in
+        let b = reads_back (all k.own) out' after' (Ok bytes) bytes (rw t at e') refl r out'' after'' e'' n in
         rw t (record { answer = b.answer ∙ rw (k.rows_are, k.blocks-are, k.cues-are); rows = b.rows })

@@ -7,17 +7,15 @@ use mathlib.Core.Logic.{◌⊎◌, inl, inr, ◌↔◌}
 use mathlib.Core.List.Memᴰ
 use mathlib.Core.List.{List, [], ◌∷◌, Memᴰ}
 use lib.ListN.{length}
+use Rattle.std.specs.Prelude.{Ok, Err}
 use Rattle.model.specs.Limits.{max_depth}
 use Rattle.model.specs.Blocks.{Link, Block, blocks_of, last_block, count}
-use Rattle.model.specs.Verdicts.{refusal, verdict}
+use Rattle.model.specs.Verdicts.{refusal, verdict, Accepted}
 use Rattle.model.specs.Unfolding.{renamed, show_links}
 use Rattle.model.specs.Behind.{Origin, Traced, Stands, Missing, show_traced, origins, behind}
 use Rattle.model.specs.Lists.{overwrite}
-use Rattle.model.specs.Answers.{of_row}
+use Rattle.model.specs.Answers.{of_row, RowAnswer, row_at_depth}
 use Rattle.model.specs.Questions.{Outcome, outcome, refuse, answer, row_found, row_in, row_asked}
-use Rattle.model.specs.declared.Verdict.TheVariants.{Accepted}
-use Rattle.model.specs.declared.RowAnswer.{RowAnswer}
-use Rattle.model.specs.declared.RowAnswer.TheVariants.{Row, Refused}
 use Rattle.shows.specs.Accepted.{Show}
 use Rattle.shows.specs.Copies.{Steps, number, show_copy}
 use Rattle.shows.specs.Lists.{Leads}
@@ -28,7 +26,7 @@ use Rattle.model.specs.Asking.{AsksRow}
 use Rattle.demands.specs.Acceptance.{nth_row}
 use Rattle.demands.specs.Copies.{copy_at}
 use Rattle.demands.specs.RowBehind.{StandsAs, Wins, link, IsGiven, IsRowBehind}
-use Rattle.demands.proofs.Answers.{row_is, untraced-is}
+use Rattle.demands.proofs.Answers.{row_is, rows-same, untraced-is}
 use Rattle.demands.proofs.Buffers.{leaves}
 use Rattle.demands.proofs.Blocks.{last-low}
 use Rattle.demands.proofs.PartsOfRows.{both_known, both_then, both_else}
@@ -176,14 +174,14 @@ module _ (xs : List ℕ) (v : verdict xs ≡ Accepted) where
           ∙ has-cue bs t lent _ low' high'
 
       -- The best of the origins,
-      said_row : (o : Origin) → behind xs s t ≡ Stands o → (r ≡ Row o.row (length o.path)) × (after ≡ overwrite o.path lent)
+      said_row : (o : Origin) → behind xs s t ≡ Stands o → (r ≡ Ok (row_at_depth o.row (length o.path))) × (after ≡ overwrite o.path lent)
       unfolding row_found answer
       said_row o b =
           let q : outcome (of_row r) after ≡ row_found (Stands o) lent = rw b at said in
           (row_is r _ _ (ap (λ (o : Outcome). o.answer) q), ap (λ (o : Outcome). o.after) q)
 
       -- or 14.
-      said-none : behind xs s t ≡ Missing → r ≡ Refused (refusal 14 0)
+      said-none : behind xs s t ≡ Missing → r ≡ Err (refusal 14 0)
       unfolding row_found refuse
       said-none b =
           let q : outcome (of_row r) after ≡ row_found Missing lent = rw b at said in
@@ -233,10 +231,7 @@ module _ (xs : List ℕ) (v : verdict xs ≡ Accepted) where
               record {
                 stand = stand;
                 exactly = (λ _. l, λ _. (_, _, q));
-                given = λ row depth e.
-                    let a : row ≡ o.row = cc in
-                    let b : depth ≡ length o.path = cc in
-                    rw (a, b) (given_is o i h k);
+                given = λ row depth e. let (a, b) = rows-same r _ _ _ _ e q in rw (a, b) (given_is o i h k);
                 none = (λ e. absurd (let z : ◌≡◌ {A = ℕ} 0 1 = cc in omega arith), λ n. absurd (n l));
               }
           go (no_best n b) =

@@ -11,8 +11,7 @@ use Rattle.model.specs.Choice.{if_true}
 use Rattle.model.specs.Rows.{Row, row_count, rows_of}
 use Rattle.model.specs.Rules.{Seen, start, may_follow, named, in_range, distinct, in_order, fault, after}
 use Rattle.model.specs.Blocks.{Block, add_row, add_rows, blocks_of}
-use Rattle.model.specs.Verdicts.{refused, check_rows}
-use Rattle.model.specs.declared.Verdict.TheVariants.{Accepted}
+use Rattle.model.specs.Verdicts.{refused, check_rows, Accepted}
 use Rattle.basics.proofs.Choices.{true_then, true_else}
 use Rattle.shows.proofs.Accepted.{not-accepted}
 use Rattle.demands.specs.Acceptance.{nth_row, IsRow, Uses, InPlace, Check, LooksAt, Keeps, refusal_number, turn}

@@ -4,16 +4,14 @@ use native.Mathlib.Omega.{arith}
 use mathlib.Core.Path.{◌≡◌, refl, sym, ◌∙◌, ap}
 use mathlib.Core.List.{List}
 use lib.ListN.{length, get_or}
+use Rattle.std.specs.Prelude.{Ok, Err, Some, None}
 use Rattle.model.specs.Blocks.{Block, blocks_of, count}
 use Rattle.model.specs.Unfolding.{show_links}
 use Rattle.model.specs.Chains.{Distance, Far, Unreachable, fewest}
 use Rattle.model.specs.Summaries.{work_after}
-use Rattle.model.specs.Verdicts.{verdict}
-use Rattle.model.specs.Answers.{Returned, given, returned, of_fewest}
+use Rattle.model.specs.Verdicts.{verdict, Accepted}
+use Rattle.model.specs.Answers.{Returned, given, returned, of_fewest, FewestAnswer}
 use Rattle.model.specs.Questions.{Outcome, outcome, answer, distance_values, fewest_in, fewest_asked}
-use Rattle.model.specs.declared.Verdict.TheVariants.{Accepted}
-use Rattle.model.specs.declared.FewestAnswer.{FewestAnswer}
-use Rattle.model.specs.declared.FewestAnswer.TheVariants.{Steps, None, Refused as FewestRefused}
 use Rattle.distances.specs.Demand.{Shortest}
 use Rattle.shows.proofs.Accepted.{accepted-show}
 use Rattle.distances.proofs.Fewest.{show_shortest}
@@ -26,8 +24,8 @@ use Rattle.demands.proofs.WorkArea.{work-area}
 
 -- The answer of a distance.
 unfoldable answer_of : Distance → FewestAnswer
-answer_of (Far n) = Steps n
-answer_of Unreachable = None
+answer_of (Far n) = Ok (Some n)
+answer_of Unreachable = Ok None
 
 apart : ◌≡◌ {A = ℕ} 1 0 → ⊥
 apart e = omega arith
@@ -38,19 +36,19 @@ few e = omega arith
 -- An answer has its distance's values only if it is that distance's answer.
 same_answer : (r : FewestAnswer) (d : Distance) → of_fewest r ≡ given (distance_values d) → r ≡ answer_of d
 unfolding of_fewest given distance_values answer_of returned
-same_answer (Steps n) (Far m) e = ap Steps (ap (λ (x : Returned). get_or x.values 1 0) e)
-same_answer (Steps n) Unreachable e = absurd (apart (ap (λ (x : Returned). get_or x.values 0 0) e))
-same_answer None (Far m) e = absurd (apart (sym (ap (λ (x : Returned). get_or x.values 0 0) e)))
-same_answer None Unreachable e = refl
-same_answer (FewestRefused f) (Far m) e = absurd (few (ap (λ (x : Returned). length x.values) e))
-same_answer (FewestRefused f) Unreachable e = absurd (few (ap (λ (x : Returned). length x.values) e))
+same_answer (Ok (Some n)) (Far m) e = ap (λ n. Ok (Some n)) (ap (λ (x : Returned). get_or x.values 1 0) e)
+same_answer (Ok (Some n)) Unreachable e = absurd (apart (ap (λ (x : Returned). get_or x.values 0 0) e))
+same_answer (Ok None) (Far m) e = absurd (apart (sym (ap (λ (x : Returned). get_or x.values 0 0) e)))
+same_answer (Ok None) Unreachable e = refl
+same_answer (Err f) (Far m) e = absurd (few (ap (λ (x : Returned). length x.values) e))
+same_answer (Err f) Unreachable e = absurd (few (ap (λ (x : Returned). length x.values) e))
 
-steps-far : (d : Distance) (n : ℕ) → answer_of d ≡ Steps n → d ≡ Far n
+steps-far : (d : Distance) (n : ℕ) → answer_of d ≡ Ok (Some n) → d ≡ Far n
 unfolding answer_of
 steps-far (Far m) n e = cc
 steps-far Unreachable n e = absurd (let z : ◌≡◌ {A = ℕ} 0 1 = cc in omega arith)
 
-none-unreachable : (d : Distance) → answer_of d ≡ None → d ≡ Unreachable
+none-unreachable : (d : Distance) → answer_of d ≡ Ok None → d ≡ Unreachable
 unfolding answer_of
 none-unreachable (Far m) e = absurd (let z : ◌≡◌ {A = ℕ} 0 1 = cc in omega arith)
 none-unreachable Unreachable e = refl

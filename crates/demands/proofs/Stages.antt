@@ -8,9 +8,7 @@ use mathlib.Core.Logic.{◌⊎◌, inl, inr}
 use mathlib.Core.List.{List, [], ◌∷◌}
 use Rattle.model.specs.Choice.{if_eq}
 use Rattle.model.specs.Rows.{Row, rows_from, row_count, rows_of}
-use Rattle.model.specs.Verdicts.{refused}
-use Rattle.model.specs.declared.Verdict.{Verdict}
-use Rattle.model.specs.declared.Verdict.TheVariants.{Accepted}
+use Rattle.model.specs.Verdicts.{refused, Verdict, Accepted}
 use Rattle.demands.specs.Acceptance.{
   nth_row,
   IsRow,

@@ -8,12 +8,11 @@ use mathlib.Core.Logic.Iff
 use mathlib.Core.Logic.{inl, inr}
 use mathlib.Core.List.{List}
 use lib.ListN.{length}
+use Rattle.std.specs.Prelude.{Ok, Err}
 use Rattle.model.specs.Limits.{row_size, max_rows}
 use Rattle.model.specs.Rows.{row_count, rows_of}
 use Rattle.model.specs.Blocks.{blocks_of}
-use Rattle.model.specs.Verdicts.{refused, and_then, check_length, opening_rows, check_blocks, may_stand, total_fits, verdict}
-use Rattle.model.specs.declared.Verdict.{Verdict}
-use Rattle.model.specs.declared.Verdict.TheVariants.{Accepted, Refused}
+use Rattle.model.specs.Verdicts.{refused, and_then, check_length, opening_rows, check_blocks, may_stand, total_fits, verdict, Verdict, Accepted}
 use Rattle.basics.proofs.Choices.{eq_then, eq_else, lt_then, lt_else}
 use Rattle.demands.specs.Acceptance.{
   Check,
@@ -91,8 +90,8 @@ length-says xs = go (ℕ_discrete (length xs % row_size) 0) (dec_lt (row_count x
 -- A last stage has nothing behind it.
 and_accepted : (v : Verdict) → v ≡ and_then v Accepted
 unfolding and_then
-and_accepted Accepted = refl
-and_accepted (Refused r) = refl
+and_accepted (Ok _) = refl
+and_accepted (Err r) = refl
 
 -- Checks 9 and 10, once all rows have passed.
 module _ (xs : List ℕ) (passed : RowsPassed xs) where

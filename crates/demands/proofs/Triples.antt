@@ -9,11 +9,10 @@ use mathlib.Core.List.Memᴰ
 use mathlib.Core.List.{List, [], ◌∷◌, ◌++◌, map, flat_map, Memᴰ}
 use Rattle.model.specs.Limits.{max_label}
 use Rattle.model.specs.Blocks.{Link, Block, blocks_of, count}
-use Rattle.model.specs.Verdicts.{verdict}
+use Rattle.model.specs.Verdicts.{verdict, Accepted}
 use Rattle.model.specs.Unfolding.{show_links}
 use Rattle.model.specs.Lists.{range, keep}
 use Rattle.model.specs.Printed.{is_triple, triples_of, triples}
-use Rattle.model.specs.declared.Verdict.TheVariants.{Accepted}
 use Rattle.basics.proofs.Members.{map-mem, mem_map, flat_mem, mem_flat, range-bounds, range-mem}
 use Rattle.basics.proofs.Keeping.{kept}
 use Rattle.basics.proofs.Printed.{triple-hit, triple-miss}

@@ -7,9 +7,8 @@ use lib.ListN.{length, get_or, replicate, length-append, length-replicate, get_o
 use lib.Seq.{get_or-append-add}
 use Rattle.model.specs.Blocks.{Block, joins_of, blocks_of}
 use Rattle.model.specs.Chains.{fewest}
-use Rattle.model.specs.Verdicts.{verdict}
+use Rattle.model.specs.Verdicts.{verdict, Accepted}
 use Rattle.model.specs.Summaries.{Search, summary_by, summaries_by, work_by, work_after}
-use Rattle.model.specs.declared.Verdict.TheVariants.{Accepted}
 use Rattle.shows.proofs.Accepted.{accepted-show, cues-fit}
 use Rattle.distances.proofs.Fewest.{summary-right}
 use Rattle.distances.proofs.Places.{summaries-at, summaries-length}

@@ -3,12 +3,11 @@ use Prim.Native.Nat.{ℕ, ◌≤◌}
 use mathlib.Core.Path.{◌≡◌, ◌∙◌, ap}
 use mathlib.Core.List.{List}
 use lib.ListN.{length}
+use Rattle.std.specs.Prelude.{Ok}
+use Rattle.model.specs.Answers.{WriteAnswer}
 use Rattle.model.specs.Rows.{rows_of, file_text}
-use Rattle.model.specs.Verdicts.{verdict}
+use Rattle.model.specs.Verdicts.{verdict, Accepted}
 use Rattle.model.specs.Questions.{Outcome, answer}
-use Rattle.model.specs.declared.Verdict.TheVariants.{Accepted}
-use Rattle.model.specs.declared.WriteAnswer.{WriteAnswer}
-use Rattle.model.specs.declared.WriteAnswer.TheVariants.{Written}
 use Rattle.shows.proofs.RoundTrips.{rows-spell, write-answer}
 use Rattle.demands.specs.Buffers.{Leaves}
 use Rattle.model.specs.Asking.{AsksWrite}
@@ -37,7 +36,7 @@ is-written xs out after w e =
     lawful : (bytes : ℕ) → Wrote xs out after bytes → Lawful xs × ((f : List ℕ) × UnpaddedFile f xs × (length f ≤ length out))
     lawful bytes k = ((accepted-exactly xs).0 k.lawful, (file_text (rows_of xs), says xs k.lawful, k.fits))
 
-    answers : Lawful xs → (f : List ℕ) → UnpaddedFile f xs → length f ≤ length out → (bytes : ℕ) × (w ≡ Written bytes)
+    answers : Lawful xs → (f : List ℕ) → UnpaddedFile f xs → length f ≤ length out → (bytes : ℕ) × (w ≡ Ok bytes)
     answers l f s h =
         let a = write-answer xs out ((accepted-exactly xs).1 l) (rw (text-is s) h) in
         (length (file_text (rows_of xs)), written_is w _ (ap (λ (o : Outcome). o.answer) (e ∙ a)))

@@ -1,11 +1,10 @@
 -- Copies by their paths: what the words of crates/shows/specs/Copies and `block_after` mean, by the steps of replacement. Document 02, Paper 2: "the depth and
 -- path of the copy it stands in"; document 01: "The path of a cue is the list of use positions .. from the show down to the copy that owns it".
-use Rattle.std.specs.Prelude.{ℕ, ◌+◌, ◌≤◌, ◌≡◌, ◌↔◌}
+use Rattle.std.specs.Prelude.{ℕ, ◌+◌, ◌≤◌, ◌≡◌, ◌↔◌, Ok}
 use mathlib.Core.List.{List, Memᴰ}
+use Rattle.model.specs.Answers.{NumberAnswer}
 use Rattle.model.specs.Blocks.{Block, block_at, blocks_of, last_block}
 use Rattle.model.specs.Asking.{AsksNumber}
-use Rattle.model.specs.declared.NumberAnswer.{NumberAnswer}
-use Rattle.model.specs.declared.NumberAnswer.TheVariants.{Number}
 use Rattle.shows.specs.Copies.{Copy, number, show_copy, after, Steps}
 use Rattle.shows.specs.Numbering.{block_after}
 use Rattle.demands.specs.Acceptance.{own_in}
@@ -36,4 +35,4 @@ pub record CopiesByPath (xs : List ℕ) : Type 0 where
       → number (copy_at xs u.path) c ≡ end_number (blocks_of xs) (last_block (blocks_of xs)) (nth (nodes_of (block_at (blocks_of xs) u.block) u) c)
   -- The number of an own cue in the copy there is what number answers about the path and that cue.
   pub own-cue : (path : List ℕ) (c : ℕ) (r : NumberAnswer) → Steps (show_copy (blocks_of xs)) path → 1 ≤ c → c ≤ own_in xs (block_at_path xs path)
-      → AsksNumber xs path c r → r ≡ Number (number (copy_at xs path) c)
+      → AsksNumber xs path c r → r ≡ Ok (number (copy_at xs path) c)

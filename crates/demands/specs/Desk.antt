@@ -1,15 +1,12 @@
 -- The blocks that come with the desk, and what the second way of reading answers. Document 02, Paper 4. Rows are counted from 1.
-use Rattle.std.specs.Prelude.{ℕ, ◌+◌, ◌*◌, ◌-◌, ◌≤◌, ◌<◌, ◌≡◌, ◌↔◌, length, get_or, take}
+use Rattle.std.specs.Prelude.{ℕ, ◌+◌, ◌*◌, ◌-◌, ◌≤◌, ◌<◌, ◌≡◌, ◌↔◌, length, get_or, take, Ok, Err}
 use mathlib.Core.List.{List, [], ◌++◌, Memᴰ}
+use Rattle.model.specs.Answers.{WriteAnswer, ReadAnswer}
 use Rattle.model.specs.Rows.{row_count, file_text}
 use Rattle.model.specs.Blocks.{Link, Block, block_at, blocks_of}
 use Rattle.model.specs.Summaries.{summary}
 use Rattle.model.specs.Verdicts.{refusal}
 use Rattle.model.specs.Desk.{built_in, built_in_numbers}
-use Rattle.model.specs.declared.ReadAnswer.{ReadAnswer}
-use Rattle.model.specs.declared.ReadAnswer.TheVariants.{Refused}
-use Rattle.model.specs.declared.WriteAnswer.{WriteAnswer}
-use Rattle.model.specs.declared.WriteAnswer.TheVariants.{Written}
 use Rattle.shows.specs.Files.{SpellsFile}
 use Rattle.model.specs.Asking.{AsksRead}
 use Rattle.demands.specs.Acceptance.{nth_row, IsRow, Opens, Lawful, Check, Length, Sequence, Ranges, Repeats, Order, Ends, Totals, Keeps, turn, FirstBroken}
@@ -91,13 +88,13 @@ IsDeskRead = ReadsAs built_in_first DeskLawful DeskBroken own_line
 -- "places are still the file's own lines": those of its rows, of which none is the table's.
 abbrev pub OwnLines : List ℕ → ReadAnswer → Type 0
 OwnLines f r =
-    (n p : ℕ) → r ≡ Refused (refusal n p) → 5 ≤ n → n ≤ 10 → (xs : List ℕ) → SpellsFile f xs → (2 ≤ p) × (p ≤ row_count xs + 1)
+    (n p : ℕ) → r ≡ Err (refusal n p) → 5 ≤ n → n ≤ 10 → (xs : List ℕ) → SpellsFile f xs → (2 ≤ p) × (p ≤ row_count xs + 1)
 
 -- File f was read the second way with the answer first, and left rows xs; these were written with the answer w, to an output that is now after. "Writing such
 -- rows doesn't give back the bytes read, but a whole file, which the first way reads to the same rows."
 pub record WritesWhole (f : List ℕ) (first : ReadAnswer) (xs : List ℕ) (w : WriteAnswer) (after : List ℕ) : Type 0 where
   pub bytes : ℕ
-  pub answer : w ≡ Written bytes
+  pub answer : w ≡ Ok bytes
   pub fits : bytes ≤ 65536
   pub other_bytes : take bytes after ≡ f → ⊥
   pub first_way : (r : ReadAnswer) (out' after' : List ℕ) → AsksRead (take bytes after) out' r after' → length xs ≤ length out'

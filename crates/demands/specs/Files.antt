@@ -1,6 +1,7 @@
 -- What read and write answer and leave, by the text of a file. Document 01, "The show file" and "Questions"; document 02, Paper 1. The text of a value is
 -- `SpellsValue` of crates/basics/specs/Values; that of a line and of a file are `SpellsLine` and `SpellsFile` of crates/shows/specs/Files.
-use Rattle.std.specs.Prelude.{ℕ, suc, ◌+◌, ◌-◌, ◌≤◌, ◌<◌, ◌≡◌, ◌↔◌, List, ◌++◌, length, get_or}
+use Rattle.std.specs.Prelude.{ℕ, suc, ◌+◌, ◌-◌, ◌≤◌, ◌<◌, ◌≡◌, ◌↔◌, List, ◌++◌, length, get_or, Ok, Err}
+use Rattle.model.specs.Answers.{WriteAnswer, ReadAnswer, show_size}
 use Rattle.model.specs.Limits.{max_bytes}
 use Rattle.model.specs.Values.{digit_zero}
 use Rattle.model.specs.Text.{names, ends}
@@ -8,10 +9,6 @@ use Rattle.model.specs.Rows.{row_count}
 use Rattle.model.specs.Blocks.{blocks_of, count}
 use Rattle.model.specs.Verdicts.{refusal}
 use Rattle.model.specs.declared.Refusal.{Refusal}
-use Rattle.model.specs.declared.WriteAnswer.{WriteAnswer}
-use Rattle.model.specs.declared.WriteAnswer.TheVariants.{Written}
-use Rattle.model.specs.declared.ReadAnswer.{ReadAnswer}
-use Rattle.model.specs.declared.ReadAnswer.TheVariants.{Read, Refused}
 use Rattle.shows.specs.Files.{SpellsLine, SpellsLines, SpellsFile}
 use Rattle.demands.specs.Buffers.{Leaves}
 use Rattle.demands.specs.Words.{IsDigit}
@@ -67,22 +64,22 @@ pub data ReadRefusal (line : Check → ℕ → ℕ) (q : Refusal) : Type 0 where
 pub record ReadsAs (all : List ℕ → List ℕ) (Right : List ℕ → Type 0) (Broken : List ℕ → Check → ℕ → Type 0) (line : Check → ℕ → ℕ)
     (f out : List ℕ) (r : ReadAnswer) (after : List ℕ) : Type 0 where
   -- It answers exactly if the text keeps the rules, its rows do, and the output is long enough.
-  pub answers : ((rows blocks cues : ℕ) × (r ≡ Read rows blocks cues))
+  pub answers : ((rows blocks cues : ℕ) × (r ≡ Ok (show_size rows blocks cues)))
       ↔ ((xs : List ℕ) × SpellsFile f xs × Right xs × (length (all xs) ≤ length out))
   -- "Read a file to rows, giving rows, blocks and cues": those of the numbers that the file says, which it leaves in the output.
-  pub given : (rows blocks cues : ℕ) → r ≡ Read rows blocks cues → (xs : List ℕ) → SpellsFile f xs
+  pub given : (rows blocks cues : ℕ) → r ≡ Ok (show_size rows blocks cues) → (xs : List ℕ) → SpellsFile f xs
       → (rows ≡ row_count (all xs)) × (blocks ≡ length (blocks_of (all xs))) × (cues ≡ count (blocks_of (all xs))) × Leaves (all xs) out after
   -- Each refusal with its place exactly if it is the first: 1, 2 and 3 of the text,
-  pub too_long : (r ≡ Refused (refusal 1 0)) ↔ (max_bytes < length f)
-  pub no_names : (r ≡ Refused (refusal 2 1)) ↔ ((length f ≤ max_bytes) × ((lines : List ℕ) → f ≡ names ++ lines → ⊥))
-  pub malformed : (n : ℕ) → (r ≡ Refused (refusal 3 n)) ↔ ((length f ≤ max_bytes) × BreaksAt f n)
+  pub too_long : (r ≡ Err (refusal 1 0)) ↔ (max_bytes < length f)
+  pub no_names : (r ≡ Err (refusal 2 1)) ↔ ((length f ≤ max_bytes) × ((lines : List ℕ) → f ≡ names ++ lines → ⊥))
+  pub malformed : (n : ℕ) → (r ≡ Err (refusal 3 n)) ↔ ((length f ≤ max_bytes) × BreaksAt f n)
   -- each of 4 to 10 if the text keeps the rules and this sentence of its rows is the first that is broken,
-  pub refused : (c : Check) (p : ℕ) → (r ≡ Refused (refusal (refusal_number c) (line c p))) ↔ ((xs : List ℕ) × SpellsFile f xs × Broken xs c p)
+  pub refused : (c : Check) (p : ℕ) → (r ≡ Err (refusal (refusal_number c) (line c p))) ↔ ((xs : List ℕ) × SpellsFile f xs × Broken xs c p)
   -- and 11 if all that is kept and the output is too short.
-  pub no_room : (r ≡ Refused (refusal 11 0)) ↔ ((xs : List ℕ) × SpellsFile f xs × Right xs × (length out < length (all xs)))
+  pub no_room : (r ≡ Err (refusal 11 0)) ↔ ((xs : List ℕ) × SpellsFile f xs × Right xs × (length out < length (all xs)))
   -- There is no other. "A refusal leaves all lent memory unchanged."
-  pub no_other : (q : Refusal) → r ≡ Refused q → ReadRefusal line q
-  pub unchanged : (q : Refusal) → r ≡ Refused q → after ≡ out
+  pub no_other : (q : Refusal) → r ≡ Err q → ReadRefusal line q
+  pub unchanged : (q : Refusal) → r ≡ Err q → after ≡ out
 
 -- What read answers and leaves: the file's rows are all, and they are right if they keep every sentence.
 abbrev pub IsRead : List ℕ → List ℕ → ReadAnswer → List ℕ → Type 0
@@ -93,8 +90,8 @@ IsRead = ReadsAs (λ xs. xs) Lawful FirstBroken line_place
 pub record IsWritten (xs out : List ℕ) (w : WriteAnswer) (after : List ℕ) : Type 0 where
   pub file : Lawful xs → (f : List ℕ) × UnpaddedFile f xs
   pub one-file : (f g : List ℕ) → UnpaddedFile f xs → UnpaddedFile g xs → f ≡ g
-  pub answers : ((bytes : ℕ) × (w ≡ Written bytes)) ↔ (Lawful xs × ((f : List ℕ) × UnpaddedFile f xs × (length f ≤ length out)))
-  pub given : (bytes : ℕ) → w ≡ Written bytes → (f : List ℕ) × UnpaddedFile f xs × (bytes ≡ length f) × Leaves f out after
+  pub answers : ((bytes : ℕ) × (w ≡ Ok bytes)) ↔ (Lawful xs × ((f : List ℕ) × UnpaddedFile f xs × (length f ≤ length out)))
+  pub given : (bytes : ℕ) → w ≡ Ok bytes → (f : List ℕ) × UnpaddedFile f xs × (bytes ≡ length f) × Leaves f out after
 
 -- 11 of write: "lent output .. too short" for the file of rows xs.
 abbrev pub NoRoomFor : List ℕ → List ℕ → Type 0

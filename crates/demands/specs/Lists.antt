@@ -1,12 +1,11 @@
 -- Linked cues: what list_out and list_in answer and leave in the page. Document 01, "Questions": "List out, or in, of cue v after n, with a
 -- lent list of 32-bit numbers: the smallest linked cues greater than n, each once, rising, as many as fit, the rest unchanged; how many
 -- were written; "more" exactly if a further one exists. n is free, and the list may have length 0."
-use Rattle.std.specs.Prelude.{ℕ, suc, ◌-◌, ◌≤◌, ◌<◌, ◌≡◌, Bool, true, false, ◌⊎◌, ◌↔◌, length, get_or, take}
+use Rattle.std.specs.Prelude.{ℕ, suc, ◌-◌, ◌≤◌, ◌<◌, ◌≡◌, Bool, true, false, ◌⊎◌, ◌↔◌, length, get_or, take, Ok, Some}
 use mathlib.Core.List.{List, ◌++◌, Memᴰ}
+use Rattle.model.specs.Answers.{ListAnswer, listing}
 use Rattle.model.specs.Blocks.{Link, blocks_of}
 use Rattle.model.specs.Unfolding.{show_links}
-use Rattle.model.specs.declared.ListAnswer.{ListAnswer}
-use Rattle.model.specs.declared.ListAnswer.TheVariants.{Page}
 use Rattle.shows.specs.Lists.{Rising}
 use Rattle.demands.specs.Buffers.{Leaves}
 
@@ -34,7 +33,7 @@ pub record Smallest (Linked : ℕ → Type 0) (n : ℕ) (cues : List ℕ) (more 
 pub record IsList (Linked : ℕ → Type 0) (n : ℕ) (page : List ℕ) (r : ListAnswer) (after : List ℕ) : Type 0 where
   pub cues : List ℕ
   pub more : Bool
-  pub answer : r ≡ Page (length cues) more
+  pub answer : r ≡ Ok (listing (length cues) more)
   pub smallest : Smallest Linked n cues more
   pub leaves : Leaves cues page after
   -- "as many as fit": where a further one exists, the page is full
@@ -44,10 +43,10 @@ pub record IsList (Linked : ℕ → Type 0) (n : ℕ) (page : List ℕ) (r : Lis
 -- Pages asked for one after another, so many of them, each of any length from 1: the first after n, each next one after the last number
 -- that was written before it. They have written some cues in all, and the last of them said more.
 pub data Pages (Asks : ℕ → List ℕ → ListAnswer → List ℕ → Type 0) (n : ℕ) : ℕ → List ℕ → Bool → Type 0 where
-  one-page : {page after : List ℕ} {written : ℕ} {more : Bool} → 1 ≤ length page → Asks n page (Page written more) after
+  one-page : {page after : List ℕ} {written : ℕ} {more : Bool} → 1 ≤ length page → Asks n page (Ok (listing written more)) after
       → Pages Asks n 1 (take written after) more
   one-more_page : {many : ℕ} {cues page after : List ℕ} {written : ℕ} {more : Bool} → Pages Asks n many cues true → 1 ≤ length page
-      → Asks (get_or cues (length cues - 1) 0) page (Page written more) after → Pages Asks n (suc many) (cues ++ take written after) more
+      → Asks (get_or cues (length cues - 1) 0) page (Ok (listing written more)) after → Pages Asks n (suc many) (cues ++ take written after) more
 
 -- What they come to: the smallest linked cues again; no more pages say "more" than the number of any cue that no linked one exceeds, so this
 -- ends; and when no more is said, every linked cue greater than n was written, once.

@@ -2,12 +2,12 @@
 -- between two cues, and GO never takes it." Rows are counted from 1.
 use Rattle.std.specs.Prelude.{ℕ, ◌≤◌, ◌<◌, ◌≡◌, ◌↔◌, length}
 use mathlib.Core.List.{List, Memᴰ}
+use Rattle.model.specs.Answers.{FewestAnswer}
 use Rattle.model.specs.Rows.{Row}
 use Rattle.model.specs.Blocks.{Link, blocks_of}
 use Rattle.model.specs.Unfolding.{show_links}
 use Rattle.model.specs.Chains.{followed}
 use Rattle.model.specs.Summaries.{block_links}
-use Rattle.model.specs.declared.FewestAnswer.{FewestAnswer}
 use Rattle.demands.specs.Acceptance.{nth_row, IsRow, Links}
 use Rattle.demands.specs.Fewest.{IsFewest}
 use Rattle.demands.specs.WorkArea.{IsWorkArea}

@@ -1,13 +1,13 @@
 -- What the unfolding program prints for a file. Document 01, "The ring show": "The unfolding program reads a show from standard input and prints its links
 -- (cue, cue, label), each triple once, rising." That the library behind the program makes such a text: crates/printed/specs/Demand.
-use Rattle.std.specs.Prelude.{ℕ, ◌*◌, ◌-◌, ◌≤◌, ◌<◌, ◌≡◌, ◌↔◌, ◌≢◌, length, get_or, take}
+use Rattle.std.specs.Prelude.{ℕ, ◌*◌, ◌-◌, ◌≤◌, ◌<◌, ◌≡◌, ◌↔◌, ◌≢◌, length, get_or, take, Ok, Err}
 use mathlib.Core.List.{List, [], ◌∷◌, ◌++◌, map, Memᴰ}
+use Rattle.model.specs.Answers.{show_size}
 use Rattle.model.specs.Values.{decimal}
 use Rattle.model.specs.Blocks.{Link, blocks_of}
 use Rattle.model.specs.Unfolding.{show_links}
 use Rattle.model.specs.Asking.{AsksRead}
 use Rattle.model.specs.declared.Refusal.{Refusal}
-use Rattle.model.specs.declared.ReadAnswer.TheVariants.{Read, Refused}
 use Rattle.basics.specs.Members.{Each}
 use Rattle.demands.specs.Words.{IsDigit}
 use Rattle.demands.specs.Acceptance.{Below}
@@ -50,13 +50,13 @@ pub record Listed (E ls : List Link) : Type 0 where
 -- The text, by what read answers about the file. Where it refuses, it was lent an output that has room for 1,024 rows.
 pub record IsPrinted (file text : List ℕ) : Type 0 where
   -- The line `from,to,label`, and the lines of the links,
-  pub links : (out after : List ℕ) (rows blocks cues : ℕ) → AsksRead file out (Read rows blocks cues) after → cues ≤ 1000
+  pub links : (out after : List ℕ) (rows blocks cues : ℕ) → AsksRead file out (Ok (show_size rows blocks cues)) after → cues ≤ 1000
       → (lines : List ℕ) × (ls : List Link) × TripleLines lines ls × Listed (show_links (blocks_of (take (rows * 11) after))) ls
       × (text ≡ 102 ∷ 114 ∷ 111 ∷ 109 ∷ 44 ∷ 116 ∷ 111 ∷ 44 ∷ 108 ∷ 97 ∷ 98 ∷ 101 ∷ 108 ∷ 10 ∷ lines)
   -- "Over 1,000 cues it prints `cues` and the count on two lines",
-  pub count : (out after : List ℕ) (rows blocks cues : ℕ) → AsksRead file out (Read rows blocks cues) after → 1000 < cues
+  pub count : (out after : List ℕ) (rows blocks cues : ℕ) → AsksRead file out (Ok (show_size rows blocks cues)) after → 1000 < cues
       → (line : List ℕ) × NumbersLine line (cues ∷ []) × (text ≡ 99 ∷ 117 ∷ 101 ∷ 115 ∷ 10 ∷ line)
   -- "for a refusal, the line `refusal,place` and a line of the two values with a comma between".
-  pub refusal : (out after : List ℕ) (q : Refusal) → 1024 * 11 ≤ length out → AsksRead file out (Refused q) after
+  pub refusal : (out after : List ℕ) (q : Refusal) → 1024 * 11 ≤ length out → AsksRead file out (Err q) after
       → (line : List ℕ) × NumbersLine line (q.number ∷ q.place ∷ [])
       × (text ≡ 114 ∷ 101 ∷ 102 ∷ 117 ∷ 115 ∷ 97 ∷ 108 ∷ 44 ∷ 112 ∷ 108 ∷ 97 ∷ 99 ∷ 101 ∷ 10 ∷ line)

@@ -1,14 +1,11 @@
 -- The quickest way: what quickest answers about cues s and t under a wait file, and leaves in the work area. Document 02, Paper 5: "The quickest answer is the
 -- smallest sum of waits over all chains, 64 bits wide, 0 where s is t." What a wait file says: Waits.
-use Rattle.std.specs.Prelude.{ℕ, ◌+◌, ◌≤◌, ◌<◌, ◌≡◌, ◌⊎◌, ◌↔◌, length, get_or}
+use Rattle.std.specs.Prelude.{ℕ, ◌+◌, ◌≤◌, ◌<◌, ◌≡◌, ◌⊎◌, ◌↔◌, length, get_or, Ok, Err, Some, None}
 use mathlib.Core.List.{List, Memᴰ}
+use Rattle.model.specs.Answers.{FewestAnswer, QuickestAnswer, line_refusal}
 use Rattle.model.specs.Blocks.{Link, blocks_of}
 use Rattle.model.specs.Unfolding.{show_links}
 use Rattle.model.specs.Asking.{AsksFewest}
-use Rattle.model.specs.declared.FewestAnswer.{FewestAnswer}
-use Rattle.model.specs.declared.FewestAnswer.TheVariants.{None as NoSteps}
-use Rattle.model.specs.declared.QuickestAnswer.{QuickestAnswer}
-use Rattle.model.specs.declared.QuickestAnswer.TheVariants.{Tenths, None, Refused}
 use Rattle.demands.specs.Acceptance.{Lawful}
 use Rattle.demands.specs.Refusals.{NoCue}
 use Rattle.demands.specs.Waits.{LawfulWaits, Waits, Malformed, Outside, NotRising}
@@ -30,16 +27,16 @@ pub record Askable (xs : List ℕ) (s t : ℕ) (work : List ℕ) : Type 0 where
 -- The answer r under a lawful wait file with the lines vss, where E are the links of the unfolded show.
 pub record IsQuickest (xs : List ℕ) (vss : List (List ℕ)) (E : List Link) (s t : ℕ) (r : QuickestAnswer) : Type 0 where
   -- A number exactly when there is a chain from s to t: then it is the sum of such a chain.
-  pub found : (sum : ℕ) → Lasts vss E t s sum → (n : ℕ) × (r ≡ Tenths n)
-  pub chain : (n : ℕ) → r ≡ Tenths n → Lasts vss E t s n
+  pub found : (sum : ℕ) → Lasts vss E t s sum → (n : ℕ) × (r ≡ Ok (Some n))
+  pub chain : (n : ℕ) → r ≡ Ok (Some n) → Lasts vss E t s n
   -- No such chain has a smaller sum.
-  pub least : (n sum : ℕ) → r ≡ Tenths n → Lasts vss E t s sum → n ≤ sum
+  pub least : (n sum : ℕ) → r ≡ Ok (Some n) → Lasts vss E t s sum → n ≤ sum
   -- "64 bits wide, 0 where s is t."
-  pub in_64_bits : (n : ℕ) → r ≡ Tenths n → n < 18446744073709551616
-  pub stays : s ≡ t → r ≡ Tenths 0
+  pub in_64_bits : (n : ℕ) → r ≡ Ok (Some n) → n < 18446744073709551616
+  pub stays : s ≡ t → r ≡ Ok (Some 0)
   -- Otherwise none: "It is none exactly where the fewest answer is none."
-  pub none : (r ≡ None) ↔ ((sum : ℕ) → Lasts vss E t s sum → ⊥)
-  pub as_fewest : (work after : List ℕ) (q : FewestAnswer) → 16384 ≤ length work → AsksFewest xs s t work q after → (r ≡ None) ↔ (q ≡ NoSteps)
+  pub none : (r ≡ Ok None) ↔ ((sum : ℕ) → Lasts vss E t s sum → ⊥)
+  pub as_fewest : (work after : List ℕ) (q : FewestAnswer) → 16384 ≤ length work → AsksFewest xs s t work q after → (r ≡ Ok None) ↔ (q ≡ Ok None)
 
 -- "an answer leaves the first 16,384 at 0 and the rest unchanged".
 pub record IsCleared (work after : List ℕ) : Type 0 where
@@ -51,12 +48,12 @@ pub record IsCleared (work after : List ℕ) : Type 0 where
 -- `Refusals.Refuses`.)
 pub record QuickestExact (xs : List ℕ) (s t : ℕ) (f work : List ℕ) (r : QuickestAnswer) (after : List ℕ) : Type 0 where
   -- "15 with the first malformed line (line 1 for wrong names)",
-  pub malformed : (n : ℕ) → (r ≡ Refused 15 n) ↔ (Askable xs s t work × Malformed f n)
+  pub malformed : (n : ℕ) → (r ≡ Err (line_refusal 15 n)) ↔ (Askable xs s t work × Malformed f n)
   -- "then 16 with the first line whose label or wait is outside its range",
-  pub out_of_range : (n : ℕ) → (r ≡ Refused 16 n) ↔ (Askable xs s t work × Outside f n)
+  pub out_of_range : (n : ℕ) → (r ≡ Err (line_refusal 16 n)) ↔ (Askable xs s t work × Outside f n)
   -- "then 17 with the first line whose label isn't above the one before, all after 12".
-  pub not-above : (n : ℕ) → (r ≡ Refused 17 n) ↔ (Askable xs s t work × NotRising f n)
+  pub not-above : (n : ℕ) → (r ≡ Err (line_refusal 17 n)) ↔ (Askable xs s t work × NotRising f n)
   -- It is answered exactly if nothing is refused, and then by the smallest sum.
-  pub answered : (((n : ℕ) × (r ≡ Tenths n)) ⊎ (r ≡ None)) ↔ (Askable xs s t work × ((vss : List (List ℕ)) × LawfulWaits f vss))
+  pub answered : (((n : ℕ) × (r ≡ Ok (Some n))) ⊎ (r ≡ Ok None)) ↔ (Askable xs s t work × ((vss : List (List ℕ)) × LawfulWaits f vss))
   pub quickest : Askable xs s t work → (vss : List (List ℕ)) → LawfulWaits f vss → IsQuickest xs vss (show_links (blocks_of xs)) s t r
   pub leaves : Askable xs s t work → (vss : List (List ℕ)) → LawfulWaits f vss → IsCleared work after

@@ -1,14 +1,13 @@
 -- The row behind a follow-on: what row answers about cues s and t, and leaves in the lent list. Document 02, Paper 2: "For s and t, give the number of one
 -- link row, and the depth and path of the copy it stands in, the path into a path list as for locating." What a copy at a path is: Copies. Rows are
 -- counted from 1.
-use Rattle.std.specs.Prelude.{ℕ, ◌≤◌, ◌<◌, ◌≡◌, ◌⊎◌, ◌↔◌, length}
+use Rattle.std.specs.Prelude.{ℕ, ◌≤◌, ◌<◌, ◌≡◌, ◌⊎◌, ◌↔◌, length, Ok, Err}
 use mathlib.Core.List.{List, Memᴰ}
+use Rattle.model.specs.Answers.{RowAnswer, row_at_depth}
 use Rattle.model.specs.Limits.{max_depth}
 use Rattle.model.specs.Blocks.{Link, blocks_of}
 use Rattle.model.specs.Verdicts.{refusal}
 use Rattle.model.specs.Unfolding.{show_links}
-use Rattle.model.specs.declared.RowAnswer.{RowAnswer}
-use Rattle.model.specs.declared.RowAnswer.TheVariants.{Row, Refused}
 use Rattle.shows.specs.Copies.{number, show_copy, Steps}
 use Rattle.demands.specs.Buffers.{Leaves}
 use Rattle.demands.specs.Acceptance.{nth_row, IsRow, column, Links, Below}
@@ -63,7 +62,7 @@ pub record IsRowBehind (xs : List ℕ) (s t : ℕ) (lent : List ℕ) (r : RowAns
       → Memᴰ (link s t label) (show_links (blocks_of xs))
       ↔ ((path : List ℕ) × (row : ℕ) × StandsAs xs s t path row × ((nth_row xs row).label ≡ label))
   -- A row is given exactly if there is such a link, and then it is the one that wins.
-  pub exactly : ((row depth : ℕ) × (r ≡ Row row depth)) ↔ LinkLeads xs s t
-  pub given : (row depth : ℕ) → r ≡ Row row depth → IsGiven xs s t lent row depth after
+  pub exactly : ((row depth : ℕ) × (r ≡ Ok (row_at_depth row depth))) ↔ LinkLeads xs s t
+  pub given : (row depth : ℕ) → r ≡ Ok (row_at_depth row depth) → IsGiven xs s t lent row depth after
   -- "14, place 0, where no link from s to t exists". (That a refusal leaves the list as it was: `Refusals.Refuses`.)
-  pub none : (r ≡ Refused (refusal 14 0)) ↔ (LinkLeads xs s t → ⊥)
+  pub none : (r ≡ Err (refusal 14 0)) ↔ (LinkLeads xs s t → ⊥)

@@ -1,6 +1,6 @@
 -- The words that these pages share with the model and its laws, by what they mean: figures, bytes, values, the text of a file, rows, choices, ranges, what
 -- rises, what each number of a list has, and the numbers that an answer has.
-use Rattle.std.specs.Prelude.{ℕ, ◌+◌, ◌*◌, ◌-◌, ◌/◌, ◌%◌, ◌≤◌, ◌<◌, ◌≡◌, true, false, List, [], ◌∷◌, ◌++◌, map, ◌↔◌, ◌≢◌, length, get_or}
+use Rattle.std.specs.Prelude.{ℕ, ◌+◌, ◌*◌, ◌-◌, ◌/◌, ◌%◌, ◌≤◌, ◌<◌, ◌≡◌, true, false, List, [], ◌∷◌, ◌++◌, map, ◌↔◌, ◌≢◌, length, get_or, Ok, Err, Some, None}
 use Rattle.model.specs.Choice.{if_lt, if_eq}
 use Rattle.model.specs.Limits.{row_size, max_value, max_digits, max_joins, max_own, max_label, max_followed, max_wait, max_blocks, max_bytes, max_rows, desk_rows, desk_blocks}
 use Rattle.model.specs.Limits.{max_total, max_depth, work_size, summary_size, summary_width, no_chain, printed_cues}
@@ -10,17 +10,8 @@ use Rattle.model.specs.Rows.{row_count, rows_of}
 use Rattle.model.specs.Blocks.{Block, last_block}
 use Rattle.model.specs.Verdicts.{refusal}
 use Rattle.model.specs.Lists.{range}
-use Rattle.model.specs.Answers.{Returned, returned, of_read, of_write, of_count, of_locate, of_number, of_list, of_row, of_fewest, of_quickest}
+use Rattle.model.specs.Answers.{Returned, returned, of_read, of_write, of_count, of_locate, of_number, of_list, of_row, of_fewest, of_quickest, show_size, cue_place, listing, row_at_depth, line_refusal}
 use Rattle.model.specs.declared.Refusal.{Refusal}
-use Rattle.model.specs.declared.ReadAnswer.TheVariants.{Read, Refused as Unread}
-use Rattle.model.specs.declared.WriteAnswer.TheVariants.{Written, Refused as Unwritten}
-use Rattle.model.specs.declared.CountAnswer.TheVariants.{Cues, Refused as Uncounted}
-use Rattle.model.specs.declared.LocateAnswer.TheVariants.{Found, Refused as Unlocated}
-use Rattle.model.specs.declared.NumberAnswer.TheVariants.{Number, Refused as Unnumbered}
-use Rattle.model.specs.declared.ListAnswer.TheVariants.{Page, Refused as Unlisted}
-use Rattle.model.specs.declared.RowAnswer.TheVariants.{Row, Refused as Untraced}
-use Rattle.model.specs.declared.FewestAnswer.TheVariants.{Steps, None, Refused as Unsearched}
-use Rattle.model.specs.declared.QuickestAnswer.TheVariants.{Tenths, None as NoWay, Refused as Untimed}
 use Rattle.basics.specs.Members.{Each}
 use Rattle.basics.specs.Values.{SpellsValue}
 use Rattle.shows.specs.Lists.{Rising}
@@ -127,27 +118,27 @@ IsReturned a number place values = (a.number ≡ number) × (a.place ≡ place) 
 pub record AnswerWords : Type 0 where
   pub refusal_is : (n p : ℕ) → ((refusal n p).number ≡ n) × ((refusal n p).place ≡ p)
   pub refused : (q : Refusal) → IsReturned (returned q) q.number q.place []
-  pub read : (rows blocks cues : ℕ) → IsReturned (of_read (Read rows blocks cues)) 0 0 (rows ∷ blocks ∷ cues ∷ [])
-  pub unread : (q : Refusal) → of_read (Unread q) ≡ returned q
-  pub written : (bytes : ℕ) → IsReturned (of_write (Written bytes)) 0 0 (bytes ∷ [])
-  pub unwritten : (q : Refusal) → of_write (Unwritten q) ≡ returned q
-  pub counted : (n : ℕ) → IsReturned (of_count (Cues n)) 0 0 (n ∷ [])
-  pub uncounted : (q : Refusal) → of_count (Uncounted q) ≡ returned q
-  pub found : (depth block own : ℕ) → IsReturned (of_locate (Found depth block own)) 0 0 (depth ∷ block ∷ own ∷ [])
-  pub unlocated : (q : Refusal) → of_locate (Unlocated q) ≡ returned q
-  pub numbered : (n : ℕ) → IsReturned (of_number (Number n)) 0 0 (n ∷ [])
-  pub unnumbered : (q : Refusal) → of_number (Unnumbered q) ≡ returned q
-  pub page : (written : ℕ) → IsReturned (of_list (Page written false)) 0 0 (written ∷ 0 ∷ [])
-  pub page-more : (written : ℕ) → IsReturned (of_list (Page written true)) 0 0 (written ∷ 1 ∷ [])
-  pub unlisted : (q : Refusal) → of_list (Unlisted q) ≡ returned q
-  pub row-behind : (row depth : ℕ) → IsReturned (of_row (Row row depth)) 0 0 (row ∷ depth ∷ [])
-  pub untraced : (q : Refusal) → of_row (Untraced q) ≡ returned q
-  pub steps : (n : ℕ) → IsReturned (of_fewest (Steps n)) 0 0 (1 ∷ n ∷ [])
-  pub no_chain_lem : IsReturned (of_fewest None) 0 0 (0 ∷ 0 ∷ [])
-  pub unsearched : (q : Refusal) → of_fewest (Unsearched q) ≡ returned q
-  pub tenths : (n : ℕ) → IsReturned (of_quickest (Tenths n)) 0 0 (1 ∷ n % 4294967296 ∷ n / 4294967296 ∷ [])
-  pub no_way : IsReturned (of_quickest NoWay) 0 0 (0 ∷ 0 ∷ 0 ∷ [])
-  pub untimed : (number place : ℕ) → IsReturned (of_quickest (Untimed number place)) number place []
+  pub read : (rows blocks cues : ℕ) → IsReturned (of_read (Ok (show_size rows blocks cues))) 0 0 (rows ∷ blocks ∷ cues ∷ [])
+  pub unread : (q : Refusal) → of_read (Err q) ≡ returned q
+  pub written : (bytes : ℕ) → IsReturned (of_write (Ok bytes)) 0 0 (bytes ∷ [])
+  pub unwritten : (q : Refusal) → of_write (Err q) ≡ returned q
+  pub counted : (n : ℕ) → IsReturned (of_count (Ok n)) 0 0 (n ∷ [])
+  pub uncounted : (q : Refusal) → of_count (Err q) ≡ returned q
+  pub found : (depth block own : ℕ) → IsReturned (of_locate (Ok (cue_place depth block own))) 0 0 (depth ∷ block ∷ own ∷ [])
+  pub unlocated : (q : Refusal) → of_locate (Err q) ≡ returned q
+  pub numbered : (n : ℕ) → IsReturned (of_number (Ok n)) 0 0 (n ∷ [])
+  pub unnumbered : (q : Refusal) → of_number (Err q) ≡ returned q
+  pub page : (written : ℕ) → IsReturned (of_list (Ok (listing written false))) 0 0 (written ∷ 0 ∷ [])
+  pub page-more : (written : ℕ) → IsReturned (of_list (Ok (listing written true))) 0 0 (written ∷ 1 ∷ [])
+  pub unlisted : (q : Refusal) → of_list (Err q) ≡ returned q
+  pub row-behind : (row depth : ℕ) → IsReturned (of_row (Ok (row_at_depth row depth))) 0 0 (row ∷ depth ∷ [])
+  pub untraced : (q : Refusal) → of_row (Err q) ≡ returned q
+  pub steps : (n : ℕ) → IsReturned (of_fewest (Ok (Some n))) 0 0 (1 ∷ n ∷ [])
+  pub no_chain_lem : IsReturned (of_fewest (Ok None)) 0 0 (0 ∷ 0 ∷ [])
+  pub unsearched : (q : Refusal) → of_fewest (Err q) ≡ returned q
+  pub tenths : (n : ℕ) → IsReturned (of_quickest (Ok (Some n))) 0 0 (1 ∷ n % 4294967296 ∷ n / 4294967296 ∷ [])
+  pub no_way : IsReturned (of_quickest (Ok None)) 0 0 (0 ∷ 0 ∷ 0 ∷ [])
+  pub untimed : (number place : ℕ) → IsReturned (of_quickest (Err (line_refusal number place))) number place []
 
 pub record Words : Type 1 where
   pub choices : ChoiceWords

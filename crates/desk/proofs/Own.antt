@@ -7,9 +7,8 @@ use mathlib.Core.Bool.{Bool, true, false, false≢true}
 use mathlib.Core.List.{List}
 use Rattle.model.specs.Limits.{max_rows, desk_rows, desk_blocks}
 use Rattle.model.specs.Rows.{Row, row_count}
-use Rattle.model.specs.Verdicts.{refused}
+use Rattle.model.specs.Verdicts.{refused, Accepted}
 use Rattle.model.specs.Desk.{check_own, check_first}
-use Rattle.model.specs.declared.Verdict.TheVariants.{Accepted}
 use Rattle.basics.proofs.Choices.{lt_then, lt_else, eq_then, eq_else, passed-eq, passed-not_lt}
 use Rattle.desk.specs.Own.{own_rows_fit, opens_first}
 

@@ -19,13 +19,7 @@ const MAX_OWN_ROWS: usize = MAX_ROWS - DESK_ROWS;
 pub fn fits(many: usize) -> bool
     ensures { result ≡ own_rows_fit many }
 {
-    if many < 1 {
-        return false;
-    }
-    if MAX_OWN_ROWS < many {
-        return false;
-    }
-    true
+    1 <= many && many <= MAX_OWN_ROWS
 }
 
 // Puts the built-in table before the numbers that stand behind its place.
@@ -41,11 +35,5 @@ pub fn opens_first(numbers: &[u32]) -> bool
     requires { desk_rows * row_size + row_size ≤ length numbers.now }
     ensures { result ≡ opens_first (row_at numbers.now desk_rows) }
 {
-    if numbers[DESK_SIZE + 1] != 0 {
-        return false;
-    }
-    if numbers[DESK_SIZE] != DESK_BLOCKS {
-        return false;
-    }
-    true
+    numbers[DESK_SIZE + 1] == 0 && numbers[DESK_SIZE] == DESK_BLOCKS
 }

@@ -9,7 +9,7 @@ use lib.ListN.{length, get_or, take, drop, replicate, length-append, length-drop
 use lib.Seq.{take_at, drop_at, drop-drop, get_or-take, length-take-le}
 use Rattle.model.specs.Limits.{no_chain, max_joins, summary_size, work_size}
 use Rattle.model.specs.Lists.{range, overwrite}
-use Rattle.model.specs.Blocks.{Block, joins_of, last_block, blocks_of}
+use Rattle.model.specs.Blocks.{Block, joins_of, own_of, last_block, blocks_of}
 use Rattle.model.specs.Chains.{fewest}
 use Rattle.model.specs.Summaries.{summary_of, summaries, work_by, work_after}
 use Rattle.shows.specs.WellFormed.{Small}
@@ -18,9 +18,12 @@ use Rattle.distances.specs.Tells.{summary_place, summaries_to, summaries_to_by}
 use Rattle.distances.proofs.Places.{summaries_to-next, summaries_to-length, summaries_to-at, summaries-all, summaries-length}
 use Rattle.blocks.specs.Loaded.{Loaded}
 use Rattle.blocks.proofs.Loaded.{loaded-show}
+use Rattle.distances.specs.Walks.{Price}
+use Rattle.searches.specs.Edges.{Only, SpreadIn}
+use Rattle.searches.specs.Joins.{RowKept}
 use Rattle.searches.specs.Parts.{part_of, with_part}
-use Rattle.searches.proofs.Parts.{block-count, part_length, part-put, with_before, part-with, with_with}
-use Rattle.distance.specs.Summaries.{RowsFilled, PartFilled, Below}
+use Rattle.searches.proofs.Parts.{block-count, part-lent, part_length, part-put, with_before, part-with, with_with}
+use Rattle.distance.specs.Summaries.{RowFound, RowsFilled, PartFilled, Below}
 use Rattle.distance.proofs.Summaries.{filled-begin, filled-done}
 
 -- The summaries of the lower blocks stay as a part is put in.
@@ -193,3 +196,21 @@ area-summaries bs w =
     (replicate (work_size - summary_size * length bs) 0
     ++ drop (length (summaries bs ++ replicate (work_size - summary_size * length bs) 0)) w)
     (summary_size * length bs) (summaries-length fewest bs))
+
+-- A row that was found, as the code puts it in.
+pub row-found : {inf : ℕ} {price : Price} {bs : List Block} {k i : ℕ} {before v d : List ℕ} {own o m : ℕ}
+    → summary_size * k + summary_size ≤ length before → own ≡ own_of bs k → o ≡ own → m ≡ joins_of bs k
+    → SpreadIn inf price bs before k (Only (o + 1 + i)) d
+    → RowKept (take (summary_size * k + summary_size - summary_size * k) (drop (summary_size * k) before)) i d (o + 1) m v
+    → length v ≡ length (take (summary_size * k + summary_size - summary_size * k) (drop (summary_size * k) before))
+    → RowFound inf price bs k i before
+    (take (summary_size * k) before ++ (v ++ drop (summary_size * k + summary_size - summary_size * k) (drop (summary_size * k) before)))
+row-found {k = k} {before = before} {v = v} {d} long ew eo em s r size =
+    record {
+      estimates = d;
+      spread = rw (eo ∙ ew) at s;
+      part = v;
+      row = rw (part-lent before k, eo ∙ ew, em) at r;
+      size = size ∙ part_length before k long;
+      is = part-put before v v k refl;
+    }

@@ -1,13 +1,13 @@
 -- Estimates from each join of a block in turn are the block's summary, and fill its numbers row by row.
-use Prim.Native.Nat.{ℕ, suc, ◌+◌, ◌*◌, ◌/◌, ◌%◌, ◌-◌, ◌≤◌, ◌<◌}
+use Prim.Native.Nat.{ℕ, suc, ◌+◌, ◌*◌, ◌/◌, ◌%◌, ◌≤◌, ◌<◌}
 use native.Mathlib.Omega.{arith}
 use native.Mathlib.Decide.{ℕ_discrete, dec_lt}
-use mathlib.Core.Path.{◌≡◌, refl, sym, ◌∙◌}
+use mathlib.Core.Path.{◌≡◌, sym, ◌∙◌}
 use mathlib.Core.Logic.{inl, inr}
-use mathlib.Core.List.{List, ◌++◌}
+use mathlib.Core.List.{List}
 use mir.Syntax.{w32}
 use mir.Val.{Fits}
-use lib.ListN.{length, get_or, take, drop, replicate, length-replicate, get_or-replicate}
+use lib.ListN.{length, get_or, replicate, length-replicate, get_or-replicate}
 use lib.Seq.{ext_get_or}
 use Rattle.model.specs.Limits.{no_chain, max_joins, summary_size, summary_width}
 use Rattle.model.specs.Blocks.{Block, block_at, joins_of, own_of, blocks_of}
@@ -24,8 +24,8 @@ use Rattle.blocks.proofs.Loaded.{loaded-show, joins-few}
 use Rattle.searches.specs.Edges.{numbers, Only, SpreadIn}
 use Rattle.searches.specs.Joins.{RowKept}
 use Rattle.searches.specs.Parts.{part_of}
-use Rattle.searches.proofs.Parts.{part-lent, part-put}
-use Rattle.distance.specs.Summaries.{RowsFilled, PartFilled, Below}
+use Rattle.searches.proofs.Parts.{with_in}
+use Rattle.distance.specs.Summaries.{RowFound, RowsFilled, PartFilled, Below}
 use Rattle.searches.proofs.Settled.{spread_estimates}
 
 -- The numbers, as they are at first.
@@ -60,50 +60,52 @@ module _ {xs t : List ℕ} (loaded : Loaded xs t) (k : ℕ) (h : IsBlock xs k) (
   bs = blocks_of xs
 
   -- The estimates from join i are the summaries of that join.
-  row-summary : (i j : ℕ) (d : List ℕ) → i < joins_of bs k → j < joins_of bs k
-      → SpreadIn no_chain each-one bs work k (Only (own_of bs k + 1 + i)) d → ((c : ℕ) → get_or d c 0 ≤ no_chain)
-      → get_or d (own_of bs k + 1 + j) 0 ≡ summary bs k (suc i) (suc j)
+  row-summary : (i j : ℕ) (d : List ℕ) → i < joins_of bs k → j < joins_of bs k → SpreadIn no_chain each-one bs work k (Only (own_of bs k + 1 + i)) d
+      → get_or d (own_of bs k + 1 + j) 0 ≤ no_chain → get_or d (own_of bs k + 1 + j) 0 ≡ summary bs k (suc i) (suc j)
   row-summary i j d hi hj s most =
       let p : own_of bs k + 1 + i ≡ (block_at bs k).own + suc i = omega (arith, own_of_at bs k) in
       let q : own_of bs k + 1 + j ≡ (block_at bs k).own + suc j = omega (arith, own_of_at bs k) in
       rw q
       (sym (estimates-summary bs (loaded-show loaded).good k (suc i) (suc j) (numbers work) (λ m l. cues-fit (loaded-show loaded) m) below
-      (spread_estimates bs (loaded-show loaded).good work k (rw p at s)) (most ((block_at bs k).own + suc j)) (omega arith) (omega arith)))
+      (spread_estimates bs (loaded-show loaded).good work k (rw p at s)) (rw q at most) (omega arith) (omega arith)))
 
-  row-filled : (i o m : ℕ) (v d e : List ℕ) → o ≡ own_of bs k → m ≡ joins_of bs k → i < m → RowsFilled bs k i v
-      → SpreadIn no_chain each-one bs work k (Only (o + 1 + i)) d → ((c : ℕ) → get_or d c 0 ≤ no_chain)
-      → RowKept v i d (o + 1) m e → length e ≡ length v → RowsFilled bs k (i + 1) e
-  row-filled i o m v d e eo em l f s most r long =
+  row-filled : (i : ℕ) (v d e : List ℕ) → i < joins_of bs k → RowsFilled bs k i v → SpreadIn no_chain each-one bs work k (Only (own_of bs k + 1 + i)) d
+      → ((c : ℕ) → c < summary_size → get_or e c 0 ≤ no_chain) → RowKept v i d (own_of bs k + 1) (joins_of bs k) e → length e ≡ summary_size
+      → RowsFilled bs k (i + 1) e
+  row-filled i v d e l f s most r size =
       record {
-        size = long ∙ f.size;
-        done = λ a j x y. done a j x y (ℕ_discrete a i) (dec_lt j m);
+        size = size;
+        done = λ a j x y. done a j x y (ℕ_discrete a i) (dec_lt j (joins_of bs k));
         rest = λ a j x y z. r.else (summary_width * a + j) (inr (omega (arith, few))) ∙ f.rest a j (omega arith) y z;
       }
     where
       few : joins_of bs k ≤ max_joins
       few = joins-few loaded k h
 
-      done : (a j : ℕ) → a < i + 1 → j < summary_width → Dec (a ≡ i) → Dec (j < m)
+      done : (a j : ℕ) → a < i + 1 → j < summary_width → Dec (a ≡ i) → Dec (j < joins_of bs k)
           → get_or e (summary_width * a + j) 0 ≡ summary bs k (suc a) (suc j)
       done a j x y (no n) w = r.else (summary_width * a + j) (inl (omega arith)) ∙ f.done a j (omega arith) y
-      done a j x y (yes q) (yes w) = rw q (r.at j w ∙ (rw eo (row-summary i j d (omega arith) (omega arith) (rw eo at s) most)))
+      done a j x y (yes q) (yes w) =
+          let here : summary_width * i + j < summary_size = omega (arith, few) in
+          rw q (r.at j w ∙ row-summary i j d l w s (rw (r.at j w) at (most (summary_width * i + j) here)))
       done a j x y (yes q) (no w) =
           rw q
           (r.else (summary_width * i + j) (inr (omega arith)) ∙ f.rest i j (omega arith) (omega (arith, few)) y
           ∙ sym (summary-lacks fewest bs k (suc i) (suc j) (inr (omega arith))))
 
--- One more row of the block's part of the work area, as the code puts it in.
-pub join_filled : {xs t : List ℕ} {k i : ℕ} {work : List ℕ} {w o m : ℕ} {d v : List ℕ} → Loaded xs t → IsBlock xs k
-    → RowsFilled (blocks_of xs) k i (part_of work k) → Below (blocks_of xs) k work → i < joins_of (blocks_of xs) k → w ≡ own_of (blocks_of xs) k → o ≡ w
-    → m ≡ joins_of (blocks_of xs) k → SpreadIn no_chain each-one (blocks_of xs) work k (Only (o + 1 + i)) d → ((c : ℕ) → Fits w32 (get_or d c 0))
-    → RowKept (take (summary_size * k + summary_size - summary_size * k) (drop (summary_size * k) work)) i d (o + 1) m v
-    → length v ≡ length (take (summary_size * k + summary_size - summary_size * k) (drop (summary_size * k) work))
-    → PartFilled (blocks_of xs) k (i + 1) work
-    (take (summary_size * k) work ++ (v ++ drop (summary_size * k + summary_size - summary_size * k) (drop (summary_size * k) work)))
-join_filled {k = k} {i} {work} {m = m} {d} {v} loaded h f below l ew eo em s most r long =
+-- One more row of the block's part of the work area, where all numbers have 32 bits.
+pub join_filled : {xs t : List ℕ} {k i : ℕ} {work after : List ℕ} → Loaded xs t → IsBlock xs k → RowsFilled (blocks_of xs) k i (part_of work k)
+    → Below (blocks_of xs) k work → i < joins_of (blocks_of xs) k → summary_size * k + summary_size ≤ length work
+    → RowFound no_chain each-one (blocks_of xs) k i work after → ((c : ℕ) → Fits w32 (get_or after c 0))
+    → PartFilled (blocks_of xs) k (i + 1) work after
+join_filled {k = k} {i} {work} {after} loaded h f below l long r most =
     record {
-      part = v;
-      is = part-put work v v k refl;
-      filled = row-filled loaded k h work below i _ m (part_of work k) d v (eo ∙ ew) em (omega arith) f s (λ c. omega (arith, most c))
-          (rw (part-lent work k) at r) (rw (part-lent work k) at long);
+      part = r.part;
+      is = r.is;
+      filled = row-filled loaded k h work below i (part_of work k) r.estimates r.part l f r.spread (λ c m. small c m) r.row r.size;
     }
+  where
+    small : (c : ℕ) → c < summary_size → get_or r.part c 0 ≤ no_chain
+    small c m =
+        let here : get_or after (summary_size * k + c) 0 ≡ get_or r.part c 0 = rw r.is (with_in work r.part k long r.size c m) in
+        omega (arith, most (summary_size * k + c))

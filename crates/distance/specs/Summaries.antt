@@ -1,15 +1,13 @@
 -- The work area as it is filled with summaries.
 use Rattle.std.specs.Prelude.{ℕ, suc, ◌+◌, ◌*◌, ◌≤◌, ◌<◌, ◌≡◌, List, length, get_or}
 use Rattle.model.specs.Limits.{no_chain, summary_size, summary_width}
-use Rattle.model.specs.Blocks.{Block, blocks_of}
+use Rattle.model.specs.Blocks.{Block, joins_of, own_of}
 use Rattle.model.specs.Summaries.{summary}
+use Rattle.distances.specs.Walks.{Price}
 use Rattle.distances.specs.Tells.{Join}
-use Rattle.blocks.specs.Loaded.{Loaded}
-use Rattle.blocks.specs.Places.{Found}
-use Rattle.blocks.specs.declared.Place.{Place}
-use Rattle.searches.specs.Starts.{estimates_size}
-use Rattle.searches.specs.Edges.{numbers}
-use Rattle.searches.specs.Parts.{with_part}
+use Rattle.searches.specs.Edges.{numbers, Only, SpreadIn}
+use Rattle.searches.specs.Joins.{RowKept}
+use Rattle.searches.specs.Parts.{part_of, with_part}
 
 -- The rows before i of block k's numbers are its summary; the others say that there is no chain.
 pub record RowsFilled (bs : List Block) (k i : ℕ) (v : List ℕ) : Type 0 where
@@ -27,14 +25,11 @@ pub record PartFilled (bs : List Block) (k i : ℕ) (before work : List ℕ) : T
 abbrev pub Below : List Block → ℕ → List ℕ → Type 0
 Below bs k work = (m i j : ℕ) → m < k → Join bs m i → Join bs m j → numbers work m i j ≡ summary bs m i j
 
--- A loaded show, and the summaries of all its blocks in the work area.
-pub record HasSummaries (xs t work : List ℕ) : Type 0 where
-  pub loaded : Loaded xs t
-  pub long : summary_size * length (blocks_of xs) ≤ length work
-  pub below : Below (blocks_of xs) (length (blocks_of xs)) work
-
--- What the way up or down the rows of a place asks for: the summaries, the rows that lead to the place, and an estimate for each cue that a block may have.
-pub record MaySearch (xs t work rows : List ℕ) (q : Place) (d : List ℕ) : Type 0 where
-  pub summaries : HasSummaries xs t work
-  pub found : Found xs t rows q
-  pub size : length d ≡ estimates_size
+-- Row i of block k's part of the work area has the estimates from the block's join i + 1; nothing else has changed.
+pub record RowFound (inf : ℕ) (price : Price) (bs : List Block) (k i : ℕ) (before work : List ℕ) : Type 0 where
+  pub estimates : List ℕ
+  pub spread : SpreadIn inf price bs before k (Only (own_of bs k + 1 + i)) estimates
+  pub part : List ℕ
+  pub row : RowKept (part_of before k) i estimates (own_of bs k + 1) (joins_of bs k) part
+  pub size : length part ≡ summary_size
+  pub is : work ≡ with_part before k part

@@ -1,5 +1,5 @@
 -- How the levels of one block change: nothing yet, one thing more, nothing left; and what one store does.
-use Prim.Native.Nat.{ℕ, ◌+◌, ◌*◌, ◌-◌, ◌≤◌, ◌<◌}
+use Prim.Native.Nat.{ℕ, ◌+◌, ◌*◌, ◌<◌}
 use native.Mathlib.Omega.{arith}
 use native.Mathlib.Decide.{ℕ_discrete, dec_lt}
 use mathlib.Core.Path.{◌≡◌, refl, sym, ◌∙◌, ap}
@@ -11,7 +11,7 @@ use Rattle.model.specs.Choice.{if_eq}
 use Rattle.model.specs.Limits.{max_joins}
 use Rattle.basics.proofs.Choices.{eq_then, eq_else}
 use Rattle.levels.specs.Levels.{better_level, pairs_size, level_at}
-use Rattle.levels.specs.Tables.{join_cue, Going, Changed, put_level, HasPairs}
+use Rattle.levels.specs.Tables.{join_cue, Going, Changed, put_level, IsNoJoin, HasPairs}
 
 pub going_begin : (k own : ℕ) (rest whole : ℕ → ℕ → ℕ → ℕ) (m : List ℕ) → ((x y n : ℕ) → rest x y n ≡ whole x y n) → Going k own rest whole m m
 going_begin k own rest whole m e = record { long = refl; here = λ i j a b. e (join_cue own i) (join_cue own j) _; else = λ b i j n x y. refl }
@@ -55,17 +55,11 @@ put-nowhere k own a b n m h =
       else = λ b i j d x y. refl;
     }
 
-pub put-own_a : (k own a b n : ℕ) (m : List ℕ) → a ≤ own → Changed k own (put_level a b n) m m
-put-own_a k own a b n m h = put-nowhere k own a b n m (λ i j x y p q. omega arith)
+pub put-no_a : (k own a b n : ℕ) (m : List ℕ) → IsNoJoin own a → Changed k own (put_level a b n) m m
+put-no_a k own a b n m h = put-nowhere k own a b n m (λ i j x y p q. h i x p)
 
-pub put-own_b : (k own a b n : ℕ) (m : List ℕ) → b ≤ own → Changed k own (put_level a b n) m m
-put-own_b k own a b n m h = put-nowhere k own a b n m (λ i j x y p q. omega arith)
-
-pub put-far_a : (k own a b n p : ℕ) (m : List ℕ) → own < a → p ≡ a - own - 1 → max_joins ≤ p → Changed k own (put_level a b n) m m
-put-far_a k own a b n p m h e l = put-nowhere k own a b n m (λ i j x y u v. omega arith)
-
-pub put-far_b : (k own a b n p : ℕ) (m : List ℕ) → own < b → p ≡ b - own - 1 → max_joins ≤ p → Changed k own (put_level a b n) m m
-put-far_b k own a b n p m h e l = put-nowhere k own a b n m (λ i j x y u v. omega arith)
+pub put-no_b : (k own a b n : ℕ) (m : List ℕ) → IsNoJoin own b → Changed k own (put_level a b n) m m
+put-no_b k own a b n m h = put-nowhere k own a b n m (λ i j x y p q. h j y q)
 
 -- Two places of a table are one only if all of block and joins are the same.
 place-apart : (b i j k p q : ℕ) → i < max_joins → j < max_joins → p < max_joins → q < max_joins
@@ -80,11 +74,10 @@ place-apart b i j k p q x y z w e = go (dec_lt b k) (dec_lt k b) (dec_lt i p) (d
     go (no h) (no l) (no f) (no g) = omega arith
 
 -- The store.
-pub put-there : (k own a b n i j at old new : ℕ) (m : List ℕ) → HasPairs m k → own < a → own < b → i ≡ a - own - 1 → j ≡ b - own - 1 → i < max_joins
-    → j < max_joins → at ≡ pairs_size * k + max_joins * i + j → old ≡ get_or m at 0 → new ≡ better_level old n
-    → Changed k own (put_level a b n) m (set m at new)
+pub put-there : (k own a b n i j at old new : ℕ) (m : List ℕ) → HasPairs m k → a ≡ join_cue own i → b ≡ join_cue own j → i < max_joins → j < max_joins
+    → at ≡ pairs_size * k + max_joins * i + j → old ≡ get_or m at 0 → new ≡ better_level old n → Changed k own (put_level a b n) m (set m at new)
 unfolding put_level
-put-there k own a b n i j at old new m room la lb ei ej li lj e eo en =
+put-there k own a b n i j at old new m room ei ej li lj e eo en =
     record { long = length-set m at new; here = λ p q x y. here p q x y (ℕ_discrete a (join_cue own p)) (ℕ_discrete b (join_cue own q)); else = else }
   where
     inside : at < length m

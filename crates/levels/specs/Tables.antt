@@ -46,6 +46,10 @@ Changed k own whole m w = Going k own done whole m w
 unfoldable pub put_level : ℕ → ℕ → ℕ → ℕ → ℕ → ℕ → ℕ
 put_level a b n x y old = if_eq a x (if_eq b y (better_level old n) old) old
 
+-- Cue c of a block with so many own cues is none of its joins.
+abbrev pub IsNoJoin : ℕ → ℕ → Type 0
+IsNoJoin own c = (i : ℕ) → i < max_joins → c ≡ join_cue own i → ⊥
+
 -- The table has room for block k.
 abbrev pub HasPairs : List ℕ → ℕ → Type 0
 HasPairs m k = pairs_size * k + pairs_size ≤ length m

@@ -4,22 +4,38 @@
 // `levels` makes the table for the blocks below one; `wins` says which of two levels is better.
 #![tactic(auto)]
 
-ghost use Rattle.std.specs.Prelude.{◌≡◌, ◌+◌, ◌<◌, replicate};
+ghost use Rattle.std.specs.Prelude.{◌≡◌, ◌+◌, ◌<◌, replicate, MatchOption};
 ghost use Rattle.model.specs.Limits.{max_joins};
 ghost use Rattle.model.specs.Behind.{depth_wins};
-ghost use Rattle.blocks.specs.Loaded.{Loaded, IsBlock};
+ghost use Rattle.blocks.specs.Loaded.{IsBlock};
 ghost use Rattle.levels.specs.Levels.{better_level, table_size, level_at};
-ghost use Rattle.levels.specs.Tables.{Levels, Fresh, Changed, put_level, HasPairs, Unlinked, used_joins, MayLift, links_put, uses_lift, use_lift, join_lift, pair_lift};
+ghost use Rattle.levels.specs.Tables.{join_cue, Levels, Fresh, Changed, put_level, IsNoJoin, HasPairs, Unlinked, used_joins, MayLift};
+ghost use Rattle.levels.specs.Tables.{links_put, uses_lift, use_lift, join_lift, pair_lift};
 
-use blocks::{INDEX, JOINS, column, from, joins, link_rows, own, to, use_rows, used, wide};
+use blocks::{JOINS, Show, column, from, to, used, wide};
 use model::limits::MAX_BLOCKS;
 
 // A level for each two joins of a block, and of all blocks.
-pub const PAIRS: usize = JOINS * JOINS;
+const PAIRS: usize = JOINS * JOINS;
 
-pub const TABLE: usize = PAIRS * MAX_BLOCKS as usize;
+const TABLE: usize = PAIRS * MAX_BLOCKS as usize;
+
+// Levels from join to join, for each block; 0 is none.
+#[derive(Drop)]
+pub struct Table {
+    levels: [u8; TABLE],
+}
+
+// A block and how many own cues it has: the numbers of its joins follow.
+#[derive(Clone, Copy)]
+struct Owner {
+    block: usize,
+    own: u32,
+}
 
 // Level a wins over level b: the shorter way does.
+// Kept: min or cmp in its place is no plainer: that the shorter way wins is said here once (`depth_wins`).
+#[tactic(auto, unfolding(model::specs::Behind::depth_wins))]
 pub fn wins(a: u8, b: u8) -> bool
     ensures { result ≡ depth_wins a b }
 {
@@ -27,154 +43,176 @@ pub fn wins(a: u8, b: u8) -> bool
 }
 
 // The better of two levels, of which 0 is none.
+// Kept: 0 and no Option, for fixed memory: a level is a byte of the table, and an Option would be made of each byte that is read and told apart here.
+#[tactic(auto, using(basics::proofs::Choices::ifs), unfolding(crate::specs::Levels::better_level))]
 fn better_level(a: u8, b: u8) -> u8
     ensures { result ≡ better_level a b }
 {
-    if b == 0 {
-        return a;
-    }
-    if a == 0 {
-        return b;
-    }
-    if wins(b, a) {
-        return b;
-    }
-    a
-}
-
-// The level from join i to join j of block k.
-pub fn level_at(m: &[u8], k: usize, i: usize, j: usize) -> u8
-    requires { HasPairs m.now k × (i < max_joins) × (j < max_joins) }
-    ensures { result ≡ level_at m.now k i j }
-{
-    m[PAIRS * k + JOINS * i + j]
-}
-
-// Puts in level n from cue a to cue b of block k, which has own own cues, if both are joins.
-fn put(m: &mut [u8], k: usize, own: u32, a: u32, b: u32, n: u8)
-    requires { HasPairs m.old k }
-    ensures { Changed k own (put_level a b n) m.old m.new }
-{
-    if a <= own {
-        return;
-    }
-    if b <= own {
-        return;
-    }
-    let i = wide(a - own - 1);
-    let j = wide(b - own - 1);
-    if JOINS <= i {
-        return;
-    }
-    if JOINS <= j {
-        return;
-    }
-    let at = PAIRS * k + JOINS * i + j;
-    let old = m[at];
-    m[at] = better_level(old, n);
-}
-
-// Puts in the links of a block.
-fn put_links(xs: &[u32], t: &[u32; INDEX], m: &mut [u8], k: usize, own: u32)
-    requires { Loaded xs.now t.now × IsBlock xs.now k × HasPairs m.old k }
-    ensures { Changed k own (links_put xs.now k) m.old m.new }
-{
-    let rows = link_rows(xs, t, k);
-    let mut r = rows.first;
-    while r < rows.end {
-        put(m, k, own, from(xs, r), to(xs, r), 1);
-        r += 1;
+    match (a, b) {
+        (_, 0) => a,
+        (0, _) => b,
+        _ if wins(b, a) => b,
+        _ => a,
     }
 }
 
-// Lifts the level from join i to join j of a use's block through the use of row r.
-fn lift_pair(xs: &[u32], m: &mut [u8], k: usize, own: u32, r: usize, i: usize, j: usize)
-    requires { MayLift xs.now m.old k r × (i < used_joins xs.now r) × (j < used_joins xs.now r) }
-    ensures { Changed k own (pair_lift xs.now m.old r i j) m.old m.new }
-{
-    let n = level_at(m, used(xs, r), i, j);
-    if 0 < n {
-        put(m, k, own, column(xs, r, i), column(xs, r, j), n + 1);
+impl Owner {
+    // The join, from 0, that cue c of the block is, if it is one.
+    fn join(self, c: u32) -> Option<usize>
+        ensures { MatchOption result (IsNoJoin self.own c) (λ i. (i < max_joins) × (c ≡ join_cue self.own i)) }
+    {
+        if c <= self.own {
+            return None;
+        }
+        let i = wide(c - self.own - 1);
+        if JOINS <= i {
+            return None;
+        }
+        Some(i)
     }
 }
 
-// No link leads from join i of block k to another. Most joins have none, so their levels are looked at as a whole first.
-fn unlinked(m: &[u8], k: usize, i: usize) -> bool
-    requires { HasPairs m.now k × (i < max_joins) }
-    ensures { Unlinked m.now k i result }
+// The level from join i to join j of block k, in any list of levels.
+// Kept: beside the method, by what may not change: its clause lets in any list of levels that has block k, which a `Table` is not.
+// Kept: `i < max_joins` and `j < max_joins`, here and below, are no plainer in a type of joins: each is an index at once, and the type would be opened for that.
+pub fn level_at(levels: &[u8], k: usize, i: usize, j: usize) -> u8
+    requires { HasPairs levels.now k × (i < max_joins) × (j < max_joins) }
+    ensures { result ≡ level_at levels.now k i j }
 {
-    let at = PAIRS * k + JOINS * i;
-    let mut all = 0;
-    let mut j = 0;
-    while j < JOINS {
-        all = all | m[at + j];
-        j += 1;
-    }
-    all == 0
+    levels[PAIRS * k + JOINS * i + j]
 }
 
-// Lifts the levels from join i.
-fn lift_join(xs: &[u32], m: &mut [u8], k: usize, own: u32, r: usize, joins: usize, i: usize)
-    requires { MayLift xs.now m.old k r × (joins ≡ used_joins xs.now r) × (i < joins) }
-    ensures { Changed k own (join_lift xs.now m.old r i) m.old m.new }
-{
-    if unlinked(m, used(xs, r), i) {
-        return;
+impl Table {
+    // A table without levels.
+    #[inline(always)]
+    pub fn new() -> Table
+        ensures { result.levels ≡ replicate table_size 0 }
+    {
+        Table { levels: [0; TABLE] }
     }
-    if column(xs, r, i) <= own {
-        return;
-    }
-    let mut j = 0;
-    while j < joins {
-        lift_pair(xs, m, k, own, r, i, j);
-        j += 1;
-    }
-}
 
-// Lifts the levels of the block that the use of row r names.
-fn lift_use(xs: &[u32], t: &[u32; INDEX], m: &mut [u8], k: usize, own: u32, r: usize)
-    requires { Loaded xs.now t.now × MayLift xs.now m.old k r }
-    ensures { Changed k own (use_lift xs.now m.old r) m.old m.new }
-{
-    let joins = joins(xs, t, used(xs, r));
-    let mut i = 0;
-    while i < joins {
-        lift_join(xs, m, k, own, r, joins, i);
-        i += 1;
+    // The level from join i to join j of block k.
+    // Kept: HasPairs in five contracts is no plainer as a field: it says of the block that is asked for, another in each call, that it is one of the table's.
+    pub fn level_at(&self, k: usize, i: usize, j: usize) -> u8
+        requires { HasPairs self.now.levels k × (i < max_joins) × (j < max_joins) }
+        ensures { result ≡ level_at self.now.levels k i j }
+    {
+        level_at(&self.levels, k, i, j)
     }
-}
 
-// Lifts the levels of the blocks that block k uses.
-fn lift_uses(xs: &[u32], t: &[u32; INDEX], m: &mut [u8], k: usize, own: u32)
-    requires { Loaded xs.now t.now × IsBlock xs.now k × Levels xs.now m.old k }
-    ensures { Changed k own (uses_lift xs.now m.old k) m.old m.new }
-{
-    let rows = use_rows(xs, t, k);
-    let mut r = rows.first;
-    while r < rows.end {
-        lift_use(xs, t, m, k, own, r);
-        r += 1;
+    // Puts in level n from cue a to cue b of a block, if both are joins.
+    fn put(&mut self, at: Owner, a: u32, b: u32, n: u8)
+        requires { HasPairs self.old.levels at.block }
+        ensures { Changed at.block at.own (put_level a b n) self.old.levels self.new.levels }
+    {
+        let Some(i) = at.join(a) else {
+            return;
+        };
+        let Some(j) = at.join(b) else {
+            return;
+        };
+        let p = PAIRS * at.block + JOINS * i + j;
+        self.levels[p] = better_level(self.levels[p], n);
     }
-}
 
-// Makes the levels of block k, where those of the blocks below it are made.
-fn make(xs: &[u32], t: &[u32; INDEX], m: &mut [u8], k: usize)
-    requires { Loaded xs.now t.now × IsBlock xs.now k × Levels xs.now m.old k × Fresh m.old k }
-    ensures { Levels xs.now m.new (k + 1) × Fresh m.new (k + 1) }
-{
-    let own = own(xs, t, k);
-    put_links(xs, t, m, k, own);
-    lift_uses(xs, t, m, k, own);
+    // Puts in the links of a block.
+    // Kept: no plainer as one with lift_uses: each is one loop of one line over rows of its own, and a closure would bring the law of its step along.
+    fn put_links(&mut self, show: &Show, at: Owner)
+        requires { IsBlock show.now.rows.now at.block × HasPairs self.old.levels at.block }
+        ensures { Changed at.block at.own (links_put show.now.rows.now at.block) self.old.levels self.new.levels }
+    {
+        let rows = show.link_rows(at.block);
+        for r in rows.start..rows.end {
+            self.put(at, from(show.rows, r), to(show.rows, r), 1);
+        }
+    }
+
+    // Lifts the level from join i to join j of a use's block through the use of row r.
+    // Kept: MayLift in three contracts is no plainer as a field: it speaks of the levels at the call, and they change from call to call.
+    fn lift_pair(&mut self, rows: &[u32], at: Owner, r: usize, i: usize, j: usize)
+        requires { MayLift rows.now self.old.levels at.block r × (i < used_joins rows.now r) × (j < used_joins rows.now r) }
+        ensures { Changed at.block at.own (pair_lift rows.now self.old.levels r i j) self.old.levels self.new.levels }
+    {
+        let n = self.level_at(used(rows, r), i, j);
+        if 0 < n {
+            self.put(at, column(rows, r, i), column(rows, r, j), n + 1);
+        }
+    }
+
+    // No link leads from join i of block k to another. Most joins have none, so their levels are looked at as a whole first.
+    // Kept: tried, misses the bar of speed (row_mixed_1024 21.5 us for 19.6): a comparison of slices is a call for each join, so all
+    // eight are joined by "or", with no exit.
+    fn unlinked(&self, k: usize, i: usize) -> bool
+        requires { HasPairs self.now.levels k × (i < max_joins) }
+        ensures { Unlinked self.now.levels k i result }
+    {
+        let at = PAIRS * k + JOINS * i;
+        let mut all = 0;
+        for j in 0..JOINS {
+            all |= self.levels[at + j];
+        }
+        all == 0
+    }
+
+    // Lifts the levels from join i.
+    fn lift_join(&mut self, rows: &[u32], at: Owner, r: usize, joins: usize, i: usize)
+        requires { MayLift rows.now self.old.levels at.block r × (joins ≡ used_joins rows.now r) × (i < joins) }
+        ensures { Changed at.block at.own (join_lift rows.now self.old.levels r i) self.old.levels self.new.levels }
+    {
+        if self.unlinked(used(rows, r), i) {
+            return;
+        }
+        if column(rows, r, i) <= at.own {
+            return;
+        }
+        for j in 0..joins {
+            self.lift_pair(rows, at, r, i, j);
+        }
+    }
+
+    // Lifts the levels of the block that the use of row r names.
+    fn lift_use(&mut self, show: &Show, at: Owner, r: usize)
+        requires { MayLift show.now.rows.now self.old.levels at.block r }
+        ensures { Changed at.block at.own (use_lift show.now.rows.now self.old.levels r) self.old.levels self.new.levels }
+    {
+        let joins = show.joins(used(show.rows, r));
+        for i in 0..joins {
+            self.lift_join(show.rows, at, r, joins, i);
+        }
+    }
+
+    // Lifts the levels of the blocks that a block uses.
+    fn lift_uses(&mut self, show: &Show, at: Owner)
+        requires { IsBlock show.now.rows.now at.block × Levels show.now.rows.now self.old.levels at.block }
+        ensures { Changed at.block at.own (uses_lift show.now.rows.now self.old.levels at.block) self.old.levels self.new.levels }
+    {
+        let rows = show.use_rows(at.block);
+        for r in rows.start..rows.end {
+            self.lift_use(show, at, r);
+        }
+    }
+
+    // Makes the levels of block k, where those of the blocks below it are made.
+    fn make(&mut self, show: &Show, k: usize)
+        requires { IsBlock show.now.rows.now k × Levels show.now.rows.now self.old.levels k × Fresh self.old.levels k }
+        ensures { Levels show.now.rows.now self.new.levels (k + 1) × Fresh self.new.levels (k + 1) }
+    {
+        let at = Owner {
+            block: k,
+            own: show.own(k),
+        };
+        self.put_links(show, at);
+        self.lift_uses(show, at);
+    }
 }
 
 // Makes the levels of the blocks below end, in a table without any.
-pub fn levels(xs: &[u32], t: &[u32; INDEX], m: &mut [u8], end: usize)
-    requires { Loaded xs.now t.now × IsBlock xs.now end × (m.old ≡ replicate table_size 0) }
-    ensures { Levels xs.now m.new end }
+// Kept: tried, misses the bar of speed (row_ring 921 ns for 331): a table that is returned has its 8 kB copied twice, so it is lent.
+pub fn levels(show: &Show, table: &mut Table, end: usize)
+    requires { IsBlock show.now.rows.now end × (table.old.levels ≡ replicate table_size 0) }
+    ensures { Levels show.now.rows.now table.new.levels end }
 {
-    let mut k = 0;
-    while k < end {
-        make(xs, t, m, k);
-        k += 1;
+    for k in 0..end {
+        table.make(show, k);
     }
 }

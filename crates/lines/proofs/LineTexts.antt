@@ -4,12 +4,11 @@ use mathlib.Core.Path.{◌≡◌, refl, sym, ◌∙◌}
 use mathlib.Core.List.{List, [], ◌∷◌, ◌++◌, append_assoc}
 use native.Mathlib.Omega.{arith}
 use lib.ListN.{length, drop}
+use Rattle.std.proofs.Common.{Option, Some, None}
 use Rattle.basics.specs.Members.{Each}
 use Rattle.basics.specs.Values.{Other}
 use Rattle.shows.specs.Files.{SpellsLine, no_value, value-then}
 use Rattle.values.specs.Fields.{value_at}
-use Rattle.values.specs.declared.Field.{Field}
-use Rattle.values.specs.declared.Field.TheVariants.{Value, Bad}
 use Rattle.values.proofs.Texts.{value-text, text-value}
 use Rattle.lines.specs.Scanning.{ValueFound, Values, Broken, behind, line_at}
 use Rattle.lines.proofs.LineScan.{line_first, line_none}
@@ -36,9 +35,9 @@ line_text_lem [] f at vs next p =
     rw (e, ← n) (record { line = []; spells = no_value; bytes = refl; on = omega arith; inside = λ h. h })
 line_text_lem (e ∷ es) f at vs next p = go (λ n ws. line_text_lem es f n ws next) (value_at f e at) refl
   where
-    go : ((n : ℕ) (ws : List ℕ) → line_at es f n ≡ Values ws next → LineText es f n ws next) → (m : Field) → value_at f e at ≡ m
+    go : ((n : ℕ) (ws : List ℕ) → line_at es f n ≡ Values ws next → LineText es f n ws next) → (m : Option (ℕ × ℕ)) → value_at f e at ≡ m
         → LineText (e ∷ es) f at vs next
-    go rec (Value v n) q =
+    go rec (Some (v, n)) q =
         let (ws, r, w) = found-is v (line_at es f n) vs next (sym (line_first e es f at v n q) ∙ p) in
         let t = value-text f e at v n q in
         let l = rec n ws r in
@@ -50,7 +49,7 @@ line_text_lem (e ∷ es) f at vs next p = go (λ n ws. line_text_lem es f n ws n
           on = omega arith;
           inside = λ h. l.inside t.inside;
         })
-    go rec Bad q =
+    go rec None q =
         let b : Broken ≡ Values vs next = sym (line_none e es f at q) ∙ p in
         let z : ◌≡◌ {A = ℕ} 0 1 = cc in
         absurd (omega arith)

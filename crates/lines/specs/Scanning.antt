@@ -1,11 +1,8 @@
 -- Reading lines as the code does it: at a place of the text. proofs/ ties it to the lines of crates/model.
-use Rattle.std.specs.Prelude.{ℕ, ◌≡◌, Bool, false, List, [], ◌∷◌, ◌++◌, length, take}
+use Rattle.std.specs.Prelude.{ℕ, ◌≡◌, Bool, false, List, [], ◌∷◌, ◌++◌, length, take, Option, Some, None}
 use Rattle.model.specs.Choice.{if_lt}
 use Rattle.model.specs.Verdicts.{same}
 use Rattle.values.specs.Fields.{value_at}
-use Rattle.values.specs.declared.Field.TheVariants.{Value, Bad}
-use Rattle.lines.specs.declared.Line.{Line}
-use Rattle.lines.specs.declared.Line.TheVariants.{Next, Malformed}
 
 -- What stands at a place: values and the place behind them, or no such values.
 pub data ValueFound : Type 0 where
@@ -19,12 +16,12 @@ behind vs Broken = Broken
 -- A value for each of some ends.
 unfoldable pub line_at : List ℕ → List ℕ → ℕ → ValueFound
 line_at [] f at = Values [] at
-line_at (e ∷ es) f at = elim (value_at f e at) [ Value v next ↦ behind (v ∷ []) (line_at es f next) | Bad ↦ Broken ]
+line_at (e ∷ es) f at = elim (value_at f e at) [ Some v ↦ behind (v.0 ∷ []) (line_at es f v.1) | None ↦ Broken ]
 
 -- What a line's reader answers, and leaves in the row.
-unfoldable pub LineSays : ValueFound → Line → List ℕ → Type 0
-LineSays (Values vs next) l row = (l ≡ Next next) × (row ≡ vs)
-LineSays Broken l row = l ≡ Malformed
+unfoldable pub LineSays : ValueFound → Option ℕ → List ℕ → Type 0
+LineSays (Values vs next) l row = (l ≡ Some next) × (row ≡ vs)
+LineSays Broken l row = l ≡ None
 
 -- A text starts with a line of names.
 unfoldable pub starts_with : List ℕ → List ℕ → Bool

@@ -5,6 +5,8 @@ use native.Mathlib.Decide.{ℕ_discrete, dec_lt}
 use mathlib.Core.Path.{◌≡◌, refl, sym, ◌∙◌, ap}
 use mathlib.Core.List.{List, [], ◌++◌, append-nil}
 use lib.ListN.{length, get_or}
+use Rattle.std.specs.Prelude.{Some, None}
+use Rattle.std.proofs.lemmas.Option.{none-some, same_Some}
 use Rattle.model.specs.Limits.{max_joins, max_total}
 use Rattle.model.specs.Blocks.{Link, Block, block_at, joins_of, own_of, total, blocks_of}
 use Rattle.model.specs.Unfolding.{links}
@@ -88,12 +90,12 @@ module _ (q : Ask) (xs : List ℕ) (y : Inner) (w : ℕ) (may : MayEnter q xs y 
   abbrev part : Part
   part = record { of = use_at xs bs y.row; base = y.base }
 
-  door_shut : ((page : List ℕ) → Entered q xs y page w page w) → Door q xs y w max_joins
-  door_shut h = record { shut = λ e. h; within = λ n. absurd (n refl); meets = λ n. absurd (n refl) }
+  door_shut : ((page : List ℕ) → Entered q xs y page w page w) → Door q xs y w None
+  door_shut h = record { shut = λ e. h; within = λ i e. absurd (none-some i e); meets = λ i e. absurd (none-some i e) }
 
   door_nil : ((base : ℕ) (met : List ℕ) → Sound (copy_of bs y.block base met) → IsPart (copy_of bs y.block base met) part
       → wanted q (all-links (copy_of bs y.block base met)) (number (copy_of bs y.block base met) y.cue) y.base (total bs (used_by xs y)) ≡ [])
-      → Door q xs y w max_joins
+      → Door q xs y w None
   door_nil h =
       door_shut
       (λ page. record {
@@ -102,58 +104,54 @@ module _ (q : Ask) (xs : List ℕ) (y : Inner) (w : ℕ) (may : MayEnter q xs y 
         gives = λ base met sound here. gives_nil q.room page w _ (rw (links-at bs sound.good y.block base met) (h base met sound here)) may.bound;
       })
 
-  pub door_full : q.room < w → Door q xs y w max_joins
+  pub door_full : q.room < w → Door q xs y w None
   door_full h =
       door_shut (λ page. record { long = refl; bound = may.bound; gives = λ base met sound here. gives-full q.room page w _ h may.bound })
 
-  pub door_low : (size : ℕ) → size ≡ total bs (used_by xs y) → y.base + size ≤ q.after → Door q xs y w max_joins
+  pub door_low : (size : ℕ) → size ≡ total bs (used_by xs y) → y.base + size ≤ q.after → Door q xs y w None
   door_low size e h = door_nil (λ base met sound here. wanted-low q _ _ y.base _ (omega arith))
 
   module _ (m : List ℕ) (j joins i : ℕ) (o : UseRow xs y.block y.row) (e : j ≡ used_by xs y) (n : joins ≡ joins_of bs j) (few : joins ≤ max_joins)
       (p : IsJoinAt xs y.row joins y.cue i) where
-    pub door_apart : joins ≤ i → Door q xs y w max_joins
+    pub door_apart : joins ≤ i → Door q xs y w None
     door_apart h =
         door_nil
         (λ base met sound here. wanted-apart q bs m y.block base met sound part here y.cue
         (omega (arith, may.low, may.high, own_of_at bs y.block, joins_of-at bs y.block))
         (λ a l z. use_apart o e n p a h l z))
 
-    pub door_clear : RecordsReady q bs m y.block y.cue → i < joins → (get_or m (record_at j i + inside_at) 0 ≡ 1 → ⊥) → Door q xs y w max_joins
+    pub door_clear : RecordsReady q bs m y.block y.cue → i < joins → (get_or m (record_at j i + inside_at) 0 ≡ 1 → ⊥) → Door q xs y w None
     door_clear tab h f =
         door_nil
         (λ base met sound here. wanted-clear q bs m y.block base met sound part here y.cue i tab
         (omega (arith, use_arity o e n p))
         (use_meets o e n p h) (rw e at f))
 
-    pub door_open : i < joins → Door q xs y w i
+    pub door_open : i < joins → Door q xs y w (Some i)
     door_open h =
         record {
-          shut = λ z. absurd (omega arith);
-          within = λ z. omega (arith, use_many o e n p);
-          meets = λ z. p.found h;
+          shut = λ z. absurd (none-some i (sym z));
+          within = λ a z. let f : a ≡ i = same_Some a i (sym z) in rw f (omega (arith, use_many o e n p));
+          meets = λ a z. let f : a ≡ i = same_Some a i (sym z) in rw f (p.found h);
         }
 
 -- The copy of a use is not walked, or walked.
-pub entered-shut : (q : Ask) (xs : List ℕ) (y : Inner) (w i : ℕ) (page : List ℕ) → Door q xs y w i → i ≡ max_joins → Entered q xs y page w page w
-entered-shut q xs y w i page door e = door.shut e page
-
-module _ (q : Ask) {xs t : List ℕ} (g : Loaded xs t) (y : Inner) (w i : ℕ) (o : UseRow xs y.block y.row) (door : Door q xs y w i)
-    (open-door : i ≡ max_joins → ⊥) where
+module _ (q : Ask) {xs t : List ℕ} (g : Loaded xs t) (y : Inner) (w i : ℕ) (o : UseRow xs y.block y.row) (door : Door q xs y w (Some i)) where
   pub door_small : i < max_joins
-  door_small = omega (arith, door.within open-door, joins-small (used_by xs y) (loaded-show g).small)
+  door_small = omega (arith, door.within i refl, joins-small (used_by xs y) (loaded-show g).small)
 
   arity : i < length (use_at xs (blocks_of xs) y.row).at
-  arity = omega (arith, o.good.arity, door.within open-door)
+  arity = omega (arith, o.good.arity, door.within i refl)
 
   at-cue : get_or (use_at xs (blocks_of xs) y.row).at i 0 ≡ y.cue
-  at-cue = o.columns i (door.within open-door) ∙ door.meets open-door
+  at-cue = o.columns i (door.within i refl) ∙ door.meets i refl
 
   module _ (j own d : ℕ) (e : j ≡ used_by xs y) (n : own ≡ own_of (blocks_of xs) j) (cue : d ≡ own + 1 + i) where
     abbrev inside : Visit
     inside = record { block = j; base = y.base; cue = d }
 
     at_join : i < joins_of (blocks_of xs) j
-    at_join = rw e (door.within open-door)
+    at_join = rw e (door.within i refl)
 
     pub may_visit_enter : (page : List ℕ) (f : ℕ) → MayEnter q xs y w → q.room ≤ length page → f ≤ q.room + 1 → MayVisit q xs inside page f
     may_visit_enter page f may l b =

@@ -11,7 +11,7 @@ use mathlib.Core.List.Memᴰ
 use mathlib.Core.List.{List, [], ◌∷◌, ◌++◌, map, append-nil, Memᴰ}
 use lib.ListN.{length, take}
 use lib.Seq.{take_all}
-use lib.Dec.{eqb}
+use lib.Dec.{eqb, ltb}
 use borrow.Author.Tests.{lt-ltb, le-ltb}
 use Rattle.model.specs.Choice.{if_lt}
 use Rattle.model.specs.Limits.{max_label, max_total}
@@ -36,7 +36,7 @@ use Rattle.blocks.specs.Loaded.{Loaded}
 use Rattle.blocks.specs.Places.{Found}
 use Rattle.blocks.proofs.Loaded.{loaded-show}
 use Rattle.neighbours.specs.declared.Ask.{Ask}
-use Rattle.lists.specs.declared.Listed.{Listed}
+use Rattle.model.specs.declared.Listed.{Listed}
 use Rattle.neighbours.specs.Picks.{near_end, there, fits, picks, Picked, wants, wanted}
 use Rattle.lists.specs.Pages.{Filled, Gives}
 use Rattle.copies.specs.declared.Frame.{Frame}
@@ -266,7 +266,7 @@ module _ (room g : ℕ) (cues page after : List ℕ) (x : Gives room page 0 cues
   given_is : g ≡ if_lt room (length cues) (room + 1) (length cues)
   given_is = ap (λ (s : Filled). s.given) state
 
-  pub is_listed_more : room < g → IsListed cues page after (record { written = room; more = true })
+  is_listed_more : room < g → IsListed cues page after (record { written = room; more = true })
   is_listed_more h = go (dec_lt room (length cues))
     where
       go : Dec (room < length cues) → IsListed cues page after (record { written = room; more = true })
@@ -275,7 +275,7 @@ module _ (room g : ℕ) (cues page after : List ℕ) (x : Gives room page 0 cues
           record { written = omega arith; more = sym (lt-ltb (length page) (length cues) (omega arith)); filled = rw e at page-is }
       go (no l) = absurd (omega (arith, given_is, lt_else room (length cues) (room + 1) (length cues) (omega arith)))
 
-  pub is_listed_done : g ≤ room → IsListed cues page after (record { written = g; more = false })
+  is_listed_done : g ≤ room → IsListed cues page after (record { written = g; more = false })
   is_listed_done h = go (dec_lt room (length cues))
     where
       go : Dec (room < length cues) → IsListed cues page after (record { written = g; more = false })
@@ -287,6 +287,13 @@ module _ (room g : ℕ) (cues page after : List ℕ) (x : Gives room page 0 cues
             more = sym (le-ltb (length page) (length cues) (omega arith));
             filled = page-is ∙ ap (λ us. overwrite us page) (take_all room cues (omega arith) ∙ sym (take_all (length page) cues (omega arith)));
           }
+
+  pub is_listed : (w : ℕ) → w ≡ min g room → IsListed cues page after (record { written = w; more = ltb room g })
+  is_listed w e = go (dec_lt room g)
+    where
+      go : Dec (room < g) → IsListed cues page after (record { written = w; more = ltb room g })
+      go (yes h) = let i : w ≡ room = omega arith in rw (i, lt-ltb room g h) (is_listed_more h)
+      go (no n) = let i : w ≡ g = omega arith in rw (i, le-ltb room g (omega arith)) (is_listed_done (omega arith))
 
 -- What the question starts from, and what it comes to.
 module _ {xs t rows : List ℕ} (g : Loaded xs t) (place : Place) (found : Found xs t rows place) (z : Frame) (at : CopyAt xs t rows place.depth z)
@@ -324,11 +331,8 @@ module _ {xs t rows : List ℕ} (g : Loaded xs t) (place : Place) (found : Found
     unfolding count
     few = omega (arith, wanted-short q (show_links bs) place.cue (count bs), show.totals (last_block bs))
 
-    pub list_by_more : (room : ℕ) → room ≡ q.room → room < n → IsListed cues page after (record { written = room; more = true })
-    list_by_more room e h = rw e (is_listed_more q.room n cues page after given cap few (omega arith))
-
-    pub list_by_done : (room : ℕ) → room ≡ q.room → n ≤ room → IsListed cues page after (record { written = n; more = false })
-    list_by_done room e h = is_listed_done q.room n cues page after given cap few (omega arith)
+    pub listed_by : (w : ℕ) → w ≡ min n q.room → IsListed cues page after (record { written = w; more = ltb q.room n })
+    listed_by w e = is_listed q.room n cues page after given cap few w e
 
 -- The two questions: with all labels, and with some of them.
 pub is_listed_all : {xs t : List ℕ} (inward : Bool) (n room v : ℕ) (page after : List ℕ) (r : Listed) → Loaded xs t

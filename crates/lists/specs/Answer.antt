@@ -7,14 +7,10 @@ use Rattle.model.specs.Lists.{cues_after, is_out, is_into, overwrite}
 use Rattle.shows.specs.Copies.{number, Sound, Low}
 use Rattle.neighbours.specs.declared.Ask.{Ask}
 use Rattle.copies.specs.declared.Frame.{Frame}
-use Rattle.lists.specs.declared.Listed.{Listed}
+use Rattle.model.specs.declared.Listed.{Listed}
 use Rattle.neighbours.specs.Picks.{wanted}
 use Rattle.lists.specs.Pages.{HasRoom, Gives}
 use Rattle.copies.specs.Copies.{framed, links_of, IsCopy}
-
--- The blocks for which a short table is enough.
-abbrev pub low_blocks : ℕ
-low_blocks = 32
 
 -- "List out, or in, of cue v after n".
 unfoldable pub linked_cues : Bool → List Block → ℕ → ℕ → List ℕ

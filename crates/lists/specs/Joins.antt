@@ -1,14 +1,20 @@
 -- The linked cues that the joins of a copy meet, in rising order.
-use Rattle.std.specs.Prelude.{ℕ, ◌+◌, ◌-◌, ◌≤◌, ◌<◌, ◌≡◌, List, ◌++◌, length, get_or}
+use Rattle.std.specs.Prelude.{ℕ, ◌+◌, ◌-◌, ◌≤◌, ◌<◌, ◌≡◌, min, List, ◌++◌, length, get_or, None, Some as Just}
+use Rattle.std.specs.declared.option.Option.{Option}
 use Rattle.model.specs.Choice.{if_lt, if_eq}
 use Rattle.model.specs.Blocks.{Link}
 use Rattle.neighbours.specs.declared.Ask.{Ask}
 use Rattle.neighbours.specs.Picks.{Picked, wanted}
 use Rattle.lists.specs.Pages.{Gives}
 
--- The lesser of x and y, where y counts only if it is marked and above last, and x is 0 for none.
-unfoldable pub lesser : ℕ → ℕ → ℕ → ℕ → ℕ
-lesser flag y last x = if_eq flag 1 (if_lt last y (if_eq x 0 y (if_lt y x y x)) x) x
+-- The lesser of x and y, or y where there is no x.
+unfoldable pub least : ℕ → Option ℕ → ℕ
+least y None = y
+least y (Just x) = min x y
+
+-- The same, where y counts only if it is marked and above last.
+unfoldable pub lesser : ℕ → ℕ → ℕ → Option ℕ → Option ℕ
+lesser flag y last x = if_eq flag 1 (if_lt last y (Just (least y x)) x) x
 
 -- Join j is marked and meets u.
 pub record Met (s : List ℕ) (joins : ℕ) (met : List ℕ) (u : ℕ) : Type 0 where
@@ -17,12 +23,12 @@ pub record Met (s : List ℕ) (joins : ℕ) (met : List ℕ) (u : ℕ) : Type 0 
   pub flag : get_or s j 0 ≡ 1
   pub meets : get_or met j 0 ≡ u
 
--- x is the least cue above last that a marked join meets, or 0 if there is none.
-pub record Next (s : List ℕ) (joins : ℕ) (met : List ℕ) (last x : ℕ) : Type 0 where
-  pub none : x ≡ 0 → (u : ℕ) → Met s joins met u → u ≤ last
-  pub above : (x ≡ 0 → ⊥) → last < x
-  pub found : (x ≡ 0 → ⊥) → Met s joins met x
-  pub least : (x ≡ 0 → ⊥) → (u : ℕ) → Met s joins met u → last < u → x ≤ u
+-- x is the least cue above last that a marked join meets, if there is one.
+pub record Next (s : List ℕ) (joins : ℕ) (met : List ℕ) (last : ℕ) (x : Option ℕ) : Type 0 where
+  pub none : x ≡ None → (u : ℕ) → Met s joins met u → u ≤ last
+  pub above : (c : ℕ) → x ≡ Just c → last < c
+  pub found : (c : ℕ) → x ≡ Just c → Met s joins met c
+  pub least : (c : ℕ) → x ≡ Just c → (u : ℕ) → Met s joins met u → last < u → c ≤ u
 
 -- The marked joins meet just those cues up to base that the links E join to v.
 pub record MeetsJust (q : Ask) (E : List Link) (v base : ℕ) (s : List ℕ) (joins : ℕ) (met : List ℕ) : Type 0 where

@@ -1,7 +1,8 @@
 -- What the walk of a copy gives to the page.
-use Rattle.std.specs.Prelude.{ℕ, zero, suc, ◌+◌, ◌-◌, ◌≤◌, ◌<◌, ◌≡◌, List, [], ◌∷◌, ◌++◌, length}
+use Rattle.std.specs.Prelude.{ℕ, zero, suc, ◌+◌, ◌-◌, ◌≤◌, ◌<◌, ◌≡◌, List, [], ◌∷◌, ◌++◌, length, Some, None}
+use Rattle.std.specs.declared.option.Option.{Option}
 use Rattle.model.specs.Choice.{if_lt, if_eq}
-use Rattle.model.specs.Limits.{max_joins, max_total}
+use Rattle.model.specs.Limits.{max_total}
 use Rattle.model.specs.Blocks.{joins_of, own_of, total, blocks_of}
 use Rattle.model.specs.Unfolding.{links}
 use Rattle.shows.specs.Copies.{number, copy_of, Sound, IsPart}
@@ -69,12 +70,11 @@ pub record Entered (q : Ask) (xs : List ℕ) (y : Inner) (page : List ℕ) (w : 
       → IsPart (copy_of (blocks_of xs) y.block base met) (record { of = use_at xs (blocks_of xs) y.row; base = y.base })
       → Gives q.room page w (copy_list q xs y.block base met y.cue y.base (total (blocks_of xs) (used_by xs y))) after g
 
--- The join i of the used block from which the walk goes on in the copy of a use: 8 where there is
--- nothing to give.
-pub record Door (q : Ask) (xs : List ℕ) (y : Inner) (w i : ℕ) : Type 0 where
-  pub shut : i ≡ max_joins → (page : List ℕ) → Entered q xs y page w page w
-  pub within : (i ≡ max_joins → ⊥) → i < joins_of (blocks_of xs) (used_by xs y)
-  pub meets : (i ≡ max_joins → ⊥) → column_at xs y.row i ≡ y.cue
+-- The join of the used block from which the walk goes on in the copy of a use: none where there is nothing to give.
+pub record Door (q : Ask) (xs : List ℕ) (y : Inner) (w : ℕ) (r : Option ℕ) : Type 0 where
+  pub shut : r ≡ None → (page : List ℕ) → Entered q xs y page w page w
+  pub within : (i : ℕ) → r ≡ Some i → i < joins_of (blocks_of xs) (used_by xs y)
+  pub meets : (i : ℕ) → r ≡ Some i → column_at xs y.row i ≡ y.cue
 
 -- Where the walk of the uses of a copy has come to: those before row r are done, and the copy of
 -- row r begins after b.

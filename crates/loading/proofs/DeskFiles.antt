@@ -6,6 +6,7 @@ use mathlib.Core.Bool.{Bool, true, false}
 use mathlib.Core.List.{List, [], ◌++◌, append-nil}
 use lib.ListN.{length, take, drop, length-drop, drop_of_length-le}
 use lib.Seq.{take_all, take-append-add, drop_at, length-take-le}
+use Rattle.std.specs.Prelude.{Err}
 use Rattle.model.specs.Choice.{if_lt}
 use Rattle.model.specs.Limits.{row_size, max_rows, desk_rows}
 use Rattle.model.specs.Rows.{row_count}
@@ -14,13 +15,10 @@ use Rattle.model.specs.Desk.{built_in_numbers, with_desk, desk_verdict, by_own_l
 use Rattle.model.specs.declared.Refusal.{Refusal}
 use Rattle.shows.proofs.DeskTable.{desk_size, with_length}
 use Rattle.codec.specs.Parsing.{Parses}
-use Rattle.codec.specs.declared.Parsed.{Parsed}
-use Rattle.codec.specs.declared.Parsed.TheVariants.{Rows, Refused as Unparsed}
+use Rattle.std.proofs.Common.{Result, Ok, Err}
 use Rattle.desk.specs.Own.{own_rows_fit, own_numbers}
 use Rattle.desk.proofs.Own.{fits-few, own-yes, own-no}
-use Rattle.loading.specs.Loads.{Loads, BehindTable}
-use Rattle.loading.specs.declared.Loading.{Loading}
-use Rattle.loading.specs.declared.Loading.TheVariants.{Refused as Unloaded}
+use Rattle.loading.specs.Loads.{Loads, BehindTable, Loading}
 use Rattle.loading.proofs.Files.{ParsedRows, rows-stored, loaded-first, unread, parsed_rows}
 
 -- The numbers behind the table.
@@ -29,7 +27,7 @@ unfolding own_numbers with_desk
 own_behind xs = drop_at built_in_numbers xs (desk_rows * row_size) desk_size
 
 -- The part behind the table's place is lent, and comes back as ys.
-pub own-part : (f g ys : List ℕ) (p : Parsed) (n : ℕ) → Parses (read_file f) p (take n (drop (desk_rows * row_size) g)) ys → n ≡ length g - desk_rows * row_size
+pub own-part : (f g ys : List ℕ) (p : Result ℕ Refusal) (n : ℕ) → Parses (read_file f) p (take n (drop (desk_rows * row_size) g)) ys → n ≡ length g - desk_rows * row_size
     → desk_rows * row_size ≤ length g
     → Parses (read_file f) p (own_numbers g) (own_numbers (take (desk_rows * row_size) g ++ (ys ++ drop n (drop (desk_rows * row_size) g))))
 unfolding own_numbers
@@ -42,18 +40,18 @@ own-part f g ys p n w e h =
     rw (none, back) (rw all at w)
 
 -- The own numbers of g were lent, and are those of ys afterwards.
-module _ (f g ys : List ℕ) (p : Parsed) (P : Parses (read_file f) p (own_numbers g) (own_numbers ys)) where
-  pub desk_unread : (zs t : List ℕ) (r : Refusal) → p ≡ Unparsed r → Loads (desk_file_verdict f) (with_desk (numbers_of (read_file f))) (Unloaded r) zs t
+module _ (f g ys : List ℕ) (p : Result ℕ Refusal) (P : Parses (read_file f) p (own_numbers g) (own_numbers ys)) where
+  pub desk_unread : (zs t : List ℕ) (r : Refusal) → p ≡ Err r → Loads (desk_file_verdict f) (with_desk (numbers_of (read_file f))) (Err r) zs t
   unfolding Loads desk_file_verdict desk_read_verdict
   desk_unread zs t r e = rw (unread f (own_numbers g) (own_numbers ys) p P r e)
 
   -- n rows were parsed; b is the test of their number.
-  module _ (n : ℕ) (e : p ≡ Rows n) (b : Bool) (q : b ≡ own_rows_fit n) where
+  module _ (n : ℕ) (e : p ≡ Ok n) (b : Bool) (q : b ≡ own_rows_fit n) where
     parsed : ParsedRows f (own_numbers g) (own_numbers ys) n
     parsed = parsed_rows f (own_numbers g) (own_numbers ys) p P n e
 
     -- Too few or too many.
-    pub desk_unfit : (zs t : List ℕ) (r : Loading) → b ≡ false → r ≡ Unloaded (record { number = 4; place = 0 })
+    pub desk_unfit : (zs t : List ℕ) (r : Loading) → b ≡ false → r ≡ Err (record { number = 4; place = 0 })
         → Loads (desk_file_verdict f) (with_desk (numbers_of (read_file f))) r zs t
     unfolding Loads desk_file_verdict desk_read_verdict desk_verdict and_then refused in_own_lines by_own_line refusal if_lt
     desk_unfit zs t r k z = rw (z, parsed.reads, own-no parsed.xs n parsed.many (sym q ∙ k))

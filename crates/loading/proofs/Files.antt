@@ -5,36 +5,18 @@ use mathlib.Core.Path.{◌≡◌, refl, sym, ◌∙◌, ap}
 use mathlib.Core.List.{List}
 use lib.ListN.{length, take, drop}
 use lib.Seq.{take_all, take_at}
+use Rattle.std.specs.Prelude.{Ok, Err}
 use Rattle.model.specs.Choice.{if_lt}
 use Rattle.model.specs.Limits.{row_size, max_rows}
 use Rattle.model.specs.Rows.{row_count}
 use Rattle.model.specs.Lists.{overwrite}
-use Rattle.model.specs.Verdicts.{
-  refusal,
-  refused,
-  and_then,
-  check_length,
-  verdict,
-  Reading,
-  Numbers,
-  Unread,
-  read_file,
-  by_line,
-  in_lines,
-  numbers_of,
-  read_verdict,
-  file_verdict,
-}
+use Rattle.model.specs.Verdicts.{refusal, refused, and_then, check_length, verdict, Reading, Numbers, Unread, read_file, by_line, in_lines, numbers_of, read_verdict, file_verdict, Verdict}
 use Rattle.model.specs.declared.Refusal.{Refusal}
-use Rattle.model.specs.declared.Verdict.{Verdict}
 use Rattle.basics.proofs.Choices.{lt_then, lt_else, eq_then}
 use Rattle.shows.proofs.Files.{read_whole}
 use Rattle.codec.specs.Parsing.{filled, Parses}
-use Rattle.codec.specs.declared.Parsed.{Parsed}
-use Rattle.codec.specs.declared.Parsed.TheVariants.{Rows, Refused as Unparsed}
-use Rattle.loading.specs.Loads.{Loads}
-use Rattle.loading.specs.declared.Loading.{Loading}
-use Rattle.loading.specs.declared.Loading.TheVariants.{Ready, Refused as Unloaded}
+use Rattle.std.proofs.Common.{Result, Ok, Err}
+use Rattle.loading.specs.Loads.{Loads, Loading}
 
 -- The rows of a file were parsed.
 pub record ParsedRows (f lent ys : List ℕ) (n : ℕ) : Type 0 where
@@ -55,11 +37,11 @@ rows-stored f lent ys n r h =
 -- Rows that were loaded where they stand by themselves are loaded where they stand first.
 pub loaded-first : (v : Verdict) (xs ys t : List ℕ) (r : Loading) → take (length xs) ys ≡ xs → Loads v xs r xs t → Loads v xs r ys t
 unfolding Loads
-loaded-first v xs ys t (Ready n) e l = record { accepted = l.accepted; size = l.size; first = e; loaded = l.loaded }
-loaded-first v xs ys t (Unloaded f) e l = l
+loaded-first v xs ys t (Ok n) e l = record { accepted = l.accepted; size = l.size; first = e; loaded = l.loaded }
+loaded-first v xs ys t (Err f) e l = l
 
-module _ (f lent ys : List ℕ) (p : Parsed) (P : Parses (read_file f) p lent ys) where
-  pub unread : (r : Refusal) → p ≡ Unparsed r → read_file f ≡ Unread r
+module _ (f lent ys : List ℕ) (p : Result ℕ Refusal) (P : Parses (read_file f) p lent ys) where
+  pub unread : (r : Refusal) → p ≡ Err r → read_file f ≡ Unread r
   unfolding Parses
   unread r e = go (read_file f) P
     where
@@ -67,7 +49,7 @@ module _ (f lent ys : List ℕ) (p : Parsed) (P : Parses (read_file f) p lent ys
       go (Numbers xs) P = absurd (let z : ◌≡◌ {A = ℕ} 0 1 = cc (sym e ∙ P.0) in omega arith)
       go (Unread s) P = let same : s ≡ r = cc (sym P ∙ e) in ap Unread same
 
-  pub parsed_rows : (n : ℕ) → p ≡ Rows n → ParsedRows f lent ys n
+  pub parsed_rows : (n : ℕ) → p ≡ Ok n → ParsedRows f lent ys n
   unfolding Parses
   parsed_rows n e = go (read_file f) refl P
     where
@@ -77,11 +59,11 @@ module _ (f lent ys : List ℕ) (p : Parsed) (P : Parses (read_file f) p lent ys
 
   -- The first way: refused by a line, too many rows, and rows that were loaded as the code lends them.
   module _ (t : List ℕ) where
-    pub file-unread : (r : Refusal) → p ≡ Unparsed r → Loads (file_verdict f) (numbers_of (read_file f)) (Unloaded r) ys t
+    pub file-unread : (r : Refusal) → p ≡ Err r → Loads (file_verdict f) (numbers_of (read_file f)) (Err r) ys t
     unfolding Loads file_verdict read_verdict
     file-unread r e = rw (unread r e)
 
-    pub file-many : (n : ℕ) (r : Loading) → p ≡ Rows n → max_rows < n → r ≡ Unloaded (record { number = 4; place = 0 })
+    pub file-many : (n : ℕ) (r : Loading) → p ≡ Ok n → max_rows < n → r ≡ Err (record { number = 4; place = 0 })
         → Loads (file_verdict f) (numbers_of (read_file f)) r ys t
     unfolding Loads file_verdict read_verdict verdict check_length and_then in_lines refused by_line refusal if_lt
     file-many n r e h q =
@@ -94,7 +76,7 @@ module _ (f lent ys : List ℕ) (p : Parsed) (P : Parses (read_file f) p lent ys
           lt_then max_rows (row_count k.xs) _ _ (omega (arith, k.many)),
         )
 
-    pub file-loaded : (n : ℕ) (r : Loading) → p ≡ Rows n → n ≤ max_rows → max_rows * row_size ≤ length lent
+    pub file-loaded : (n : ℕ) (r : Loading) → p ≡ Ok n → n ≤ max_rows → max_rows * row_size ≤ length lent
         → Loads (in_lines (verdict (take (n * row_size - 0) (drop 0 ys)))) (take (n * row_size - 0) (drop 0 ys)) r (take (n * row_size - 0) (drop 0 ys)) t
         → Loads (file_verdict f) (numbers_of (read_file f)) r ys t
     unfolding file_verdict read_verdict numbers_of row_count

@@ -4,18 +4,17 @@ use native.Mathlib.Omega.{arith}
 use mathlib.Core.Path.{◌≡◌, sym, ◌∙◌, ap}
 use mathlib.Core.List.{List}
 use lib.ListN.{length, take, drop, length-take}
+use Rattle.std.specs.Prelude.{Ok, Err}
+use Rattle.model.specs.Verdicts.{Verdict}
 use Rattle.model.specs.Questions.{on_accepted}
 use Rattle.model.specs.declared.Refusal.{Refusal}
-use Rattle.model.specs.declared.Verdict.{Verdict}
 use Rattle.shows.proofs.Outcomes.{on-yes, on-no}
 use Rattle.blocks.specs.Loaded.{Loaded}
-use Rattle.loading.specs.Loads.{HasLoaded, Loads}
-use Rattle.loading.specs.declared.Loading.{Loading}
-use Rattle.loading.specs.declared.Loading.TheVariants.{Ready, Refused as Unloaded}
+use Rattle.loading.specs.Loads.{HasLoaded, Loads, Loading}
 
 module _ (v : Verdict) (xs ys t : List ℕ) (r : Loading) (l : Loads v xs r ys t) where
   -- Its n numbers, as the code lends them.
-  module _ (n : ℕ) (e : r ≡ Ready n) where
+  module _ (n : ℕ) (e : r ≡ Ok n) where
     rows_are : HasLoaded v xs n ys t
     unfolding Loads
     rows_are = rw e at l
@@ -36,6 +35,6 @@ module _ (v : Verdict) (xs ys t : List ℕ) (r : Loading) (l : Loads v xs r ys t
     loaded-yes refuse answer o h = h ∙ ap answer part-is ∙ sym (on-yes v refuse (answer xs) rows_are.accepted)
 
   -- A refusal is the file's.
-  pub loaded-no : {A : Type 0} (refuse : Refusal → A) (answer o : A) (f : Refusal) → r ≡ Unloaded f → o ≡ refuse f → o ≡ on_accepted v refuse answer
+  pub loaded-no : {A : Type 0} (refuse : Refusal → A) (answer o : A) (f : Refusal) → r ≡ Err f → o ≡ refuse f → o ≡ on_accepted v refuse answer
   unfolding Loads
   loaded-no refuse answer o f e h = h ∙ sym (on-no v refuse answer f (rw e at l))

@@ -1,17 +1,8 @@
 -- The promises of the entry points: from what is lent and asked, the answer r and what the lent list holds afterwards, refused calls included. Each
 -- function of crates/show/src ensures the one that has its name, and the demands (crates/demands/specs) are stated of it: promise and premise are one text.
 use Rattle.std.specs.Prelude.{ℕ, ◌≡◌, List}
-use Rattle.model.specs.Answers.{of_read, of_write, of_count, of_locate, of_number, of_list, of_row, of_fewest, of_quickest}
+use Rattle.model.specs.Answers.{of_read, of_write, of_count, of_locate, of_number, of_list, of_row, of_fewest, of_quickest, WriteAnswer, CountAnswer, NumberAnswer, ReadAnswer, LocateAnswer, ListAnswer, RowAnswer, FewestAnswer, QuickestAnswer}
 use Rattle.model.specs.Questions.{outcome, read_asked, desk_read_asked, write_asked, count_asked, locate_asked, number_asked, out_asked, in_asked, row_asked, fewest_asked, quickest_asked}
-use Rattle.model.specs.declared.ReadAnswer.{ReadAnswer}
-use Rattle.model.specs.declared.WriteAnswer.{WriteAnswer}
-use Rattle.model.specs.declared.CountAnswer.{CountAnswer}
-use Rattle.model.specs.declared.LocateAnswer.{LocateAnswer}
-use Rattle.model.specs.declared.NumberAnswer.{NumberAnswer}
-use Rattle.model.specs.declared.ListAnswer.{ListAnswer}
-use Rattle.model.specs.declared.RowAnswer.{RowAnswer}
-use Rattle.model.specs.declared.FewestAnswer.{FewestAnswer}
-use Rattle.model.specs.declared.QuickestAnswer.{QuickestAnswer}
 
 -- read: a file, and the lent output before and afterwards; read_desk, the second way, asks the same; write: rows, and the same.
 abbrev pub AsksRead : List ℕ → List ℕ → ReadAnswer → List ℕ → Type 0

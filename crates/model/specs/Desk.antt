@@ -1,14 +1,12 @@
 -- The blocks that come with the desk, and the second way of reading. Document 02, Paper 4.
-use Rattle.std.specs.Prelude.{ℕ, ◌+◌, ◌-◌}
+use Rattle.std.specs.Prelude.{ℕ, ◌+◌, ◌-◌, Ok, Err}
 use mathlib.Core.List.{List, [], ◌∷◌, ◌++◌, map, flat_map}
 use Rattle.model.specs.Choice.{if_lt, if_eq}
 use Rattle.model.specs.Limits.{max_rows, desk_rows, desk_blocks}
 use Rattle.model.specs.Rows.{Row, row_at, row_count, row_values}
 use Rattle.model.specs.Lists.{range}
-use Rattle.model.specs.Verdicts.{refusal, refused, and_then, verdict, Reading, Numbers, Unread, read_file}
+use Rattle.model.specs.Verdicts.{refusal, refused, and_then, verdict, Reading, Numbers, Unread, read_file, Verdict, Accepted}
 use Rattle.model.specs.declared.Refusal.{Refusal}
-use Rattle.model.specs.declared.Verdict.{Verdict}
-use Rattle.model.specs.declared.Verdict.TheVariants.{Accepted, Refused}
 
 -- The table.
 
@@ -58,13 +56,13 @@ unfoldable pub by_own_line : Refusal → Refusal
 by_own_line r = if_lt r.number 5 r (refusal r.number (r.place + 1 - desk_rows))
 
 unfoldable pub in_own_lines : Verdict → Verdict
-in_own_lines Accepted = Accepted
-in_own_lines (Refused r) = Refused (by_own_line r)
+in_own_lines (Ok _) = Accepted
+in_own_lines (Err r) = Err (by_own_line r)
 
 -- Refusals 1 to 10 of a file that is read the second way.
 unfoldable pub desk_read_verdict : Reading → Verdict
 desk_read_verdict (Numbers xs) = in_own_lines (desk_verdict xs)
-desk_read_verdict (Unread r) = Refused r
+desk_read_verdict (Unread r) = Err r
 
 unfoldable pub desk_file_verdict : List ℕ → Verdict
 desk_file_verdict f = desk_read_verdict (read_file f)

@@ -4,6 +4,7 @@
 -- Quotations in comments are from document 01, unless 02 is named.
 pub mod Choice
 pub mod Limits
+pub mod Reasons
 pub mod Values
 pub mod Text
 pub mod Rows

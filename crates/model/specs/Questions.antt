@@ -1,13 +1,13 @@
 -- The questions. For each, from what is lent: what is returned, and what the lent list that it writes holds afterwards, refused calls
 -- included. Document 01, "Questions" and "Refusals by number". An entry point's promise is an equation with the definition here; what
 -- its answer says in 01's numbers stands in Answers.antt. Whatever a question is lent only to read stays as it was.
-use Rattle.std.specs.Prelude.{ℕ, min, Bool, List, [], ◌∷◌, length, take, replicate, ltb}
+use Rattle.std.specs.Prelude.{ℕ, min, Bool, List, [], ◌∷◌, length, take, replicate, ltb, Ok, Err}
 use Rattle.model.specs.Choice.{if_lt, if_eq, if_true}
 use Rattle.model.specs.Limits.{max_depth, work_size}
 use Rattle.model.specs.Rows.{row_count, rows_of, file_text}
 use Rattle.model.specs.Rules.{is_cue}
 use Rattle.model.specs.Blocks.{Block, blocks_of, last_block, count}
-use Rattle.model.specs.Verdicts.{refusal, verdict, read_file, numbers_of, file_verdict}
+use Rattle.model.specs.Verdicts.{refusal, verdict, read_file, numbers_of, file_verdict, Verdict}
 use Rattle.model.specs.Desk.{with_desk, desk_file_verdict}
 use Rattle.model.specs.Unfolding.{show_links}
 use Rattle.model.specs.Paths.{Place, number_in, place_in}
@@ -19,8 +19,6 @@ use Rattle.model.specs.Waits.{WaitFile, WaitTable, Unfit, wait_file}
 use Rattle.model.specs.Quickest.{quickest}
 use Rattle.model.specs.Answers.{Returned, returned, given, flag, halves}
 use Rattle.model.specs.declared.Refusal.{Refusal}
-use Rattle.model.specs.declared.Verdict.{Verdict}
-use Rattle.model.specs.declared.Verdict.TheVariants.{Accepted, Refused}
 
 -- What is returned, and the final contents of the lent list that the question writes.
 pub record Outcome : Type 0 where
@@ -40,8 +38,8 @@ answer values after = record { answer = given values; after = after }
 
 -- "Each but reading takes lent rows and checks them before it answers."
 unfoldable pub on_accepted : {A : Type 0} → Verdict → (Refusal → A) → A → A
-on_accepted Accepted refuse answer = answer
-on_accepted (Refused r) refuse answer = refuse r
+on_accepted (Ok _) refuse answer = answer
+on_accepted (Err r) refuse answer = refuse r
 
 -- 11: "lent output, path list or work area too short".
 unfoldable pub with_room : ℕ → List ℕ → Outcome → Outcome

@@ -1,5 +1,5 @@
 -- The verdict on rows and on files: refusals 1 to 10 with their places. Document 01, "Refusals by number".
-use Rattle.std.specs.Prelude.{ℕ, zero, suc, ◌+◌, ◌%◌, Bool, true, false, List, [], ◌∷◌, ◌++◌, length}
+use Rattle.std.specs.Prelude.{ℕ, zero, suc, ◌+◌, ◌%◌, Bool, true, false, List, [], ◌∷◌, ◌++◌, length, Result, Ok, Err}
 use Rattle.model.specs.Choice.{if_lt, if_eq, if_true}
 use Rattle.model.specs.Limits.{row_size, max_rows, max_bytes, max_total}
 use Rattle.model.specs.Text.{names, ends, Values, Malformed, values_of, lines_of}
@@ -7,19 +7,24 @@ use Rattle.model.specs.Rows.{Row, row_count, rows_of}
 use Rattle.model.specs.Rules.{Seen, start, fault, after}
 use Rattle.model.specs.Blocks.{Block, joins_of, own_of, total, blocks_of}
 use Rattle.model.specs.declared.Refusal.{Refusal}
-use Rattle.model.specs.declared.Verdict.{Verdict}
-use Rattle.model.specs.declared.Verdict.TheVariants.{Accepted, Refused}
+
+-- What is said of rows or of a file before anything is answered.
+abbrev pub Verdict : Type 0
+Verdict = Result (Unit {0}) Refusal
+
+abbrev pub Accepted : Verdict
+Accepted = Ok tt
 
 unfoldable pub refusal : ℕ → ℕ → Refusal
 refusal number place = record { number = number; place = place }
 
 unfoldable pub refused : ℕ → ℕ → Verdict
-refused number place = Refused (refusal number place)
+refused number place = Err (refusal number place)
 
 -- "Checks run in this order": the second check counts where the first passes.
 unfoldable pub and_then : Verdict → Verdict → Verdict
-and_then Accepted v = v
-and_then (Refused r) v = Refused r
+and_then (Ok _) v = v
+and_then (Err r) v = Err r
 
 -- 4: "no rows, over 1,024 rows, or lent rows not a multiple of 11 long".
 unfoldable pub check_length : List ℕ → Verdict
@@ -97,8 +102,8 @@ unfoldable pub by_line : Refusal → Refusal
 by_line r = if_lt r.number 5 r (refusal r.number (r.place + 1))
 
 unfoldable pub in_lines : Verdict → Verdict
-in_lines Accepted = Accepted
-in_lines (Refused r) = Refused (by_line r)
+in_lines (Ok _) = Accepted
+in_lines (Err r) = Err (by_line r)
 
 -- The numbers that were read.
 unfoldable pub numbers_of : Reading → List ℕ
@@ -108,7 +113,7 @@ numbers_of (Unread r) = []
 -- Refusals 1 to 10 of a file.
 unfoldable pub read_verdict : Reading → Verdict
 read_verdict (Numbers xs) = in_lines (verdict xs)
-read_verdict (Unread r) = Refused r
+read_verdict (Unread r) = Err r
 
 unfoldable pub file_verdict : List ℕ → Verdict
 file_verdict f = read_verdict (read_file f)

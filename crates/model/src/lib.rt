@@ -1,84 +1,113 @@
-// What the questions answer. Only types: their meaning stands in specs/, beginning with Answers.antt. And the limits, as numbers.
+// What the questions answer: each a `Result` with a refusal, or with one of these structs where the answer is several numbers. Only types: their meaning
+// stands in specs/, beginning with Answers.antt. And the limits, as numbers.
 #![tactic(auto)]
 
-pub mod limits;
+ghost use Rattle.std.specs.Prelude.{◌≡◌};
+ghost use Rattle.std.proofs.Common.{ap};
+ghost use Rattle.model.specs.Reasons.{Numbered, number_of, reason_of, reason_again};
 
-// A refusal by number, with its place: a line of the file, a row of the lent rows, or 0.
-#[derive(Drop)]
+pub use reason::Reason;
+use std::marker::Model;
+
+pub mod limits;
+mod reason;
+
+// A refusal: its reason, and its place, a line of the file, a row of the lent rows, or 0. Contracts see it as the two numbers of the papers.
+#[derive(Clone, Copy, PartialEq, Eq, Debug)]
 pub struct Refusal {
-    pub number: u32,
+    pub reason: Reason,
     pub place: u32,
 }
 
-// What is said of rows or of a file before anything is answered.
-#[derive(Drop)]
-pub enum Verdict {
-    Accepted,
-    Refused(Refusal),
+impl Model for Refusal {
+    ghost Value = { Numbered };
+
+    ghost view = { λ r. record { number = number_of r.reason; place = r.place } };
+
+    ghost inverse = { λ v. record { reason = reason_of v.number; place = v.place } };
+
+    ghost inverse_ok = { λ r _. ap (λ x. record { reason = x; place = r.place }) (reason_again r.reason) };
 }
 
-// Reading a file: how many rows it has, how many blocks they open, and the count of cues.
-#[derive(Drop)]
-pub enum ReadAnswer {
-    Read(u32, u32, u32),
-    Refused(Refusal),
+impl Refusal {
+    pub fn new(reason: Reason, place: u32) -> Refusal
+        ensures { result ≡ record { number = number_of reason; place = place } }
+    {
+        Refusal { reason, place }
+    }
+
+    pub fn number(&self) -> u32
+        ensures { result ≡ self.now.number }
+    {
+        self.reason as u32
+    }
 }
 
-// Writing rows: the length of the file in bytes.
-#[derive(Drop)]
-pub enum WriteAnswer {
-    Written(u32),
-    Refused(Refusal),
+// A refusal whose place may be a line of a wait file, which has any number of lines.
+// Kept: a type of its own beside `Refusal`, since one generic in the place's type would be no plainer: each contract that names a place would first have to
+// say which number a value of that type is.
+#[derive(Clone, Copy, PartialEq, Eq, Debug)]
+pub struct LineRefusal {
+    pub reason: Reason,
+    pub place: u64,
 }
 
-// The count of cues.
-#[derive(Drop)]
-pub enum CountAnswer {
-    Cues(u32),
-    Refused(Refusal),
+impl Model for LineRefusal {
+    ghost Value = { Numbered };
+
+    ghost view = { λ r. record { number = number_of r.reason; place = r.place } };
+
+    ghost inverse = { λ v. record { reason = reason_of v.number; place = v.place } };
+
+    ghost inverse_ok = { λ r _. ap (λ x. record { reason = x; place = r.place }) (reason_again r.reason) };
 }
 
-// Locating a number: the depth of its path, the block and the own cue.
-#[derive(Drop)]
-pub enum LocateAnswer {
-    Found(u32, u32, u32),
-    Refused(Refusal),
+impl LineRefusal {
+    pub fn number(&self) -> u32
+        ensures { result ≡ self.now.number }
+    {
+        self.reason as u32
+    }
 }
 
-// The number of a path and an own cue.
-#[derive(Drop)]
-pub enum NumberAnswer {
-    Number(u32),
-    Refused(Refusal),
+impl From<Refusal> for LineRefusal {
+    ghost from_gives = { λ r e. e ≡ r };
+
+    fn from(refusal: Refusal) -> LineRefusal {
+        LineRefusal {
+            reason: refusal.reason,
+            place: u64::from(refusal.place),
+        }
+    }
 }
 
-// Linked cues: how many were written to the page, and whether there are more.
-#[derive(Drop)]
-pub enum ListAnswer {
-    Page(u32, bool),
-    Refused(Refusal),
+// What reading a file gives: how many rows it has, how many blocks they open, and the count of cues.
+#[derive(Clone, Copy, PartialEq, Eq, Debug)]
+pub struct ShowSize {
+    pub rows: u32,
+    pub blocks: u32,
+    pub cues: u32,
+}
+
+// What locating a number gives: the depth of its path, the block and the own cue.
+#[derive(Clone, Copy, PartialEq, Eq, Debug)]
+pub struct CuePlace {
+    pub depth: u32,
+    pub block: u32,
+    pub own: u32,
+}
+
+// What a list of linked cues gives: how many were written to the page, and whether there are more.
+// Kept: a flag beside the number, for the C interface gives the two so (`show_list_out`), and a page may be full with nothing left.
+#[derive(Clone, Copy, PartialEq, Eq, Debug)]
+pub struct Listed {
+    pub written: u32,
+    pub more: bool,
 }
 
 // The row behind a follow-on: the number of a link row, and the depth of the copy that it stands in.
-#[derive(Drop)]
-pub enum RowAnswer {
-    Row(u32, u32),
-    Refused(Refusal),
-}
-
-// The fewest follow-ons from one cue to another, or none.
-#[derive(Drop)]
-pub enum FewestAnswer {
-    Steps(u32),
-    None,
-    Refused(Refusal),
-}
-
-// The quickest way from one cue to another: the sum of its waits in tenths of a second, or none. A refusal is a number and a place as everywhere, the place
-// in 64 bits: it may be a line of the wait file, which has any number of lines.
-#[derive(Drop)]
-pub enum QuickestAnswer {
-    Tenths(u64),
-    None,
-    Refused(u32, u64),
+#[derive(Clone, Copy, PartialEq, Eq, Debug)]
+pub struct FoundRow {
+    pub row: u32,
+    pub depth: u32,
 }

@@ -7,8 +7,9 @@ use mathlib.Core.Logic.{◌↔◌, ◌⊎◌, inl, inr}
 use mathlib.Core.Bool.{Bool, true, false, true≢false}
 use mathlib.Core.List.Memᴰ
 use mathlib.Core.List.{List, [], ◌∷◌, ◌++◌, Memᴰ}
-use lib.ListN.{length, get_or, set, length-set, replicate, length-replicate, get_or-replicate}
-use lib.Seq.{get_or-set_same, get_or-set_other}
+use lib.ListN.{length, get_or, take, drop, set, length-set, length-take, length-drop, replicate, length-replicate, get_or-replicate}
+use lib.Seq.{length-take-le, get_or-take, get_or-set_same, get_or-set_other}
+use Rattle.std.proofs.lemmas.List.{get_or-drop}
 use Rattle.model.specs.Limits.{max_joins, max_own}
 use Rattle.model.specs.Blocks.{Use, Block, block_at, joins_of, own_of, blocks_of}
 use Rattle.shows.proofs.BlockAt.{own_of_at}
@@ -19,7 +20,7 @@ use Rattle.blocks.proofs.Loaded.{uses_from-snoc}
 use Rattle.blocks.proofs.Meeting.{use_arity, use_column, use_meets, use_only, use_apart}
 use Rattle.neighbours.specs.declared.Ask.{Ask}
 use Rattle.neighbours.specs.Picks.{near_end, fits, IsLink, Picked}
-use Rattle.neighbours.specs.Near.{Near, by-link, by-use, IsColumn, ByRow, ByUse, ByUses, Quiet, UseMarked, UsesMarked, Marks}
+use Rattle.neighbours.specs.Near.{Near, by-link, by-use, ByRow, ByUse, ByUses, Quiet, UseMarked, UsesMarked, Marks}
 use Rattle.neighbours.specs.Records.{record_size, inside_at, bits_at, record_at, bit_at, set_bit, own_bit, mark_of, On, HasMark, IsCue, Added}
 use Rattle.neighbours.proofs.Bits.{set_same, set_other, bit_none}
 
@@ -252,35 +253,63 @@ module _ (xs : List ℕ) (q : Ask) (a own c r : ℕ) (s w v : List ℕ) where
   pub links-done : (e : ℕ) → a ≤ r → r ≤ e → e ≤ r → Added own (Picked q (links_from xs a (r - a)) c) s w → Added own (Picked q (links_from xs a (e - a)) c) s w
   links-done e h i j x = let z : e ≡ r = omega arith in rw z x
 
--- A column of a use's row, and the columns up to one.
-module _ (xs s : List ℕ) (r j own : ℕ) where
-  pub column-yes : (w : List ℕ) (flag d : ℕ) → flag ≡ 1 → d ≡ column_at xs r j → Added own (IsCue d) s w → Added own (IsColumn xs r j flag) s w
-  column-yes w flag d f e x = added-one s w d x (record { at_j = sym e; set = f }) (λ u p. sym p.at_j ∙ sym e)
-
-  pub column-no : (flag : ℕ) → (flag ≡ 1 → ⊥) → Added own (IsColumn xs r j flag) s s
-  column-no flag n = added_none s s refl (λ u k p. n p.set)
-
+-- The columns of a use's row up to one.
 module _ (xs m : List ℕ) (r at own : ℕ) (s : List ℕ) where
   pub row-begin : Added own (ByRow xs m r at 0) s s
   row-begin = added_none s s refl (λ u k p. absurd (omega (arith, p.in_j)))
 
-  pub row_on : (w v : List ℕ) (j flag : ℕ) → Added own (ByRow xs m r at j) s w → flag ≡ get_or m (at + j) 0 → Added own (IsColumn xs r j flag) w v
-      → Added own (ByRow xs m r at (j + 1)) s v
-  row_on w v j flag x e y = added_more s w v x y to from
-    where
-      to : (u : ℕ) → ByRow xs m r at j u ⊎ IsColumn xs r j flag u → ByRow xs m r at (j + 1) u
-      to u (inl p) = record { j = p.j; in_j = omega (arith, p.in_j); at_j = p.at_j; flag = p.flag }
-      to u (inr p) = record { j = j; in_j = omega arith; at_j = p.at_j; flag = sym e ∙ p.set }
+  wider : (j u : ℕ) → ByRow xs m r at j u → ByRow xs m r at (j + 1) u
+  wider j u p = record { j = p.j; in_j = omega (arith, p.in_j); at_j = p.at_j; flag = p.flag }
 
-      from : (u : ℕ) → ByRow xs m r at (j + 1) u → ByRow xs m r at j u ⊎ IsColumn xs r j flag u
+  pub row_yes : (w v : List ℕ) (j flag d : ℕ) → Added own (ByRow xs m r at j) s w → flag ≡ get_or m (at + j) 0 → flag ≡ 1 → d ≡ column_at xs r j
+      → Added own (IsCue d) w v → Added own (ByRow xs m r at (j + 1)) s v
+  row_yes w v j flag d x e f c y = added_more s w v x y to from
+    where
+      to : (u : ℕ) → ByRow xs m r at j u ⊎ IsCue d u → ByRow xs m r at (j + 1) u
+      to u (inl p) = wider j u p
+      to u (inr p) = record { j = j; in_j = omega arith; at_j = sym c ∙ sym p.is; flag = sym e ∙ f }
+
+      from : (u : ℕ) → ByRow xs m r at (j + 1) u → ByRow xs m r at j u ⊎ IsCue d u
       from u p = go (ℕ_discrete p.j j)
         where
-          go : Dec (p.j ≡ j) → ByRow xs m r at j u ⊎ IsColumn xs r j flag u
-          go (yes q) = inr (record { at_j = rw q at p.at_j; set = e ∙ (rw q at p.flag) })
+          go : Dec (p.j ≡ j) → ByRow xs m r at j u ⊎ IsCue d u
+          go (yes q) = inr (record { is = sym (rw q at p.at_j) ∙ sym c })
           go (no n) = inl (record { j = p.j; in_j = omega (arith, p.in_j); at_j = p.at_j; flag = p.flag })
+
+  pub row_no : (w : List ℕ) (j flag : ℕ) → Added own (ByRow xs m r at j) s w → flag ≡ get_or m (at + j) 0 → (flag ≡ 1 → ⊥) → Added own (ByRow xs m r at (j + 1)) s w
+  row_no w j flag x e n = added-like s w x (wider j) from
+    where
+      from : (u : ℕ) → ByRow xs m r at (j + 1) u → ByRow xs m r at j u
+      from u p = go (ℕ_discrete p.j j)
+        where
+          go : Dec (p.j ≡ j) → ByRow xs m r at j u
+          go (yes q) = absurd (n (e ∙ (rw q at p.flag)))
+          go (no k) = record { j = p.j; in_j = omega (arith, p.in_j); at_j = p.at_j; flag = p.flag }
 
   pub row_done : (w : List ℕ) (j joins : ℕ) → Added own (ByRow xs m r at j) s w → j ≤ joins → joins ≤ j → Added own (ByRow xs m r at joins) s w
   row_done w j joins x h l = let e : joins ≡ j = omega arith in rw e x
+
+  -- The flags of a part of the table are the table's from there on.
+  pub row_part : (w part : List ℕ) (n joins : ℕ) → n ≡ joins → at + joins ≤ length m → part ≡ take n (drop at m)
+      → Added own (ByRow xs part r 0 (length part)) s w → Added own (ByRow xs m r at joins) s w
+  row_part w part n joins e room is x = added-like s w x to from
+    where
+      many : length part ≡ joins
+      many = ap length is ∙ length-take-le n (drop at m) (omega (arith, length-drop at m)) ∙ e
+
+      same : (j : ℕ) → j < joins → get_or part (0 + j) 0 ≡ get_or m (at + j) 0
+      same j h =
+          let z : 0 + j ≡ j = omega arith in
+          rw (is, z) (get_or-take n (drop at m) j 0 (omega arith) ∙ get_or-drop at m j 0)
+
+      to : (u : ℕ) → ByRow xs part r 0 (length part) u → ByRow xs m r at joins u
+      to u p = record { j = p.j; in_j = omega (arith, p.in_j, many); at_j = p.at_j; flag = sym (same p.j (omega (arith, p.in_j, many))) ∙ p.flag }
+
+      from : (u : ℕ) → ByRow xs m r at joins u → ByRow xs part r 0 (length part) u
+      from u p = record { j = p.j; in_j = omega (arith, p.in_j, many); at_j = p.at_j; flag = same p.j p.in_j ∙ p.flag }
+
+pub part_few : (l : List ℕ) (n joins : ℕ) → n ≡ joins → joins ≤ max_joins → length (take n l) ≤ max_joins
+part_few l n joins e h = omega (arith, length-take n l)
 
 -- The use of a row.
 module _ (xs : List ℕ) (k r c j joins i : ℕ) (o : UseRow xs k r) (y : j ≡ (use_at xs (blocks_of xs) r).block) (n : joins ≡ joins_of (blocks_of xs) j)

@@ -6,7 +6,9 @@ use mathlib.Core.Path.{◌≡◌, refl, sym, ◌∙◌, ap}
 use mathlib.Core.Logic.{◌↔◌, ◌⊎◌, inl, inr}
 use mathlib.Core.List.Memᴰ
 use mathlib.Core.List.{List, [], Memᴰ}
-use lib.ListN.{length, get_or, length-map}
+use lib.ListN.{length, get_or, take, drop, length-take, length-drop, length-map}
+use lib.Seq.{get_or-take}
+use Rattle.std.proofs.lemmas.List.{get_or-drop}
 use Rattle.model.specs.Limits.{max_joins, max_own}
 use Rattle.model.specs.Blocks.{Link, Use, Block, block_at, joins_of, own_of, total}
 use Rattle.model.specs.Unfolding.{renamed, links}
@@ -19,7 +21,7 @@ use Rattle.shows.proofs.Locality.{part-own, not-inside, link-part, part-link, nu
 use Rattle.neighbours.specs.declared.Ask.{Ask}
 use Rattle.neighbours.specs.Picks.{here, there, Picked, wanted}
 use Rattle.neighbours.specs.Near.{Flag, Near, by-link, by-use, KnownOwn, Exact, RecordsReady}
-use Rattle.neighbours.specs.Records.{record_size, inside_at, bits_at, record_at, bit_at, own_bit}
+use Rattle.neighbours.specs.Records.{record_size, inside_at, bits_at, record_at, HasRecord, bit_at, own_bit}
 use Rattle.neighbours.proofs.Picked.{ends_there, both_ends, here-renamed, there-renamed, wanted-none, wanted-same}
 
 -- The same link in another list.
@@ -225,3 +227,21 @@ exact_same q bs m w k i o b s x =
     byte g d z =
         let e : record_at k i + bits_at + (d - 1) / 8 ≡ record_at k i + (bits_at + (d - 1) / 8) = omega arith in
         rw e (s (bits_at + (d - 1) / 8) (omega arith))
+
+-- A part of the table that is the record from `at` on.
+pub known_own_part : (q : Ask) (bs : List Block) (m part : List ℕ) (at k c n : ℕ) → part ≡ take n (drop at m) → n ≡ record_size → own_of bs k ≤ max_own
+    → KnownOwn q bs m at k c → KnownOwn q bs part 0 k c
+unfolding own_bit
+known_own_part q bs m part at k c n is e few known = record { own = λ base met g d x y. rw (bit d y) (known.own base met g d x y) }
+  where
+    bit : (d : ℕ) → d ≤ own_of bs k → own_bit part (0 + bits_at) d ≡ own_bit m (at + bits_at) d
+    bit d y =
+        let f : at + (0 + bits_at + (d - 1) / 8) ≡ at + bits_at + (d - 1) / 8 = omega arith in
+        ap (λ (b : ℕ). bit_at b ((d - 1) % 8))
+        (ap (λ (l : List ℕ). get_or l (0 + bits_at + (d - 1) / 8) 0) is
+        ∙ get_or-take n (drop at m) (0 + bits_at + (d - 1) / 8) 0 (omega arith)
+        ∙ get_or-drop at m (0 + bits_at + (d - 1) / 8) 0
+        ∙ ap (λ (x : ℕ). get_or m x 0) f)
+
+pub part_long : (m : List ℕ) (at n : ℕ) → n ≡ record_size → HasRecord m at → HasRecord (take n (drop at m)) 0
+part_long m at n e room = omega (arith, length-take n (drop at m), length-drop at m)

@@ -7,6 +7,8 @@ use mathlib.Core.Logic.{◌↔◌, ◌⊎◌, inl, inr}
 use mathlib.Core.Bool.{Bool, true, false, true≢false, false≢true}
 use mathlib.Core.List.Memᴰ
 use mathlib.Core.List.{List, [], ◌∷◌, ◌++◌, append-nil, Memᴰ}
+use lib.Dec.{leb}
+use Rattle.std.proofs.lemmas.Bool.{le-leb, lt-leb}
 use Rattle.model.specs.Choice.{if_lt, if_true}
 use Rattle.model.specs.Blocks.{Link}
 use Rattle.model.specs.Unfolding.{renamed}
@@ -15,6 +17,20 @@ use Rattle.basics.proofs.Choices.{eq_then, eq_else, true_then, true_else, lt_the
 use Rattle.basics.proofs.Keeping.{keep-yes, keep_append, keep-none, keep_same, range-append}
 use Rattle.neighbours.specs.declared.Ask.{Ask}
 use Rattle.neighbours.specs.Picks.{near_end, here, there, fits, picks, Picked, wants, wanted}
+
+-- The test of a label, by its first half and by its second.
+module _ (q : Ask) (label : ℕ) where
+  pub fits-below : label < q.lo → leb q.lo label ≡ fits q label
+  unfolding fits
+  fits-below h = lt-leb q.lo label h ∙ sym (lt_then label q.lo false _ h)
+
+  pub fits-above : q.lo ≤ label → leb label q.hi ≡ fits q label
+  unfolding fits
+  fits-above h = go (dec_lt q.hi label) ∙ sym (lt_else label q.lo false _ h)
+    where
+      go : Dec (q.hi < label) → leb label q.hi ≡ if_lt q.hi label false true
+      go (yes l) = lt-leb label q.hi l ∙ sym (lt_then q.hi label false true l)
+      go (no n) = le-leb label q.hi (omega arith) ∙ sym (lt_else q.hi label false true (omega arith))
 
 -- The two ends of a link are its from and its to.
 module _ (q : Ask) (l : Link) (P : ℕ → Type 0) where

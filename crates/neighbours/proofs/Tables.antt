@@ -6,44 +6,60 @@ use mathlib.Core.Path.{◌≡◌, refl, sym, ◌∙◌, ap}
 use mathlib.Core.Logic.{◌↔◌, ◌⊎◌, inl, inr}
 use mathlib.Core.List.Memᴰ
 use mathlib.Core.List.{List, [], ◌∷◌, ◌++◌, Memᴰ}
-use lib.ListN.{length, get_or, set, length-set, replicate, length-replicate, get_or-replicate, get_or-eq_default}
-use lib.Seq.{get_or-set_same, get_or-set_other}
+use lib.ListN.{length, get_or, take, drop, set, length-set, replicate, length-replicate, get_or-replicate, get_or-eq_default}
+use lib.Seq.{paste, length-take-le, get_or-take, get_or-set_same, get_or-set_other}
+use Rattle.std.proofs.lemmas.List.{get_or_append_left, get_or-append_right, get_or-drop}
+use Rattle.std.proofs.lemmas.List.Edits.{paste_all, length-paste}
+use Rattle.std.proofs.lemmas.Slice.{put_mid-paste}
+use borrow.Rule.Slice.PartMut.{put_mid}
 use Rattle.model.specs.Limits.{max_joins, max_own}
 use Rattle.model.specs.Blocks.{Use, Block, block_at, joins_of, own_of, blocks_of}
 use Rattle.shows.proofs.AtBlock.{joins-small, own-small}
 use Rattle.shows.proofs.BlockAt.{own_of_at}
 use Rattle.basics.proofs.Choices.{lt_then, lt_else}
 use Rattle.verdicts.specs.Index.{use_at, uses_from, links_from}
-use Rattle.blocks.specs.Loaded.{Loaded, LinkRows, UseRows, UseRow, IsJoinAt}
-use Rattle.blocks.proofs.Loaded.{loaded-show, uses_from-snoc}
+use Rattle.blocks.specs.Loaded.{Loaded, IsBlock, LinkRows, UseRows, UseRow, IsJoinAt}
+use Rattle.blocks.proofs.Loaded.{loaded-show, joins-few, uses_from-snoc}
 use Rattle.blocks.proofs.Meeting.{use_arity, use_only, use_apart}
 use Rattle.neighbours.specs.declared.Ask.{Ask}
-use Rattle.neighbours.specs.Near.{Flag, Near, ByUses, UseMarked, UsesMarked, KnownOwn, Exact, Done, DoneUse, DoneUses, Table, RecordsKept, Copied, Settled, UseStep, UsesStep, MarksStep, RecordMade}
+use Rattle.neighbours.specs.Near.{Flag, Near, ByUses, UseMarked, UsesMarked, KnownOwn, Exact, Done, DoneUse, DoneUses, Table, RecordsKept, Settled, UseStep, UsesStep, MarksStep, RecordMade}
 use Rattle.neighbours.specs.Records.{record_size, block_size, inside_at, bits_at, record_at, bit_at, own_bit, mark_of, On, HasMark, Added}
 use Rattle.neighbours.specs.Picks.{Picked}
 use Rattle.neighbours.proofs.Marks.{added-like, uses-begin, uses-on, use_no, near_all}
 use Rattle.neighbours.proofs.Near.{Right, known_own_near, exact-join, exact_same}
 
--- The bytes of a record.
-module _ (s : List ℕ) (at : ℕ) (m : List ℕ) where
-  pub copied_begin : Copied s 0 at m m
-  copied_begin = record { long = refl; before = λ x h. refl; behind = λ x h. refl; put = λ j h. absurd (omega arith) }
+-- The first bytes of s stand in w from `at` on, and what is outside a record there is as it was in
+-- m.
+pub record Copied (s : List ℕ) (many at : ℕ) (m w : List ℕ) : Type 0 where
+  pub long : length w ≡ length m
+  pub before : (x : ℕ) → x < at → get_or w x 0 ≡ get_or m x 0
+  pub behind : (x : ℕ) → at + record_size ≤ x → get_or w x 0 ≡ get_or m x 0
+  pub put : (j : ℕ) → j < many → get_or w (at + j) 0 ≡ get_or s j 0
 
-  pub copied_on : (w : List ℕ) (j : ℕ) → Copied s j at m w → at + record_size ≤ length m → j < record_size → Copied s (j + 1) at m (set w (at + j) (get_or s j 0))
-  copied_on w j c l l₂ =
-      record {
-        long = length-set w (at + j) (get_or s j 0) ∙ c.long;
-        before = λ x h. get_or-set_other w (at + j) x (get_or s j 0) 0 (λ e. omega arith) ∙ c.before x h;
-        behind = λ x h. get_or-set_other w (at + j) x (get_or s j 0) 0 (λ e. omega arith) ∙ c.behind x h;
-        put = λ n h. go n h (ℕ_discrete n j);
-      }
-    where
-      go : (n : ℕ) → n < j + 1 → Dec (n ≡ j) → get_or (set w (at + j) (get_or s j 0)) (at + n) 0 ≡ get_or s n 0
-      go n h (yes q) = rw q (get_or-set_same w (at + j) (get_or s j 0) 0 (omega (arith, c.long)))
-      go n h (no x) = get_or-set_other w (at + j) (at + n) (get_or s j 0) 0 (λ e. x (omega arith)) ∙ c.put n (omega arith)
+-- The bytes of a record, put in the place of a part of the table.
+copied : (s part m : List ℕ) (at n : ℕ) → part ≡ s → n ≡ record_size → length s ≡ record_size → at + record_size ≤ length m → Copied s record_size at m (put_mid at n m part)
+copied s part m at n is e l room =
+    rw (put_mid-paste at n m part s record_size is (sym e) (sym l))
+    (record {
+      long = length-paste m at s record_size room (omega arith);
+      before = λ x h. rw whole (get_or_append_left (take at m) _ 0 x (omega (arith, head)) ∙ get_or-take at m x 0 h);
+      behind = λ x h. rw whole (get_or-append_right (take at m) _ at x 0 head (omega arith) ∙ get_or-append_right s _ record_size (x - at) 0 l (omega arith) ∙ get_or-drop (at + record_size) m (x - at - record_size) 0 ∙ ap (λ n. get_or m n 0) (omega arith));
+      put = λ j h. rw whole (get_or-append_right (take at m) _ at (at + j) 0 head (omega arith) ∙ get_or_append_left s _ 0 (at + j - at) (omega arith) ∙ ap (λ n. get_or s n 0) (omega arith));
+    })
+  where
+    whole : paste m at s record_size ≡ take at m ++ (s ++ drop (at + record_size) m)
+    whole = paste_all m at s record_size (sym l)
 
-  pub copied_done : (w : List ℕ) (j many : ℕ) → Copied s j at m w → j ≤ many → many ≤ j → Copied s many at m w
-  copied_done w j many c h l = let e : many ≡ j = omega arith in rw e c
+    head : length (take at m) ≡ at
+    head = length-take-le at m (omega arith)
+
+-- A join of a block of the show is one of eight.
+pub join_few : (xs t : List ℕ) (g : Loaded xs t) (k i : ℕ) → IsBlock xs k → i < joins_of (blocks_of xs) k → i < max_joins
+join_few xs t g k i h l = omega (arith, l, joins-few g k h)
+
+pub record_copied : (s part m : List ℕ) (k i n : ℕ) → part ≡ s → n ≡ record_at k i + record_size - record_at k i → length s ≡ record_size
+    → block_size * k + block_size ≤ length m → i < max_joins → Copied s record_size (record_at k i) m (put_mid (record_at k i) n m part)
+record_copied s part m k i n is e l room h = copied s part m (record_at k i) n is (omega arith) l (omega arith)
 
 pub written-long : (s : List ℕ) (at : ℕ) (m₁ w m : List ℕ) (n x : ℕ) → Copied s record_size at m₁ w → length m₁ ≡ length m → length (set w n x) ≡ length m
 written-long s at m₁ w m n x c e = length-set w n x ∙ c.long ∙ e

@@ -45,10 +45,6 @@ pub record ByRow (xs m : List ℕ) (r at joins d : ℕ) : Type 0 where
   pub at_j : column_at xs r j ≡ d
   pub flag : get_or m (at + j) 0 ≡ 1
 
-pub record IsColumn (xs : List ℕ) (r j flag d : ℕ) : Type 0 where
-  pub at_j : column_at xs r j ≡ d
-  pub set : flag ≡ 1
-
 -- The table has no cue inside the copy of a use for the join that meets cue c; and so for some
 -- uses.
 pub record Quiet (m : List ℕ) (c : ℕ) (u : Use) : Type 0 where
@@ -113,14 +109,6 @@ pub record RecordsReady (q : Ask) (bs : List Block) (m : List ℕ) (k c : ℕ) :
 -- Records that were made are as they were.
 pub record RecordsKept (m w : List ℕ) : Type 0 where
   pub at : (k i n : ℕ) → i < max_joins → n < record_size → Done m k i → get_or w (record_at k i + n) 0 ≡ get_or m (record_at k i + n) 0
-
--- The first bytes of s stand in w from `at` on, and what is outside a record there is as it was in
--- m.
-pub record Copied (s : List ℕ) (many at : ℕ) (m w : List ℕ) : Type 0 where
-  pub long : length w ≡ length m
-  pub before : (x : ℕ) → x < at → get_or w x 0 ≡ get_or m x 0
-  pub behind : (x : ℕ) → at + record_size ≤ x → get_or w x 0 ≡ get_or m x 0
-  pub put : (j : ℕ) → j < many → get_or w (at + j) 0 ≡ get_or s j 0
 
 pub record Settled (flag r : ℕ) : Type 0 where
   pub made : r ≡ 0 → ⊥

@@ -16,8 +16,9 @@ use Rattle.shows.proofs.Numbering.{numbering}
 use Rattle.verdicts.specs.Index.{use_at}
 use Rattle.blocks.specs.Loaded.{Loaded, IsBlock}
 use Rattle.blocks.specs.Places.{block_on, Takes, Along, Found}
+use Rattle.blocks.specs.declared.Place.{Place}
 use Rattle.blocks.proofs.Loaded.{loaded-show}
-use Rattle.paths.specs.Locating.{place_of, in_copy, MayLocate, UseFrom, Descends, ends, goes, block_below, Reached, Down, Positions}
+use Rattle.paths.specs.Locating.{place_of, in_copy, MayLocate, UseFrom, Descends, ends, goes, block_below, Reached, Down, Positions, IsReached}
 
 -- What is known of each level of the way down from block k.
 record Level (xs t : List ℕ) (k : ℕ) (rows path : List ℕ) (l : ℕ) : Type 0 where
@@ -167,6 +168,25 @@ module _ {xs t lent after : List ℕ} {k n depth block own : ℕ} (g : Loaded xs
               rw z
               (s.else (length q.path + m) (omega (arith, deep_is)) ∙ b
               ∙ sym (get_or-append-add q.path (drop (length q.path) lent) m 0))
+
+-- The same of what `reach` finds.
+module _ {xs t lent after : List ℕ} {n : ℕ} {place : Place} (g : Loaded xs t) (low : 1 ≤ n) (high : n ≤ count (blocks_of xs))
+    (p : IsReached xs t n lent place after) where
+  as_found : record { cue = n; depth = place.depth; block = place.block; own = place.own } ≡ place
+  as_found = rw (← p.cue) refl
+
+  pub found-place : Found xs t after place
+  found-place = rw as_found at (reached-found g low high refl p.down)
+
+  pub found-down : Down xs t after place.depth
+  found-down = reached-down g low high refl p.down
+
+  pub found-at : place ≡ place_of n (paths.place_in (blocks_of xs) (last_block (blocks_of xs)) n)
+  found-at = sym as_found ∙ reached-place g low high refl p.down
+
+  pub found-path : (final : List ℕ) → Positions xs t after place.depth final
+      → final ≡ overwrite (paths.place_in (blocks_of xs) (last_block (blocks_of xs)) n).path lent
+  found-path = reached-path g low high refl p.down
 
 -- The rows turned into positions one after the other.
 pub record Turned (xs t rows : List ℕ) (depth k l : ℕ) (now : List ℕ) : Type 0 where

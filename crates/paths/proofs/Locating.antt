@@ -66,8 +66,7 @@ pub copy-total : {xs t : List ℕ} → Loaded xs t → (k : ℕ) → total (bloc
 copy-total {xs} g k = rw (own_of_at (blocks_of xs) k) (total-at (blocks_of xs) (loaded-show g).good k 0 [])
 
 -- Cue n of the uses of block k is cue rest of the uses from row r on.
-pub record Rest (xs t : List ℕ) (k n first r rest : ℕ) : Type 0 where
-  pub end : ℕ
+pub record Rest (xs t : List ℕ) (k n first end r rest : ℕ) : Type 0 where
   pub rows : UseRows xs t k first end
   pub from : first ≤ r
   pub to : r < end
@@ -86,12 +85,11 @@ some_left xs r e m low high = go (dec_lt r e)
     go (yes l) = l
     go (no l) = let q : e - r ≡ 0 = omega arith in absurd (omega (arith, rw (q, uses_from, sum_over) at high))
 
-pub rest-begin : {xs t : List ℕ} {k n first end : ℕ} → UseRows xs t k first end → 1 ≤ n → n ≤ cues_of xs (uses_of xs k) → Rest xs t k n first first n
+pub rest-begin : {xs t : List ℕ} {k n first end : ℕ} → UseRows xs t k first end → 1 ≤ n → n ≤ cues_of xs (uses_of xs k) → Rest xs t k n first end first n
 rest-begin {xs} {t} {k} {n} {first} {end} rows low high =
     let l : n ≤ cues_of xs (uses_from xs (blocks_of xs) first (end - first)) = rw rows.uses at high in
     let p : first - first + 1 ≡ 1 = omega arith in
     record {
-      end = end;
       rows = rows;
       from = omega arith;
       to = some_left xs first end n low l;
@@ -111,10 +109,7 @@ pub record Falls (xs t : List ℕ) (k n r block rest : ℕ) : Type 0 where
   pub low : 1 ≤ rest
   pub high : rest ≤ total (blocks_of xs) block
 
-module _ {xs t : List ℕ} {k n first r rest : ℕ} (g : Loaded xs t) (h : IsBlock xs k) (q : Rest xs t k n first r rest) where
-  abbrev end : ℕ
-  end = q.end
-
+module _ {xs t : List ℕ} {k n first end r rest : ℕ} (g : Loaded xs t) (h : IsBlock xs k) (q : Rest xs t k n first end r rest) where
   pub rest-row : UseRow xs k r
   rest-row = use_row g k h r q.rows q.from q.to
 
@@ -132,11 +127,10 @@ module _ {xs t : List ℕ} {k n first r rest : ℕ} (g : Loaded xs t) (h : IsBlo
     unfolding sum_over
     left = rw (es, eu) (rw (uses_from-next xs (blocks_of xs) r end q.to) at q.high)
 
-    pub rest-on : (m : ℕ) → m ≡ rest - s → s < rest → Rest xs t k n first (r + 1) m
+    pub rest-on : (m : ℕ) → m ≡ rest - s → s < rest → Rest xs t k n first end (r + 1) m
     rest-on m em l =
         let high : m ≤ cues_of xs (uses_from xs (blocks_of xs) (r + 1) (end - (r + 1))) = omega (arith, left) in
         record {
-          end = end;
           rows = q.rows;
           from = omega (arith, q.from);
           to = some_left xs (r + 1) end m (omega arith) high;

@@ -2,11 +2,9 @@
 use Prim.Native.Nat.{ℕ, zero, suc, ◌+◌, ◌-◌, ◌≤◌, ◌<◌}
 use native.Mathlib.Omega.{arith}
 use native.Mathlib.Nat.{add-zero, add_assoc}
-use native.Mathlib.Numerals.{add-one}
 use mathlib.Core.Path.{◌≡◌, refl, sym, ◌∙◌}
 use mathlib.Core.List.{List, [], ◌∷◌}
-use lib.ListN.{length, get_or, drop, drop_of_length-le}
-use lib.Seq.{drop-cons}
+use lib.ListN.{length}
 use Rattle.model.specs.Blocks.{Use, Block, own_of, sum_over, total, blocks_of, last_block}
 use Rattle.model.specs.Limits.{max_total}
 use Rattle.model.specs.Paths as paths
@@ -53,40 +51,41 @@ module _ (xs : List ℕ) (bs : List Block) (size : ℕ → ℕ) where
       let row : a + suc j ≡ a + 1 + j = omega arith in
       rw row (omega (arith, into-fits m (a + 1) j (omega arith)))
 
+nil : (path : List ℕ) → length path ≡ 0 → path ≡ []
+nil [] e = refl
+nil (p ∷ path) e = absurd (omega (arith, e))
+
 -- A path that begins in a copy, which has these own cues.
-module _ {xs t path : List ℕ} {k base done : ℕ} (a : MayNumber xs t path k (total (blocks_of xs) k) base done) (own : ℕ)
-    (e : own ≡ own_of (blocks_of xs) k) where
+module _ {xs t : List ℕ} {k base : ℕ} (a : MayNumber xs t k (total (blocks_of xs) k) base) (own : ℕ) (e : own ≡ own_of (blocks_of xs) k) where
   pub own-fits : base + own ≤ max_total
   own-fits = omega (arith, a.fits, copy-total a.loaded k)
 
   -- It ends here.
-  pub number-here : (c r : ℕ) → length path ≤ done → r ≡ paths.own_number own base c → r ≡ from_copy xs k base (drop done path) c
+  pub number-here : (path : List ℕ) (c r : ℕ) → length path ≡ 0 → r ≡ paths.own_number own base c → r ≡ from_copy xs k base path c
   unfolding paths.copy_number
-  number-here c r l q =
+  number-here path c r l q =
       q
-      ∙ rw (drop_of_length-le path l, e, own_of_at (blocks_of xs) k)
+      ∙ rw (nil path l, e, own_of_at (blocks_of xs) k)
       (sym (number_in_at (blocks_of xs) (loaded-show a.loaded).good k base [] c))
 
   -- It goes on into a use.
-  pub number-on : (c r : ℕ) → done < length path → r ≡ from_uses xs k (base + own) (get_or path done 0) (drop (done + 1) path) c
-      → r ≡ from_copy xs k base (drop done path) c
+  pub number-on : (path : List ℕ) (p : ℕ) (rest : List ℕ) (c r : ℕ) → path ≡ p ∷ rest → r ≡ from_uses xs k (base + own) p rest c → r ≡ from_copy xs k base path c
   unfolding paths.copy_number
-  number-on c r l q =
+  number-on path p rest c r l q =
       q
-      ∙ rw (add-one done, drop-cons path done 0 l, e, own_of_at (blocks_of xs) k)
-      (sym (number_in_at (blocks_of xs) (loaded-show a.loaded).good k base (get_or path done 0 ∷ drop (suc done) path) c))
+      ∙ rw (l, e, own_of_at (blocks_of xs) k)
+      (sym (number_in_at (blocks_of xs) (loaded-show a.loaded).good k base (p ∷ rest) c))
 
-  pub uses-asks : done < length path → MayNumber xs t path k (cues_of xs (uses_of xs k)) (base + own) (done + 1)
-  uses-asks l =
-      record { loaded = a.loaded; block = a.block; fits = omega (arith, a.fits, copy-total a.loaded k); done = omega arith }
+  pub uses-asks : MayNumber xs t k (cues_of xs (uses_of xs k)) (base + own)
+  uses-asks = record { loaded = a.loaded; block = a.block; fits = omega (arith, a.fits, copy-total a.loaded k) }
 
 -- A path that goes on into the p-th use of block k, whose uses stand in these rows.
-pub record Into (xs t path : List ℕ) (k base done first end p q : ℕ) : Type 0 where
-  pub begun : MayNumber xs t path k (cues_of xs (uses_of xs k)) base done
+pub record Into (xs t : List ℕ) (k base first end p q : ℕ) : Type 0 where
+  pub begun : MayNumber xs t k (cues_of xs (uses_of xs k)) base
   pub rows : UseRows xs t k first end
   pub step : p ≡ q
 
-module _ {xs t path : List ℕ} {k base done first end p q : ℕ} (i : Into xs t path k base done first end p q) where
+module _ {xs t : List ℕ} {k base first end p q : ℕ} (i : Into xs t k base first end p q) where
   abbrev size : ℕ → ℕ
   size = total (blocks_of xs)
 
@@ -149,13 +148,12 @@ module _ {xs t path : List ℕ} {k base done first end p q : ℕ} (i : Into xs t
         pub step-lower : u < k
         step-lower = rw block-is into-row.lower
 
-        pub copy-asks : MayNumber xs t path u (size u) b done
+        pub copy-asks : MayNumber xs t u (size u) b
         copy-asks =
             record {
               loaded = i.begun.loaded;
               block = used_block u into-row block-is;
               fits = rw (b_is, block-is) step_fits;
-              done = i.begun.done;
             }
 
         pub number_step : (rest : List ℕ) (c r : ℕ) → r ≡ from_copy xs u b rest c → r ≡ from_uses xs k base q rest c
@@ -166,16 +164,16 @@ module _ {xs t path : List ℕ} {k base done first end p q : ℕ} (i : Into xs t
             (sym (rw (← s) at (number-into xs (blocks_of xs) size (paths.number_in (blocks_of xs)) rest c (end - first) first base (p - 1) (omega arith))))
 
 -- The step that is next, and the cues before its use as they are summed.
-pub record Steps (xs t path : List ℕ) (k base done first end p at r b : ℕ) : Type 0 where
-  pub into : Into xs t path k base (done + 1) first end p (get_or path done 0)
+pub record Steps (xs t : List ℕ) (k base first end p q at r b : ℕ) : Type 0 where
+  pub into : Into xs t k base first end p q
   pub low : 1 ≤ p
   pub high : p ≤ end - first
   pub summed : Summed into low high at r b
 
 -- In the show.
-module _ {xs t : List ℕ} (g : Loaded xs t) (k : ℕ) (e : k ≡ last_block (blocks_of xs)) (path : List ℕ) where
-  pub show_asks : IsBlock xs k → MayNumber xs t path k (total (blocks_of xs) k) 0 0
-  show_asks h = record { loaded = g; block = h; fits = omega (arith, (loaded-show g).totals k); done = omega arith }
+module _ {xs t : List ℕ} (g : Loaded xs t) (k : ℕ) (e : k ≡ last_block (blocks_of xs)) where
+  pub show_asks : IsBlock xs k → MayNumber xs t k (total (blocks_of xs) k) 0
+  show_asks h = record { loaded = g; block = h; fits = omega (arith, (loaded-show g).totals k) }
 
-  pub show_number_lem : (c r : ℕ) → r ≡ from_copy xs k 0 path c → r ≡ show_number (blocks_of xs) path c
-  show_number_lem c r q = q ∙ rw (never_too_deep (blocks_of xs) (loaded-show g).good (loaded-show g).blocks.1 path c, e) refl
+  pub show_number_lem : (path : List ℕ) (c r : ℕ) → r ≡ from_copy xs k 0 path c → r ≡ show_number (blocks_of xs) path c
+  show_number_lem path c r q = q ∙ rw (never_too_deep (blocks_of xs) (loaded-show g).good (loaded-show g).blocks.1 path c, e) refl

@@ -1,7 +1,7 @@
 -- The way down to a cue: where a cue of a copy of a block is, and the rows of the uses that lead there.
 use Rattle.std.specs.Prelude.{ℕ, zero, suc, ◌+◌, ◌≤◌, ◌<◌, ◌≡◌, List, [], ◌∷◌, ◌++◌, length, get_or, take, drop}
 use Rattle.model.specs.Limits.{max_depth}
-use Rattle.model.specs.Blocks.{Use, block_at, sum_over, total, blocks_of}
+use Rattle.model.specs.Blocks.{Use, block_at, sum_over, total, blocks_of, last_block}
 use Rattle.model.specs.Paths as paths
 use Rattle.model.specs.Lists.{overwrite}
 use Rattle.verdicts.specs.Index.{use_at}
@@ -73,3 +73,8 @@ pub record Positions (xs t rows : List ℕ) (depth : ℕ) (after : List ℕ) : T
   pub long : length after ≡ length rows
   pub done : (l : ℕ) → l < depth → Takes t (block_on xs rows l) (get_or after l 0) (get_or rows l 0)
   pub else : (l : ℕ) → depth ≤ l → get_or after l 0 ≡ get_or rows l 0
+
+-- The place of cue n of the show, and what the lent list holds afterwards: the rows of the uses that lead there, then what it held.
+pub record IsReached (xs t : List ℕ) (n : ℕ) (lent : List ℕ) (place : Place) (after : List ℕ) : Type 0 where
+  pub cue : place.cue ≡ n
+  pub down : Reached xs t (last_block (blocks_of xs)) 0 (in_copy xs (last_block (blocks_of xs)) n) lent place.depth place.block place.own after

@@ -1,5 +1,5 @@
 -- The number at the end of a path.
-use Rattle.std.specs.Prelude.{ℕ, ◌+◌, ◌≤◌, List, length}
+use Rattle.std.specs.Prelude.{ℕ, ◌+◌, ◌≤◌, List}
 use Rattle.model.specs.Limits.{max_total}
 use Rattle.model.specs.Blocks.{total, blocks_of}
 use Rattle.model.specs.Paths.{uses_number, number_in}
@@ -13,9 +13,8 @@ from_copy xs k base path c = number_in (blocks_of xs) k base path c
 abbrev pub from_uses : List ℕ → ℕ → ℕ → ℕ → List ℕ → ℕ → ℕ
 from_uses xs k base p path c = uses_number (total (blocks_of xs)) (number_in (blocks_of xs)) base (uses_of xs k) p path c
 
--- What is asked for a number after base, where so many cues follow it, with a path of which these steps are done: the numbers are small.
-pub record MayNumber (xs t path : List ℕ) (k cues base at : ℕ) : Type 0 where
+-- What is asked for a number after base, where so many cues follow it: the numbers are small.
+pub record MayNumber (xs t : List ℕ) (k cues base : ℕ) : Type 0 where
   pub loaded : Loaded xs t
   pub block : IsBlock xs k
   pub fits : base + cues ≤ max_total
-  pub done : at ≤ length path

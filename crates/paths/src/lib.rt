@@ -5,18 +5,17 @@
 // cue.
 #![tactic(auto)]
 
-ghost use Rattle.std.specs.Prelude.{◌≡◌, ◌+◌, ◌-◌, ◌≤◌, ◌<◌, length, get_or, drop};
+ghost use Rattle.std.specs.Prelude.{◌≡◌, ◌+◌, ◌-◌, ◌≤◌, ◌<◌, length, get_or, drop, unwrap_or, IfSome};
 ghost use Rattle.model.specs.Limits.{max_total, max_depth};
 ghost use Rattle.model.specs.Blocks.{total, blocks_of, last_block, count};
 ghost use Rattle.model.specs.Paths.{own_number, place_in};
 ghost use Rattle.model.specs.Lists.{overwrite};
 ghost use Rattle.model.specs.Questions.{show_number};
-ghost use Rattle.blocks.specs.Loaded.{Loaded};
 ghost use Rattle.blocks.specs.Places.{Takes, Found};
-ghost use Rattle.paths.specs.Locating.{uses_of, cues_of, in_copy, in_uses, MayLocate, Reached, place_of, UseFrom, Down, Positions};
+ghost use Rattle.paths.specs.Locating.{uses_of, cues_of, in_copy, in_uses, MayLocate, Reached, place_of, UseFrom, Down, Positions, IsReached};
 ghost use Rattle.paths.specs.Numbering.{from_copy, from_uses, MayNumber};
 
-use blocks::{INDEX, Place, wide};
+use blocks::{Place, Show, used, wide};
 use model::limits::MAX_DEPTH;
 
 // Where a way down ends: its depth, and the block and the own cue there.
@@ -39,18 +38,11 @@ fn past(n: u32, many: u32) -> u32
 
 // Cue n of a copy of block k. The rows of the uses on the way there follow those before it, so many of them, in a list.
 #[cycle(locate_copy_locate_uses)]
-fn locate_copy(
-    xs: &[u32],
-    t: &[u32; INDEX],
-    k: usize,
-    n: u32,
-    depth: usize,
-    rows: &mut [u32],
-) -> End
-    requires { MayLocate xs.now t.now rows.old k (total (blocks_of xs.now) k) n depth }
-    ensures { Reached xs.now t.now k depth (in_copy xs.now k n) rows.old result.depth result.block result.own rows.new }
+fn locate_copy(show: &Show, k: usize, n: u32, depth: usize, rows: &mut [u32]) -> End
+    requires { MayLocate show.now.rows.now show.now.index.now rows.old k (total (blocks_of show.now.rows.now) k) n depth }
+    ensures { Reached show.now.rows.now show.now.index.now k depth (in_copy show.now.rows.now k n) rows.old result.depth result.block result.own rows.new }
 {
-    let own = blocks::own(xs, t, k);
+    let own = show.own(k);
     if n <= own {
         return End {
             depth: depth,
@@ -58,85 +50,36 @@ fn locate_copy(
             own: n,
         };
     }
-    locate_uses(xs, t, k, past(n, own), depth, rows)
+    locate_uses(show, k, past(n, own), depth, rows)
 }
 
 // Cue n of the uses of block k, the first cue of its first use being cue 1.
 #[cycle(locate_copy_locate_uses)]
-fn locate_uses(
-    xs: &[u32],
-    t: &[u32; INDEX],
-    k: usize,
-    n: u32,
-    depth: usize,
-    rows: &mut [u32],
-) -> End
-    requires { MayLocate xs.now t.now rows.old k (cues_of xs.now (uses_of xs.now k)) n depth }
-    ensures { Reached xs.now t.now k depth (in_uses xs.now k n) rows.old result.depth result.block result.own rows.new }
+fn locate_uses(show: &Show, k: usize, n: u32, depth: usize, rows: &mut [u32]) -> End
+    requires { MayLocate show.now.rows.now show.now.index.now rows.old k (cues_of show.now.rows.now (uses_of show.now.rows.now k)) n depth }
+    ensures { Reached show.now.rows.now show.now.index.now k depth (in_uses show.now.rows.now k n) rows.old result.depth result.block result.own rows.new }
 {
-    let us = blocks::use_rows(xs, t, k);
-    let mut r = us.first;
+    let uses = show.use_rows(k);
     let mut rest = n;
-    loop {
-        let u = blocks::used(xs, r);
-        let size = blocks::total(xs, t, u);
+    for r in uses.start..uses.end {
+        let u = used(show.rows, r);
+        let size = show.total(u);
         if rest <= size {
             rows[depth] = r as u32;
-            return locate_copy(xs, t, u, rest, depth + 1, rows);
+            return locate_copy(show, u, rest, depth + 1, rows);
         }
         rest = past(rest, size);
-        r += 1;
     }
+    unreachable!()
 }
 
-// Where cue v is; the rows of the uses that lead there go to a list that is long enough for every path.
-pub fn find(xs: &[u32], t: &[u32; INDEX], v: u32, rows: &mut [u32; MAX_DEPTH]) -> Place
-    requires { Loaded xs.now t.now × (1 ≤ v) × (v ≤ count (blocks_of xs.now)) }
-    ensures { (result.cue ≡ v) × Found xs.now t.now rows.new result × (length rows.new ≡ max_depth) }
+// Where cue n is, and at the beginning of a list the rows of the uses that lead there.
+fn reach(show: &Show, n: u32, rows: &mut [u32]) -> Place
+    requires { (1 ≤ n) × (n ≤ count (blocks_of show.now.rows.now)) × (max_depth ≤ length rows.old) }
+    ensures { IsReached show.now.rows.now show.now.index.now n rows.old result rows.new }
 {
-    let last = blocks::last(xs, t);
-    let end = locate_copy(xs, t, last, v, 0, rows);
-    Place {
-        cue: v,
-        depth: end.depth,
-        block: end.block,
-        own: end.own,
-    }
-}
-
-// The position of row r among the uses of block k, the first of which has position 1.
-fn position(xs: &[u32], t: &[u32; INDEX], k: usize, r: usize) -> u32
-    requires { Loaded xs.now t.now × UseFrom xs.now t.now k r }
-    ensures { Takes t.now k result r }
-{
-    let us = blocks::use_rows(xs, t, k);
-    (r - us.first + 1) as u32
-}
-
-// The rows of the uses on a way down turned into their positions: the path.
-pub fn positions(xs: &[u32], t: &[u32; INDEX], depth: usize, rows: &mut [u32])
-    requires { Loaded xs.now t.now × Down xs.now t.now rows.old depth }
-    ensures { Positions xs.now t.now rows.old depth rows.new }
-{
-    let mut k = blocks::last(xs, t);
-    let mut l = 0;
-    while l < depth {
-        let r = wide(rows[l]);
-        rows[l] = position(xs, t, k, r);
-        k = blocks::used(xs, r);
-        l += 1;
-    }
-}
-
-// Where cue n of the show is. The path goes to the beginning of the lent list, the rest of which stays as it was.
-pub fn locate(xs: &[u32], t: &[u32; INDEX], n: u32, path: &mut [u32]) -> Place
-    requires { Loaded xs.now t.now × (1 ≤ n) × (n ≤ count (blocks_of xs.now)) × (max_depth ≤ length path.old) }
-    ensures value { result ≡ place_of n (place_in (blocks_of xs.now) (last_block (blocks_of xs.now)) n) }
-    ensures path_after { path.new ≡ overwrite (place_in (blocks_of xs.now) (last_block (blocks_of xs.now)) n).path path.old }
-{
-    let last = blocks::last(xs, t);
-    let end = locate_copy(xs, t, last, n, 0, path);
-    positions(xs, t, end.depth, path);
+    let last = show.last();
+    let end = locate_copy(show, last, n, 0, rows);
     Place {
         cue: n,
         depth: end.depth,
@@ -145,82 +88,109 @@ pub fn locate(xs: &[u32], t: &[u32; INDEX], n: u32, path: &mut [u32]) -> Place
     }
 }
 
+// Where cue v is; the rows of the uses that lead there go to a list that is long enough for every path.
+pub fn find(show: &Show, v: u32, rows: &mut [u32; MAX_DEPTH]) -> Place
+    requires { (1 ≤ v) × (v ≤ count (blocks_of show.now.rows.now)) }
+    ensures { (result.cue ≡ v) × Found show.now.rows.now show.now.index.now rows.new result × (length rows.new ≡ max_depth) }
+{
+    reach(show, v, rows)
+}
+
+// The position of row r among the uses of block k, the first of which has position 1.
+fn position(show: &Show, k: usize, r: usize) -> u32
+    requires { UseFrom show.now.rows.now show.now.index.now k r }
+    ensures { Takes show.now.index.now k result r }
+{
+    let uses = show.use_rows(k);
+    (r - uses.start + 1) as u32
+}
+
+// The rows of the uses on a way down turned into their positions: the path.
+// Kept: the depth beside the list, by what may not change: the clauses `Down` and `Positions` are of the first rows of a list that has room for every path.
+pub fn positions(show: &Show, depth: usize, rows: &mut [u32])
+    requires { Down show.now.rows.now show.now.index.now rows.old depth }
+    ensures { Positions show.now.rows.now show.now.index.now rows.old depth rows.new }
+{
+    let mut k = show.last();
+    for l in 0..depth {
+        let r = wide(rows[l]);
+        rows[l] = position(show, k, r);
+        k = used(show.rows, r);
+    }
+}
+
+// Where cue n of the show is. The path goes to the beginning of the lent list, the rest of which stays as it was.
+pub fn locate(show: &Show, n: u32, path: &mut [u32]) -> Place
+    requires { (1 ≤ n) × (n ≤ count (blocks_of show.now.rows.now)) × (max_depth ≤ length path.old) }
+    ensures value { result ≡ place_of n (place_in (blocks_of show.now.rows.now) (last_block (blocks_of show.now.rows.now)) n) }
+    ensures path_after { path.new ≡ overwrite (place_in (blocks_of show.now.rows.now) (last_block (blocks_of show.now.rows.now)) n).path path.old }
+{
+    let place = reach(show, n, path);
+    positions(show, place.depth, path);
+    place
+}
+
 // Numbering.
 
-// The number of own cue c of a copy after base that has so many own cues; 0 if it has no such one.
-fn own_number(own: u32, base: u32, c: u32) -> u32
+// The number of own cue c of a copy after base that has so many own cues, if it has such a one.
+fn own_number(own: u32, base: u32, c: u32) -> Option<u32>
     requires { base + own ≤ max_total }
-    ensures { result ≡ own_number own base c }
+    ensures value { unwrap_or result 0 ≡ own_number own base c }
+    ensures some { IfSome result (λ n. 0 < n) }
 {
     if c < 1 {
-        return 0;
+        return None;
     }
     if own < c {
-        return 0;
+        return None;
     }
-    base + c
+    Some(base + c)
 }
 
-// The number of own cue c at the end of a path, of which these steps are done and led to the copy of block k after base.
+// The number of own cue c at the end of a path from the copy of block k after base.
 #[cycle(number_copy_number_uses)]
-fn number_copy(
-    xs: &[u32],
-    t: &[u32; INDEX],
-    k: usize,
-    base: u32,
-    path: &[u32],
-    done: usize,
-    c: u32,
-) -> u32
-    requires { MayNumber xs.now t.now path.now k (total (blocks_of xs.now) k) base done }
-    ensures { result ≡ from_copy xs.now k base (drop done path.now) c }
+fn number_copy(show: &Show, k: usize, base: u32, path: &[u32], c: u32) -> Option<u32>
+    requires { MayNumber show.now.rows.now show.now.index.now k (total (blocks_of show.now.rows.now) k) base }
+    ensures value { unwrap_or result 0 ≡ from_copy show.now.rows.now k base path.now c }
+    ensures some { IfSome result (λ n. 0 < n) }
 {
-    let own = blocks::own(xs, t, k);
-    if done < path.len() {
-        return number_uses(xs, t, k, base + own, path, done, c);
+    let own = show.own(k);
+    match path.split_first() {
+        Some((step, rest)) => number_uses(show, k, base + own, *step, rest, c),
+        None => own_number(own, base, c),
     }
-    own_number(own, base, c)
 }
 
-// The same where one step more leads to a use of block k, the first of which begins after base.
+// The same where one step before the path leads to a use of block k, the first of which begins after base.
 #[cycle(number_copy_number_uses)]
-fn number_uses(
-    xs: &[u32],
-    t: &[u32; INDEX],
-    k: usize,
-    base: u32,
-    path: &[u32],
-    done: usize,
-    c: u32,
-) -> u32
-    requires { MayNumber xs.now t.now path.now k (cues_of xs.now (uses_of xs.now k)) base (done + 1) }
-    ensures { result ≡ from_uses xs.now k base (get_or path.now done 0) (drop (done + 1) path.now) c }
+fn number_uses(show: &Show, k: usize, base: u32, step: u32, path: &[u32], c: u32) -> Option<u32>
+    requires { MayNumber show.now.rows.now show.now.index.now k (cues_of show.now.rows.now (uses_of show.now.rows.now k)) base }
+    ensures value { unwrap_or result 0 ≡ from_uses show.now.rows.now k base step path.now c }
+    ensures some { IfSome result (λ n. 0 < n) }
 {
-    let us = blocks::use_rows(xs, t, k);
-    let first = us.first;
-    let end = us.end;
-    let p = wide(path[done]);
+    let uses = show.use_rows(k);
+    let first = uses.start;
+    let end = uses.end;
+    let p = wide(step);
     if p < 1 {
-        return 0;
+        return None;
     }
     if end - first < p {
-        return 0;
+        return None;
     }
     let at = first + (p - 1);
-    let mut r = first;
     let mut b = base;
-    while r < at {
-        b += blocks::total(xs, t, blocks::used(xs, r));
-        r += 1;
+    for r in first..at {
+        b += show.total(used(show.rows, r));
     }
-    number_copy(xs, t, blocks::used(xs, at), b, path, done + 1, c)
+    number_copy(show, used(show.rows, at), b, path, c)
 }
 
-// The number of a path and an own cue; 0 if a step is no use, or the copy at the end has no such own cue, or the path is too long.
-pub fn number(xs: &[u32], t: &[u32; INDEX], path: &[u32], own: u32) -> u32
-    requires { Loaded xs.now t.now }
-    ensures { result ≡ show_number (blocks_of xs.now) path.now own }
+// The number of a path and an own cue; none if a step is no use, or the copy at the end has no such own cue, or the path is too long.
+pub fn number(show: &Show, path: &[u32], own: u32) -> Option<u32>
+    ensures value { unwrap_or result 0 ≡ show_number (blocks_of show.now.rows.now) path.now own }
+    ensures some { IfSome result (λ n. 0 < n) }
 {
-    let last = blocks::last(xs, t);
-    number_copy(xs, t, last, 0, path, 0, own)
+    let last = show.last();
+    number_copy(show, last, 0, path, own)
 }

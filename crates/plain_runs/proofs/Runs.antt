@@ -1,16 +1,16 @@
 -- The numbers of rows that are put one behind the other: what is left of a block's links, and of all blocks.
-use Prim.Native.Nat.{ℕ, suc, ◌+◌, ◌*◌, ◌-◌, ◌≤◌, ◌<◌}
-use mathlib.Core.Path.{◌≡◌, refl, ◌∙◌}
-use mathlib.Core.List.{List, [], ◌∷◌, ◌++◌, flat_map, append-nil}
+use Prim.Native.Nat.{ℕ, suc, ◌+◌, ◌-◌, ◌≤◌, ◌<◌}
+use mathlib.Core.Path.{◌≡◌, refl, sym, ◌∙◌, ap}
+use mathlib.Core.List.{List, [], ◌∷◌, ◌++◌, flat_map, append-nil, append_assoc}
 use native.Mathlib.Omega.{arith}
 use native.Mathlib.Numerals.{add-one}
-use lib.ListN.{length, drop_of_length-le}
+use lib.ListN.{length, take, drop, length-append, drop_of_length-le}
 use Rattle.model.specs.Limits.{row_size, desk_blocks}
 use Rattle.model.specs.Lists.{range, overwrite}
 use Rattle.model.specs.Rows.{Row, row_values}
 use Rattle.model.specs.Desk.{plain_opening, plain_link, plain_run, built_in, built_in_numbers}
 use Rattle.basics.proofs.Members.{flat_append}
-use Rattle.codec.proofs.Stores.{puts-both, puts-as, puts-long, puts-over, room-first, room_next, Stored, stored-begin, stored_on, stored-room, stored-end}
+use Rattle.codec.proofs.Stores.{puts-part, puts-then, puts-as, puts-long, puts-over, part-room, Stored, stored-begin, stored-then, stored-fits, stored-end}
 use Rattle.plain_runs.specs.Putting.{own_links, PutsRows, RowsFit}
 
 -- So many numbers from c on: the first, and the others.
@@ -32,6 +32,9 @@ opening-size k = refl
 link-size : (k a b : ℕ) → length (flat_map row_values (plain_link k a b ∷ [])) ≡ row_size
 unfolding flat_map row_values plain_link
 link-size k a b = refl
+
+pub row-fits : (k a b n : ℕ) (o p : List ℕ) → PutsRows (plain_link k a b ∷ []) o n p → n ≡ row_size
+row-fits k a b n o p s = omega (arith, link-size k a b, s.place)
 
 -- The numbers of what is left of the links of block k from cue c on, and of all blocks from block k on.
 unfoldable pub own_links_left : ℕ → ℕ → List ℕ
@@ -57,92 +60,117 @@ unfolding runs_left flat_map
 runs_none k h = rw (range_none k desk_blocks h)
 
 -- A block's links are put one by one.
-pub own-links_begin : (k n : ℕ) (o : List ℕ) → Stored (flat_map row_values (own_links k 1 k)) (own_links_left k 1) o (n * row_size) (n * row_size) o
+pub own-links_begin : (k : ℕ) (o : List ℕ) → Stored (flat_map row_values (own_links k 1 k)) (own_links_left k 1) o 0 0 o
 unfolding own_links_left
-own-links_begin k n o = let e : k + 1 - 1 ≡ k = omega arith in rw e (stored-begin _ o (n * row_size))
+own-links_begin k o = let e : k + 1 - 1 ≡ k = omega arith in rw e (stored-begin _ o 0)
 
-module _ (k c n r : ℕ) (o p : List ℕ) (s : Stored (flat_map row_values (own_links k 1 k)) (own_links_left k c) o (n * row_size) (r * row_size) p) (h : c ≤ k) where
-  pub links-room : RowsFit (own_links k 1 k) o n → r * row_size + row_size ≤ length p
-  links-room l =
-      rw (link-size k c (c + 1)) at
-      (stored-room _ _ (flat_map row_values (plain_link k c (c + 1) ∷ [])) (own_links_left k (c + 1)) o p (n * row_size) (r * row_size) (links-next k c h) s l)
+module _ (k c at : ℕ) (o p : List ℕ) (s : Stored (flat_map row_values (own_links k 1 k)) (own_links_left k c) o 0 at p) (h : c ≤ k) where
+  pub links_fit : RowsFit (own_links k 1 k) o → at + row_size ≤ length p
+  links_fit l = rw (link-size k c (c + 1)) at (stored-fits _ _ (flat_map row_values (plain_link k c (c + 1) ∷ [])) _ o p at (links-next k c h) s l)
 
-  pub own-links_on : (q : List ℕ) (next : ℕ) → PutsRows (plain_link k c (c + 1) ∷ []) p r next q
-      → Stored (flat_map row_values (own_links k 1 k)) (own_links_left k (c + 1)) o (n * row_size) (next * row_size) q
-  own-links_on q next t = stored_on _ _ (flat_map row_values (plain_link k c (c + 1) ∷ [])) (own_links_left k (c + 1)) o p (n * row_size) (r * row_size) (links-next k c h) s q (next * row_size) t
+  pub links-room : RowsFit (own_links k 1 k) o → row_size ≤ length (take (length p - at) (drop at p))
+  links-room l = part-room p at row_size (links_fit l)
+
+  pub own-links_on : (n : ℕ) (zs : List ℕ) → PutsRows (plain_link k c (c + 1) ∷ []) (take (length p - at) (drop at p)) n zs
+      → Stored (flat_map row_values (own_links k 1 k)) (own_links_left k (c + 1)) o 0 (at + n) (take at p ++ (zs ++ drop (length p - at) (drop at p)))
+  own-links_on n zs t = stored-then _ _ (flat_map row_values (plain_link k c (c + 1) ∷ [])) _ o p at (links-next k c h) s n zs t
 
 -- The blocks are put one by one.
 pub plain-runs_begin : (o : List ℕ) → Stored built_in_numbers (runs_left 0) o 0 0 o
 unfolding built_in_numbers built_in runs_left
 plain-runs_begin o = stored-begin _ o 0
 
-module _ (k n : ℕ) (o p : List ℕ) (s : Stored built_in_numbers (runs_left k) o 0 (n * row_size) p) (h : k < desk_blocks) where
-  pub runs-room : length o ≡ length built_in_numbers → RowsFit (plain_run k) p n
-  runs-room l = stored-room _ _ (flat_map row_values (plain_run k)) (runs_left (k + 1)) o p 0 (n * row_size) (runs-next k h) s (omega arith)
+module _ (k at : ℕ) (o p : List ℕ) (s : Stored built_in_numbers (runs_left k) o 0 at p) (h : k < desk_blocks) where
+  pub runs_fit : length o ≡ length built_in_numbers → at + length (flat_map row_values (plain_run k)) ≤ length p
+  runs_fit l = stored-fits _ _ (flat_map row_values (plain_run k)) _ o p at (runs-next k h) s (omega arith)
 
-  pub plain-runs_on : (q : List ℕ) (next : ℕ) → PutsRows (plain_run k) p n next q → Stored built_in_numbers (runs_left (k + 1)) o 0 (next * row_size) q
-  plain-runs_on q next t = stored_on _ _ (flat_map row_values (plain_run k)) (runs_left (k + 1)) o p 0 (n * row_size) (runs-next k h) s q (next * row_size) t
+  pub runs-room : length o ≡ length built_in_numbers → RowsFit (plain_run k) (take (length p - at) (drop at p))
+  runs-room l = part-room p at _ (runs_fit l)
+
+  pub plain-runs_on : (n : ℕ) (zs : List ℕ) → PutsRows (plain_run k) (take (length p - at) (drop at p)) n zs
+      → Stored built_in_numbers (runs_left (k + 1)) o 0 (at + n) (take at p ++ (zs ++ drop (length p - at) (drop at p)))
+  plain-runs_on n zs t = stored-then _ _ (flat_map row_values (plain_run k)) _ o p at (runs-next k h) s n zs t
 
 -- They fill the lent numbers.
-pub runs-full : (k n : ℕ) (o p : List ℕ) → desk_blocks ≤ k → length o ≡ length built_in_numbers → Stored built_in_numbers (runs_left k) o 0 (n * row_size) p
+pub runs-full : (k at : ℕ) (o p : List ℕ) → desk_blocks ≤ k → length o ≡ length built_in_numbers → Stored built_in_numbers (runs_left k) o 0 at p
     → p ≡ built_in_numbers
 unfolding overwrite
-runs-full k n o p h l s =
-    puts-over built_in_numbers o p (n * row_size) (omega arith) (stored-end _ _ o p 0 (n * row_size) (runs_none k h) s)
+runs-full k at o p h l s =
+    puts-over built_in_numbers o p at (omega arith) (stored-end _ _ o p 0 at (runs_none k h) s)
     ∙ rw (drop_of_length-le o {i = length built_in_numbers} (omega arith)) (append-nil built_in_numbers)
 
--- Rows in two parts: room for them, and both put.
-module _ (vs ws : List Row) (n : ℕ) (o : List ℕ) where
-  rows-first : RowsFit (vs ++ ws) o n → RowsFit vs o n
-  rows-first h = room-first (flat_map row_values vs) (flat_map row_values ws) _ (n * row_size) (length o) (flat_append row_values vs ws) h
+-- A block's numbers: those of its opening, of the links of its own cues, and of two links more.
+unfoldable opening : ℕ → List ℕ
+opening k = flat_map row_values (plain_opening k ∷ [])
 
-  module _ (i : ℕ) (p : List ℕ) (s : PutsRows vs o n i p) where
-    rows_next : RowsFit (vs ++ ws) o n → RowsFit ws p i
-    rows_next h = room_next (flat_map row_values vs) (flat_map row_values ws) _ o p (n * row_size) (i * row_size) (flat_append row_values vs ws) h s
+unfoldable own : ℕ → List ℕ
+own k = flat_map row_values (own_links k 1 k)
 
-    rows_both : (j : ℕ) (q : List ℕ) → PutsRows ws p i j q → PutsRows (vs ++ ws) o n j q
-    rows_both j q t = puts-as (flat_append row_values vs ws) (puts-both s t)
+unfoldable link : ℕ → ℕ → ℕ → List ℕ
+link k a b = flat_map row_values (plain_link k a b ∷ [])
 
--- A block's rows: its opening, the links of its own cues, and two links more.
 unfoldable last_links : ℕ → List Row
 last_links k = plain_link k (k + 1) (k + 3) ∷ plain_link k (k + 2) 1 ∷ []
 
-last-size : (k : ℕ) → length (flat_map row_values (last_links k)) ≡ row_size + row_size
-unfolding flat_map row_values plain_link last_links
-last-size k = refl
-
-run-parts : (k : ℕ) → plain_run k ≡ (plain_opening k ∷ []) ++ (own_links k 1 k ++ last_links k)
+run-rows : (k : ℕ) → plain_run k ≡ (plain_opening k ∷ []) ++ (own_links k 1 k ++ last_links k)
 unfolding plain_run own_links last_links
-run-parts k = refl
+run-rows k = refl
 
-module _ (k n : ℕ) (o : List ℕ) (h : RowsFit (plain_run k) o n) where
-  run_room : RowsFit ((plain_opening k ∷ []) ++ (own_links k 1 k ++ last_links k)) o n
-  run_room = rw (run-parts k) at h
+last-parts : (k : ℕ) → flat_map row_values (last_links k) ≡ link k (k + 1) (k + 3) ++ link k (k + 2) 1
+unfolding last_links link
+last-parts k = flat_append row_values (plain_link k (k + 1) (k + 3) ∷ []) (plain_link k (k + 2) 1 ∷ [])
 
-  pub opening-room : n * row_size + row_size ≤ length o
-  opening-room = rw (opening-size k) at (rows-first (plain_opening k ∷ []) (own_links k 1 k ++ last_links k) n o run_room)
+run-parts : (k : ℕ) → flat_map row_values (plain_run k) ≡ opening k ++ (own k ++ (link k (k + 1) (k + 3) ++ link k (k + 2) 1))
+unfolding opening own
+run-parts k =
+    ap (flat_map row_values) (run-rows k)
+    ∙ flat_append row_values (plain_opening k ∷ []) (own_links k 1 k ++ last_links k)
+    ∙ ap (λ (w : List ℕ). opening k ++ w) (flat_append row_values (own_links k 1 k) (last_links k) ∙ ap (λ (w : List ℕ). own k ++ w) (last-parts k))
 
-  module _ (i : ℕ) (p : List ℕ) (s : PutsRows (plain_opening k ∷ []) o n i p) where
-    behind-opening : RowsFit (own_links k 1 k ++ last_links k) p i
-    behind-opening = rows_next (plain_opening k ∷ []) (own_links k 1 k ++ last_links k) n o i p s run_room
+run-long : (k : ℕ) → length (flat_map row_values (plain_run k)) ≡ row_size + (length (own k) + (row_size + row_size))
+unfolding opening link
+run-long k =
+    ap length (run-parts k)
+    ∙ rw (length-append (opening k), length-append (own k), length-append (link k (k + 1) (k + 3)), opening-size k, link-size k (k + 1) (k + 3), link-size k (k + 2) 1)
 
-    pub own_room : RowsFit (own_links k 1 k) p i
-    own_room = rows-first (own_links k 1 k) (last_links k) i p behind-opening
+-- They are put part by part, and each part has the room that the block has.
+module _ (k : ℕ) (o : List ℕ) (h : RowsFit (plain_run k) o) where
+  pub opening-room : row_size ≤ length o
+  opening-room = omega (arith, run-long k)
 
-    module _ (j : ℕ) (q : List ℕ) (t : PutsRows (own_links k 1 k) p i j q) where
-      behind-own : RowsFit (last_links k) q j
-      behind-own = rows_next (own_links k 1 k) (last_links k) i p j q t behind-opening
+  module _ (i : ℕ) (p : List ℕ) (s : PutsRows (plain_opening k ∷ []) o i p) where
+    pub own_fit : i + length (flat_map row_values (own_links k 1 k)) + (row_size + row_size) ≤ length p
+    unfolding own
+    own_fit = omega (arith, run-long k, opening-size k, s.place, puts-long s)
 
-      pub out_room : j * row_size + row_size ≤ length q
-      out_room = omega (arith, last-size k, behind-own)
+    pub own_room : RowsFit (own_links k 1 k) (take (length p - i) (drop i p))
+    own_room = part-room p i _ (omega (arith, own_fit))
 
-      pub in_room : (a b l : ℕ) (u : List ℕ) → PutsRows (plain_link k a b ∷ []) q j l u → l * row_size + row_size ≤ length u
-      in_room a b l u v = omega (arith, last-size k, behind-own, link-size k a b, v.place, puts-long v)
+    module _ (n : ℕ) (zs : List ℕ) (t : PutsRows (own_links k 1 k) (take (length p - i) (drop i p)) n zs) where
+      abbrev pub q : List ℕ
+      q = take i p ++ (zs ++ drop (length p - i) (drop i p))
 
-      pub run-put : (l m : ℕ) (u w : List ℕ) → PutsRows (plain_link k (k + 1) (k + 3) ∷ []) q j l u → PutsRows (plain_link k (k + 2) 1 ∷ []) u l m w
-          → PutsRows (plain_run k) o n m w
-      unfolding plain_run own_links
-      run-put l m u w v x =
-          rows_both (plain_opening k ∷ []) _ n o i p s m w
-          (rows_both (own_links k 1 k) _ i p j q t m w
-          (rows_both (plain_link k (k + 1) (k + 3) ∷ []) (plain_link k (k + 2) 1 ∷ []) j q l u v m w x))
+      pub out_fit : i + n + (row_size + row_size) ≤ length q
+      out_fit = omega (arith, own_fit, t.place, puts-long (puts-part {o = p} {at = i} t))
+
+      pub out_room : row_size ≤ length (take (length q - (i + n)) (drop (i + n) q))
+      out_room = part-room q (i + n) row_size (omega (arith, out_fit))
+
+      abbrev pub r : List ℕ → List ℕ
+      r ys = take (i + n) q ++ (ys ++ drop (length q - (i + n)) (drop (i + n) q))
+
+      module _ (a b m : ℕ) (ys : List ℕ) (u : PutsRows (plain_link k a b ∷ []) (take (length q - (i + n)) (drop (i + n) q)) m ys) where
+        pub in_fit : i + n + m + row_size ≤ length (r ys)
+        in_fit = omega (arith, out_fit, row-fits k a b m _ ys u, puts-long (puts-part {o = q} {at = i + n} u))
+
+        pub in_room : row_size ≤ length (take (length (r ys) - (i + n + m)) (drop (i + n + m) (r ys)))
+        in_room = part-room (r ys) (i + n + m) row_size in_fit
+
+      pub run-put : (m l : ℕ) (ys xs : List ℕ) → PutsRows (plain_link k (k + 1) (k + 3) ∷ []) (take (length q - (i + n)) (drop (i + n) q)) m ys
+          → PutsRows (plain_link k (k + 2) 1 ∷ []) (take (length (r ys) - (i + n + m)) (drop (i + n + m) (r ys))) l xs
+          → PutsRows (plain_run k) o (i + n + m + l) (take (i + n + m) (r ys) ++ (xs ++ drop (length (r ys) - (i + n + m)) (drop (i + n + m) (r ys))))
+      unfolding opening own link
+      run-put m l ys xs u v =
+          puts-as
+          (run-parts k ∙ sym (append_assoc (opening k) (own k) _) ∙ sym (append_assoc (opening k ++ own k) (link k (k + 1) (k + 3)) (link k (k + 2) 1)))
+          (puts-then (puts-then (puts-then s t) u) v)

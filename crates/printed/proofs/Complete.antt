@@ -11,6 +11,8 @@ use Rattle.model.specs.Lists.{range}
 use Rattle.model.specs.Printed.{printed}
 use Rattle.basics.proofs.Choices.{lt_then, lt_else}
 use Rattle.printed.specs.Parts.{end_of, lines_after, rest_of, is_going, TextBegun, Run, ends, goes}
+use Rattle.std.specs.Prelude.{Some}
+use Rattle.printed.specs.declared.Links.{Links}
 use Rattle.printed.specs.declared.Begun.{Begun}
 use Rattle.printed.proofs.Parts.{no_lines}
 
@@ -47,7 +49,7 @@ run-text bs {m} {text} {u} {p} (ends e) = sym (nothing_left bs m u p e)
 run-text bs (goes {after = after} {r = r} part run) = ap (λ zs. take r.used after ++ zs) (run-text bs run) ∙ sym part.text
 
 -- So the whole text is the one of the file.
-pub whole-text : (file rows t out m text : List ℕ) (r : Begun) → TextBegun file rows t out r → r.more ≡ true
-    → Run (blocks_of (take r.size rows)) m 0 (end_of r.cues) text → take r.used out ++ text ≡ printed file
-whole-text file rows t out m text r b e run =
-    ap (λ zs. take r.used out ++ zs) (run-text (blocks_of (take r.size rows)) run) ∙ sym (b.text e m)
+pub whole-text : (file rows t out m text : List ℕ) (r : Begun) (k : Links) → TextBegun file rows t out r → r.coming ≡ Some k
+    → Run (blocks_of (take k.size rows)) m 0 (end_of k.cues) text → take r.used out ++ text ≡ printed file
+whole-text file rows t out m text r k b e run =
+    ap (λ zs. take r.used out ++ zs) (run-text (blocks_of (take k.size rows)) run) ∙ sym (b.text k e m)

@@ -8,6 +8,6 @@ pub prints_as_demanded : PrintsAsDemanded
 prints_as_demanded =
     record {
       whole = λ file rows t out r b e. rw (b.whole e) (is-printed file);
-      parts = λ file rows t out m text r b e run. rw (whole-text file rows t out m text r b e run) (is-printed file);
+      parts = λ file rows t out m text r k b e run. rw (whole-text file rows t out m text r k b e run) (is-printed file);
       one = one-text;
     }

@@ -1,6 +1,9 @@
 -- Laws of the parts.
 use Prim.Native.Nat.{ℕ, suc, ◌+◌, ◌*◌, ◌-◌, ◌≤◌, ◌<◌}
 use native.Mathlib.Omega.{arith}
+use native.Mathlib.Decide.{dec_lt}
+use lib.Dec.{ltb}
+use borrow.Author.Tests.{lt-ltb, le-ltb}
 use mathlib.Core.Path.{◌≡◌, refl, sym, ◌∙◌, ap}
 use mathlib.Core.Bool.{Bool, true, false}
 use mathlib.Core.List.{List, [], ◌++◌, flat_map, append_assoc}
@@ -10,10 +13,9 @@ use Rattle.model.specs.Blocks.{Block, blocks_of, count}
 use Rattle.model.specs.Lists.{range, keep}
 use Rattle.model.specs.Unfolding.{show_links}
 use Rattle.basics.proofs.Choices.{lt_then, lt_else}
-use Rattle.triples.specs.Marks.{label_places, marks_size, Marked}
+use Rattle.triples.specs.Marks.{label_places, Marked}
 use Rattle.printing.specs.Stream.{cue_lines, marks_from, lines_from, Fills}
 use Rattle.printing.proofs.Triples.{marked-lines}
-use Rattle.blocks.specs.Loaded.{Loaded}
 use Rattle.printed.specs.Parts.{end_of, lines_after, rest_of, is_going, Prints, Stands, Part}
 
 -- At the end of a table there is no line.
@@ -28,17 +30,24 @@ next-lines bs u h = let e : count bs - u ≡ suc (count bs - suc u) = omega arit
 
 -- The tests for something to come.
 module _ (cues u p w : ℕ) (same : w ≡ cues) where
-  pub going_here : p < label_places * w + label_places → true ≡ is_going cues u p
+  pub going_here : p < label_places * w + label_places → ltb p (label_places * w + label_places) ≡ is_going cues u p
   unfolding is_going
-  going_here h = sym (lt_then p (end_of cues) _ _ (omega arith))
+  going_here h = lt-ltb p (label_places * w + label_places) h ∙ sym (lt_then p (end_of cues) _ _ (omega arith))
 
-  pub going_next : label_places * w + label_places ≤ p → u < cues → true ≡ is_going cues u p
+  going_next : label_places * w + label_places ≤ p → u < cues → true ≡ is_going cues u p
   unfolding is_going
   going_next h l = sym (lt_else p (end_of cues) _ _ (omega arith) ∙ lt_then u cues _ _ l)
 
-  pub going_not : label_places * w + label_places ≤ p → cues ≤ u → false ≡ is_going cues u p
+  going_not : label_places * w + label_places ≤ p → cues ≤ u → false ≡ is_going cues u p
   unfolding is_going
   going_not h l = sym (lt_else p (end_of cues) _ _ (omega arith) ∙ lt_else u cues _ _ l)
+
+  pub going_else : label_places * w + label_places ≤ p → ltb u cues ≡ is_going cues u p
+  going_else h = go (dec_lt u cues)
+    where
+      go : Dec (u < cues) → ltb u cues ≡ is_going cues u p
+      go (yes l) = lt-ltb u cues l ∙ going_next h l
+      go (no n) = le-ltb u cues (omega arith) ∙ going_not h (omega arith)
 
 -- A part of the lines of the cue at hand.
 module _ (xs t : List ℕ) (cues : ℕ) (g : Prints xs t cues) (u p : ℕ) (m : List ℕ) (s : Stands (blocks_of xs) m u p) (w : ℕ) (same : w ≡ cues) where
@@ -97,6 +106,6 @@ module _ (xs t : List ℕ) (cues : ℕ) (g : Prints xs t cues) (u p : ℕ) (m : 
       }
 
 -- What the table of the next cue asks for.
-pub cue-asks : (xs t : List ℕ) (cues u l : ℕ) → Prints xs t cues → u < cues → l ≡ marks_size
-    → Loaded xs t × (1 ≤ u + 1) × (u + 1 ≤ count (blocks_of xs)) × (count (blocks_of xs) ≤ printed_cues) × (l ≡ marks_size)
-cue-asks xs t cues u l g h e = (g.loaded, omega arith, omega (arith, g.all), omega (arith, g.all, g.few), e)
+pub cue-asks : (xs t : List ℕ) (cues u : ℕ) → Prints xs t cues → u < cues
+    → (1 ≤ u + 1) × (u + 1 ≤ count (blocks_of xs)) × (count (blocks_of xs) ≤ printed_cues)
+cue-asks xs t cues u g h = (omega arith, omega (arith, g.all), omega (arith, g.all, g.few))

@@ -2,17 +2,17 @@
 use Prim.Native.Nat.{ℕ, ◌-◌, ◌≤◌, ◌<◌}
 use native.Mathlib.Omega.{arith}
 use mathlib.Core.Path.{◌≡◌, refl, sym, ◌∙◌, ap}
-use mathlib.Core.Bool.{true, false}
 use mathlib.Core.List.{List, [], ◌∷◌, ◌++◌}
 use lib.ListN.{take, drop}
+use Rattle.std.specs.Prelude.{Ok, Err, Some, None}
+use Rattle.std.proofs.lemmas.Option.{none-some, same_Some}
 use Rattle.model.specs.Limits.{printed_cues}
 use Rattle.model.specs.Blocks.{Block, blocks_of, count}
 use Rattle.model.specs.Printed.{values_text, links_title, cues_title, refusal_text, show_text, printed}
-use Rattle.model.specs.Verdicts.{read_file, numbers_of, file_verdict}
+use Rattle.model.specs.Verdicts.{refusal, read_file, numbers_of, file_verdict}
 use Rattle.model.specs.declared.Refusal.{Refusal}
-use Rattle.loading.specs.Loads.{Loads}
-use Rattle.loading.specs.declared.Loading.{Loading}
-use Rattle.loading.specs.declared.Loading.TheVariants.{Ready, Refused as Unloaded}
+use Rattle.blocks.specs.Loaded.{Loaded}
+use Rattle.loading.specs.Loads.{Loads, Loading}
 use Rattle.loading.proofs.Outcomes.{rows-room, part-loaded, loaded-yes, loaded-no}
 use Rattle.printing.specs.Stream.{StartsWith}
 use Rattle.printing.proofs.Triples.{show_lines, show_count}
@@ -32,57 +32,58 @@ module _ (bs : List Block) (cues : ℕ) (all : cues ≡ count bs) (few : cues �
 
 -- The three beginnings, of a file that was loaded with the answer a.
 module _ (file rows t : List ℕ) (a : Loading) (l : Loads (file_verdict file) (numbers_of (read_file file)) a rows t) (out : List ℕ) (used : ℕ) where
-  begun_whole : (w : List ℕ) (r : Begun) → printed file ≡ w → StartsWith w used out → (r.used ≡ used) × (r.more ≡ false) → TextBegun file rows t out r
+  begun_whole : (w : List ℕ) (r : Begun) → printed file ≡ w → StartsWith w used out → (r.used ≡ used) × (r.coming ≡ None) → TextBegun file rows t out r
   begun_whole w r e s d =
       record {
         fits = rw d.0 s.fits;
         whole = λ g. rw d.0 s.text ∙ sym e;
-        size = λ g. absurd (never g);
-        ready = λ g. absurd (never g);
-        text = λ g. absurd (never g);
+        size = λ k g. absurd (none-some k (sym d.1 ∙ g));
+        ready = λ k g. absurd (none-some k (sym d.1 ∙ g));
+        text = λ k g. absurd (none-some k (sym d.1 ∙ g));
       }
-    where
-      never : r.more ≡ true → ⊥
-      never g = let z : ◌≡◌ {A = ℕ} 0 1 = cc (sym g ∙ d.1) in omega arith
 
-  pub refused-begun : (f : Refusal) (r : Begun) → a ≡ Unloaded f → StartsWith (refusal_text f) used out → (r.used ≡ used) × (r.more ≡ false)
-      → TextBegun file rows t out r
-  unfolding printed
-  refused-begun f r e s d =
+  pub refused-begun : (f : Refusal) (n p : ℕ) (r : Begun) → a ≡ Err f → n ≡ f.number → p ≡ f.place → StartsWith (refusal_text (refusal n p)) used out
+      → (r.used ≡ used) × (r.coming ≡ None) → TextBegun file rows t out r
+  unfolding printed refusal
+  refused-begun f n p r e number place text d =
+      let s : StartsWith (refusal_text f) used out = rw (← number, ← place) text in
       begun_whole (refusal_text f) r
       (sym (loaded-no (file_verdict file) (numbers_of (read_file file)) rows t a l refusal_text (show_text (blocks_of (numbers_of (read_file file)))) (refusal_text f)
       f e refl))
       s d
 
-  -- n numbers, as the code lends them, and their count.
-  module _ (n : ℕ) (e : a ≡ Ready n) (cues : ℕ) (all : cues ≡ count (blocks_of (take (n - 0) (drop 0 rows)))) where
+  -- n numbers, and their count.
+  module _ (n : ℕ) (e : a ≡ Ok n) where
+    lent : take n rows ≡ take (n - 0) (drop 0 rows)
+    lent = let z : n - 0 ≡ n = omega arith in rw z refl
+
+    pub rows-loaded : Loaded (take n rows) t
+    rows-loaded = rw lent (part-loaded (file_verdict file) (numbers_of (read_file file)) rows t a l n e)
+
+  module _ (n : ℕ) (e : a ≡ Ok n) (cues : ℕ) (all : cues ≡ count (blocks_of (take n rows))) where
     abbrev part : List ℕ
-    part = take (n - 0) (drop 0 rows)
+    part = take n rows
 
     shown : printed file ≡ show_text (blocks_of part)
     unfolding printed
     shown =
         sym (loaded-yes (file_verdict file) (numbers_of (read_file file)) rows t a l n e refusal_text (λ zs. show_text (blocks_of zs)) (show_text (blocks_of part))
-        refl)
+        (ap (λ zs. show_text (blocks_of zs)) (lent n e)))
 
-    pub count-begun : (r : Begun) → printed_cues < cues → StartsWith (cues_title ++ values_text (cues ∷ [])) used out → (r.used ≡ used) × (r.more ≡ false)
+    pub count-begun : (r : Begun) → printed_cues < cues → StartsWith (cues_title ++ values_text (cues ∷ [])) used out → (r.used ≡ used) × (r.coming ≡ None)
         → TextBegun file rows t out r
     count-begun r h s d =
         begun_whole (cues_title ++ values_text (cues ∷ [])) r
         (shown ∙ show_count (blocks_of part) (omega (arith, all)) ∙ ap (λ k. cues_title ++ values_text (k ∷ [])) (sym all)) s d
 
     pub links-begun : cues ≤ printed_cues → StartsWith links_title used out
-        → TextBegun file rows t out (record { used = used; more = true; size = n; cues = cues })
+        → TextBegun file rows t out (record { used = used; coming = Some (record { size = n; cues = cues }) })
     links-begun few s =
-        let same : take n rows ≡ part = let z : n - 0 ≡ n = omega arith in rw z refl in
         record {
           fits = s.fits;
-          whole = λ g. absurd (never g);
-          size = λ g. rows-room (file_verdict file) (numbers_of (read_file file)) rows t a l n e;
-          ready = λ g. rw same (record { loaded = part-loaded (file_verdict file) (numbers_of (read_file file)) rows t a l n e; all = all; few = few });
-          text = λ g m. rw (same, s.text)
+          whole = λ g. absurd (none-some _ (sym g));
+          size = λ k g. rw (← same_Some _ k g) (rows-room (file_verdict file) (numbers_of (read_file file)) rows t a l n e);
+          ready = λ k g. rw (← same_Some _ k g) (record { loaded = rows-loaded n e; all = all; few = few });
+          text = λ k g m. rw (← same_Some _ k g, s.text)
               (shown ∙ title (blocks_of part) cues all few ∙ ap (λ zs. links_title ++ zs) (none_yet (blocks_of part) cues all few m));
         }
-      where
-        never : true ≡ false → ⊥
-        never g = let z : ◌≡◌ {A = ℕ} 0 1 = cc in omega arith

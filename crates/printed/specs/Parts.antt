@@ -1,5 +1,5 @@
 -- The text that the unfolding program prints, in parts that fit a lent buffer: what it begins with, and what is still to come.
-use Rattle.std.specs.Prelude.{ℕ, suc, ◌+◌, ◌*◌, ◌-◌, ◌≤◌, ◌<◌, ◌≡◌, Bool, true, false, length, take}
+use Rattle.std.specs.Prelude.{ℕ, suc, ◌+◌, ◌*◌, ◌-◌, ◌≤◌, ◌<◌, ◌≡◌, Bool, true, false, length, take, Some, None}
 use mathlib.Core.List.{List, [], ◌++◌, flat_map}
 use Rattle.model.specs.Choice.{if_lt}
 use Rattle.model.specs.Limits.{printed_cues}
@@ -10,6 +10,7 @@ use Rattle.model.specs.Unfolding.{show_links}
 use Rattle.blocks.specs.Loaded.{Loaded}
 use Rattle.triples.specs.Marks.{label_places, marks_size, Marked}
 use Rattle.printing.specs.Stream.{cue_lines, lines_from}
+use Rattle.printed.specs.declared.Links.{Links}
 use Rattle.printed.specs.declared.Begun.{Begun}
 use Rattle.printed.specs.declared.At.{At}
 
@@ -54,13 +55,13 @@ pub record Part (bs : List Block) (u p : ℕ) (m out : List ℕ) (r : At) (m' af
   pub text : rest_of bs m u p ≡ take r.used after ++ rest_of bs m' r.from r.place
   pub gets_on : 33 ≤ length out → is_going (count bs) u p ≡ true → left r.from r.place < left u p
 
--- The text of a file has begun: all of it is there, or its title is, and the lines of all links are still to come.
+-- The text of a file has begun: all of it is there, or its title is, and the lines of all links of the show k are still to come.
 pub record TextBegun (file rows t out : List ℕ) (r : Begun) : Type 0 where
   pub fits : r.used ≤ length out
-  pub whole : r.more ≡ false → take r.used out ≡ printed file
-  pub size : r.more ≡ true → r.size ≤ length rows
-  pub ready : r.more ≡ true → Prints (take r.size rows) t r.cues
-  pub text : r.more ≡ true → (m : List ℕ) → printed file ≡ take r.used out ++ rest_of (blocks_of (take r.size rows)) m 0 (end_of r.cues)
+  pub whole : r.coming ≡ None → take r.used out ≡ printed file
+  pub size : (k : Links) → r.coming ≡ Some k → k.size ≤ length rows
+  pub ready : (k : Links) → r.coming ≡ Some k → Prints (take k.size rows) t k.cues
+  pub text : (k : Links) → r.coming ≡ Some k → (m : List ℕ) → printed file ≡ take r.used out ++ rest_of (blocks_of (take k.size rows)) m 0 (end_of k.cues)
 
 -- Parts one after the other, from a place until nothing is left; and all that they put out.
 pub data Run (bs : List Block) : List ℕ → ℕ → ℕ → List ℕ → Type 0 where

@@ -4,58 +4,71 @@ use native.Mathlib.Omega.{arith}
 use native.Mathlib.Numerals.{add-one}
 use mathlib.Core.Path.{◌≡◌, refl, sym, ◌∙◌, ap}
 use mathlib.Core.Logic.{◌⊎◌, inl, inr}
-use mathlib.Core.List.{List, [], ◌∷◌, ◌++◌, flat_map}
-use lib.ListN.{length}
-use Rattle.model.specs.Choice.{if_lt}
-use Rattle.basics.proofs.Choices.{lt_then}
+use mathlib.Core.List.{List, ◌++◌, flat_map}
+use lib.ListN.{length, get_or, take, drop}
 use Rattle.codec.specs.Writing.{Puts}
-use Rattle.codec.proofs.Stores.{puts-long, Stored, stored-begin, stored_on}
-use Rattle.printing.specs.Stream.{line_of, marks_from, lines_from, FirstMark, Fills}
+use Rattle.codec.proofs.Stores.{puts-long, puts-part, part-room, Stored, stored-begin, stored-then}
+use Rattle.printing.specs.Stream.{line_of, lines_from, Fills}
 use Rattle.printing.proofs.Lines.{line_long, begins}
+use Rattle.printing.proofs.Marks.{marks-skip, marks-hit}
 
 -- A buffer has changed from o to q while its first bytes were used for the lines of the places before the one that was come to.
 pub record Filling (m : List ℕ) (u p e : ℕ) (o : List ℕ) (place used : ℕ) (q : List ℕ) : Type 0 where
   pub from : p ≤ place
   pub upto : place ≤ e
   pub fits : used ≤ length q
-  pub first : marks_from m place e ≡ if_lt place e (place ∷ marks_from m (suc place) e) []
   pub stored : Stored (lines_from m u p e) (lines_from m u place e) o 0 used q
   pub started : (used ≡ 0) ⊎ (p < place)
 
 module _ (m : List ℕ) (u p e : ℕ) (o : List ℕ) where
-  -- What is left begins at the first mark.
-  lines_same : (i r : ℕ) → FirstMark m i e r → lines_from m u r e ≡ lines_from m u i e
-  unfolding lines_from
-  lines_same i r f = ap (flat_map (line_of u)) (sym f.same)
-
-  pub filling_begin : (r : ℕ) → FirstMark m p e r → Filling m u p e o r 0 o
-  filling_begin r f =
+  pub filling_begin : p ≤ e → Filling m u p e o p 0 o
+  filling_begin h =
       record {
-        from = f.from;
-        upto = f.upto;
+        from = omega arith;
+        upto = h;
         fits = omega arith;
-        first = sym f.same ∙ f.rest;
-        stored = rw (lines_same p r f) (stored-begin (lines_from m u p e) o 0);
+        stored = stored-begin (lines_from m u p e) o 0;
         started = inl refl;
       }
 
   module _ (place used : ℕ) (q : List ℕ) (s : Filling m u p e o place used q) where
-    line_first : place < e → lines_from m u place e ≡ line_of u place ++ lines_from m u (place + 1) e
+    -- A place that is not marked has no line, and one that is has the next.
+    line_none : place < e → (get_or m place 0 ≡ 1 → ⊥) → lines_from m u (place + 1) e ≡ lines_from m u place e
+    unfolding lines_from
+    line_none h n = rw (add-one place) (ap (flat_map (line_of u)) (sym (marks-skip m place e h n)))
+
+    line_first : place < e → get_or m place 0 ≡ 1 → lines_from m u place e ≡ line_of u place ++ lines_from m u (place + 1) e
     unfolding lines_from flat_map
-    line_first h = rw (add-one place) (ap (flat_map (line_of u)) (s.first ∙ lt_then _ _ _ _ h))
+    line_first h n = rw (add-one place) (ap (flat_map (line_of u)) (marks-hit m place e h n))
+
+    pub filling_skip : place < e → (get_or m place 0 ≡ 1 → ⊥) → Filling m u p e o (place + 1) used q
+    filling_skip h n =
+        record {
+          from = omega (arith, s.from);
+          upto = omega arith;
+          fits = s.fits;
+          stored = rw (line_none h n) s.stored;
+          started = inr (omega (arith, s.from));
+        }
 
     -- One line more.
-    pub filling_on : (i r : ℕ) (t : List ℕ) → place < e → 33 ≤ length q - used → Puts (line_of u place) q used i t
-        → FirstMark m (place + 1) e r → Filling m u p e o r i t
-    filling_on i r t h k l f =
-        record {
-          from = omega (arith, s.from, f.from);
-          upto = f.upto;
-          fits = omega (arith, puts-long l, l.place, line_long u place);
-          first = sym f.same ∙ f.rest;
-          stored = rw (lines_same (place + 1) r f) (stored_on _ _ _ _ o q 0 used (line_first h) s.stored t i l);
-          started = inr (omega (arith, s.from, f.from));
-        }
+    module _ (h : place < e) (n : get_or m place 0 ≡ 1) (k : 33 ≤ length q - used) where
+      pub place_room : 33 ≤ length (take (length q - used) (drop used q))
+      place_room = part-room q used 33 (omega (arith, s.fits))
+
+      module _ (i : ℕ) (zs : List ℕ) (l : Puts (line_of u place) (take (length q - used) (drop used q)) 0 i zs) where
+        pub line_fits : used + i ≤ length q
+        line_fits = omega (arith, s.fits, l.place, line_long u place)
+
+        pub filling_on : Filling m u p e o (place + 1) (used + i) (take used q ++ (zs ++ drop (length q - used) (drop used q)))
+        filling_on =
+            record {
+              from = omega (arith, s.from);
+              upto = omega arith;
+              fits = omega (arith, puts-long (puts-part {o = q} {at = used} l), line_fits);
+              stored = stored-then _ _ _ _ o q used (line_first h n) s.stored i zs l;
+              started = inr (omega (arith, s.from));
+            }
 
     filled : (33 ≤ length o → p < e → p < place) → Fills m u p e o place used q
     filled on =
@@ -72,8 +85,10 @@ module _ (m : List ℕ) (u p e : ℕ) (o : List ℕ) where
         }
 
     -- It ends where no place is left, or no room for a line.
-    pub filling_end : e ≤ place → Fills m u p e o place used q
-    filling_end h = filled (λ a b. omega arith)
+    pub filling_end : e ≤ place → Fills m u p e o e used q
+    filling_end h =
+        let same : place ≡ e = omega (arith, s.upto) in
+        rw same at (filled (λ a b. omega arith))
 
     pub filling_full : length q - used < 33 → Fills m u p e o place used q
     filling_full h = filled (λ a b. go a s.started)

@@ -1,16 +1,14 @@
--- The digits of a number, and how they are stored one behind the other.
+-- The digits of a number.
 use Prim.Native.Nat.{ℕ, zero, suc, ◌+◌, ◌*◌, ◌/◌, ◌%◌, ◌≤◌, ◌<◌}
 use native.Mathlib.Omega.{arith}
 use mathlib.Core.Path.{◌≡◌, refl, sym, ◌∙◌, ap}
 use mathlib.Core.Bool.{Bool, true, false}
 use mathlib.Core.List.{List, [], ◌∷◌, ◌++◌}
-use lib.ListN.{length, set, length-append}
+use lib.ListN.{length, length-append}
 use lib.Dec.{ltb}
 use borrow.Author.Tests.{ltb-true, ltb-false}
 use Rattle.model.specs.Printed.{number_text}
 use Rattle.basics.proofs.Printed.{ten_to, number-one, number_more}
-use Rattle.codec.specs.Writing.{Puts}
-use Rattle.codec.proofs.Stores.{puts-byte, puts-both, puts-as, room-first, room_next}
 
 -- It has at most as many digits as it may have.
 pub number-long : (d n : ℕ) → length (number_text d n) ≤ d
@@ -35,30 +33,8 @@ same_digits (suc d) (suc e) n h k = go (same_digits d e (n / 10) (omega arith) (
     go p false t =
         number_more (suc d) n (ltb-false n 10 t) ∙ ap (λ (w : List ℕ). w ++ ((48 + n % 10) ∷ [])) p ∙ sym (number_more (suc e) n (ltb-false n 10 t))
 
-module _ (n : ℕ) where
-  -- So a number of the machine is the digits of its tenth and the last one.
-  tenth : 10 ≤ n → n < 4294967296 → number_text 10 n ≡ number_text 10 (n / 10) ++ ((48 + n % 10) ∷ [])
-  unfolding ten_to
-  tenth h k =
-      number_more 9 n h ∙ ap (λ (w : List ℕ). w ++ ((48 + n % 10) ∷ [])) (same_digits 8 9 (n / 10) (omega arith) (omega arith))
-
-  -- Room for its digits is room for the first ones, and for the last one behind them.
-  pub digit_room : (at l : ℕ) → n < 10 → at + length (number_text 10 n) ≤ l → at < l
-  digit_room at l h r = omega (arith, ap length (number-one 9 n h))
-
-  module _ (h : 10 ≤ n) (k : n < 4294967296) where
-    pub tenth_room : (at l : ℕ) → at + length (number_text 10 n) ≤ l → at + length (number_text 10 (n / 10)) ≤ l
-    tenth_room at l r = room-first (number_text 10 (n / 10)) ((48 + n % 10) ∷ []) _ at l (tenth h k) r
-
-    pub last-room : (at i : ℕ) (o p : List ℕ) → at + length (number_text 10 n) ≤ length o → Puts (number_text 10 (n / 10)) o at i p
-        → i < length p
-    last-room at i o p r s = omega (arith, room_next _ ((48 + n % 10) ∷ []) _ o p at i (tenth h k) r s)
-
-    pub puts-last : (at i d : ℕ) (o p : List ℕ) → d ≡ 48 + n % 10 → Puts (number_text 10 (n / 10)) o at i p
-        → Puts (number_text 10 n) o at (i + 1) (set p i d)
-    puts-last at i d o p e s = puts-as (tenth h k ∙ rw (← e)) (puts-both s (puts-byte p i d))
-
-  pub puts-digit : (at d : ℕ) (o : List ℕ) → n < 10 → d ≡ 48 + n % 10 → Puts (number_text 10 n) o at (at + 1) (set o at d)
-  puts-digit at d o h e =
-      let q : 48 + n ≡ d = omega arith in
-      puts-as (number-one 9 n h ∙ rw q) (puts-byte o at d)
+-- So a number of the machine is the digits of its tenth and the last one.
+pub tenth : (n : ℕ) → 10 ≤ n → n < 4294967296 → number_text 10 n ≡ number_text 10 (n / 10) ++ ((48 + n % 10) ∷ [])
+unfolding ten_to
+tenth n h k =
+    number_more 9 n h ∙ ap (λ (w : List ℕ). w ++ ((48 + n % 10) ∷ [])) (same_digits 8 9 (n / 10) (omega arith) (omega arith))

@@ -1,7 +1,7 @@
 -- The lines of one cue's links, place by place of its table of marks.
 use Rattle.std.specs.Prelude.{ℕ, suc, ◌-◌, ◌≤◌, ◌<◌, ◌/◌, ◌%◌, ◌≡◌, Bool, true, false, length, get_or, take}
 use mathlib.Core.List.{List, [], ◌∷◌, ◌++◌, flat_map}
-use Rattle.model.specs.Choice.{if_lt, if_eq}
+use Rattle.model.specs.Choice.{if_eq}
 use Rattle.model.specs.Blocks.{Link}
 use Rattle.model.specs.Lists.{range, keep}
 use Rattle.model.specs.Printed.{number_text, values_text, triples_of}
@@ -34,13 +34,6 @@ marks_from m p e = keep (marked m) (range p (e - p))
 -- Their lines.
 unfoldable pub lines_from : List ℕ → ℕ → ℕ → ℕ → List ℕ
 lines_from m u p e = flat_map (line_of u) (marks_from m p e)
-
--- r is the first marked place from p on, or e if there is none below e.
-pub record FirstMark (m : List ℕ) (p e r : ℕ) : Type 0 where
-  pub from : p ≤ r
-  pub upto : r ≤ e
-  pub same : marks_from m p e ≡ marks_from m r e
-  pub rest : marks_from m p e ≡ if_lt r e (r ∷ marks_from m (suc r) e) []
 
 -- Lines from place p on were put at the start of a list, which changed from `out` to `after`: those before the place that was come to.
 pub record Fills (m : List ℕ) (u p e : ℕ) (out : List ℕ) (place used : ℕ) (after : List ℕ) : Type 0 where

@@ -1,13 +1,14 @@
 // The text that the unfolding program prints: numbers, lines and titles, put into lent bytes.
 #![tactic(auto)]
 
-ghost use Rattle.std.specs.Prelude.{◌≡◌, [], ◌∷◌, ◌++◌, ◌+◌, ◌≤◌, ◌<◌, ◌%◌, length};
-ghost use Rattle.model.specs.Printed.{number_text, values_text, links_title, cues_title, refusal_text};
+ghost use Rattle.std.specs.Prelude.{◌≡◌, [], ◌∷◌, ◌++◌, ◌≤◌, ◌<◌, length};
+ghost use Rattle.model.specs.Verdicts.{refusal};
+ghost use Rattle.model.specs.Printed.{values_text, links_title, cues_title, refusal_text};
 ghost use Rattle.codec.specs.Writing.{Puts};
-ghost use Rattle.printing.specs.Stream.{ended_text, line_of, FirstMark, Fills, StartsWith};
+ghost use Rattle.printing.specs.Stream.{ended_text, line_of, Fills, StartsWith};
 ghost use Rattle.triples.specs.Marks.{marks_size};
 
-use model::Refusal;
+use lines::{COMMA, LINE_FEED};
 use triples::{LABEL_PLACES, MARKS};
 
 // The titles.
@@ -27,101 +28,75 @@ pub struct Filled {
     pub used: usize,
 }
 
-// The last digit of a number.
-fn digit(n: u32) -> u8
-    ensures { result ≡ 48 + n % 10 }
+// Writes a number and the byte behind it: the digits before the last one are those of its tenth, and the last one is the byte behind them.
+// Kept: apart from the writing of a value in `codec`, which is without recursion for speed and knows five digits.
+fn put_ended(n: u32, end: u8, out: &mut [u8]) -> usize
+    requires { 11 ≤ length out.old }
+    ensures { Puts (ended_text n end) out.old 0 result out.new }
 {
-    (n % 10) as u8 + 48
-}
-
-// Writes a number's digits.
-fn put_number(n: u32, out: &mut [u8], at: usize) -> usize
-    requires { at + length (number_text 10 n) ≤ length out.old }
-    ensures { Puts (number_text 10 n) out.old at result out.new }
-{
+    let last = codec::digit(n);
     if n < 10 {
-        out[at] = digit(n);
-        return at + 1;
+        out[0] = last;
+        out[1] = end;
+        return 2;
     }
-    let i = put_number(n / 10, out, at);
-    out[i] = digit(n);
-    i + 1
-}
-
-// Writes a number and the byte behind it.
-fn put_ended(n: u32, end: u8, out: &mut [u8], at: usize) -> usize
-    requires { at + 11 ≤ length out.old }
-    ensures { Puts (ended_text n end) out.old at result out.new }
-{
-    let i = put_number(n, out, at);
-    out[i] = end;
-    i + 1
+    let at = put_ended(n / 10, last, out);
+    out[at] = end;
+    at + 1
 }
 
 // Writes a line of one value, of two and of three.
-pub fn put_one(a: u32, out: &mut [u8], at: usize) -> usize
-    requires { at + 11 ≤ length out.old }
-    ensures { Puts (values_text (a ∷ [])) out.old at result out.new }
+// Kept: three functions, for one over a list is no plainer: it has to know which value is the last, and fixed lines of two and three are all that is printed.
+pub fn put_one(a: u32, out: &mut [u8]) -> usize
+    requires { 11 ≤ length out.old }
+    ensures { Puts (values_text (a ∷ [])) out.old 0 result out.new }
 {
-    put_ended(a, 10, out, at)
+    put_ended(a, LINE_FEED, out)
 }
 
-pub fn put_pair(a: u32, b: u32, out: &mut [u8], at: usize) -> usize
-    requires { at + 22 ≤ length out.old }
-    ensures { Puts (values_text (a ∷ b ∷ [])) out.old at result out.new }
+pub fn put_pair(a: u32, b: u32, out: &mut [u8]) -> usize
+    requires { 22 ≤ length out.old }
+    ensures { Puts (values_text (a ∷ b ∷ [])) out.old 0 result out.new }
 {
-    let i = put_ended(a, 44, out, at);
-    put_one(b, out, i)
+    let at = put_ended(a, COMMA, out);
+    at + put_one(b, &mut out[at..])
 }
 
-pub fn put_line(from: u32, to: u32, label: u32, out: &mut [u8], at: usize) -> usize
-    requires { at + 33 ≤ length out.old }
-    ensures { Puts (values_text (from ∷ to ∷ label ∷ [])) out.old at result out.new }
+pub fn put_line(from: u32, to: u32, label: u32, out: &mut [u8]) -> usize
+    requires { 33 ≤ length out.old }
+    ensures { Puts (values_text (from ∷ to ∷ label ∷ [])) out.old 0 result out.new }
 {
-    let i = put_ended(from, 44, out, at);
-    put_pair(to, label, out, i)
+    let at = put_ended(from, COMMA, out);
+    at + put_pair(to, label, &mut out[at..])
 }
 
 // Writes the line of the link from cue u that a place of the table stands for.
-fn put_place(u: u32, p: usize, out: &mut [u8], at: usize) -> usize
-    requires { (p < marks_size) × (at + 33 ≤ length out.old) }
-    ensures { Puts (line_of u p) out.old at result out.new }
+fn put_place(u: u32, place: usize, out: &mut [u8]) -> usize
+    requires { (place < marks_size) × (33 ≤ length out.old) }
+    ensures { Puts (line_of u place) out.old 0 result out.new }
 {
-    let to = (p / LABEL_PLACES) as u32;
-    let label = (p % LABEL_PLACES) as u32;
-    put_line(u, to, label, out, at)
-}
-
-// The first marked place from p on, or e if there is none below e.
-fn next(m: &[u8; MARKS], p: usize, e: usize) -> usize
-    requires { (p ≤ e) × (e ≤ marks_size) }
-    ensures { FirstMark m.now p e result }
-{
-    let mut i = p;
-    while i < e {
-        if m[i] == 1 {
-            return i;
-        }
-        i += 1;
-    }
-    e
+    let to = (place / LABEL_PLACES) as u32;
+    let label = (place % LABEL_PLACES) as u32;
+    put_line(u, to, label, out)
 }
 
 // Puts the lines of the marked places from p up to e into a buffer, as long as there is room for any line.
+// Kept: p and e are no plainer as a Range: they are places of the table of marks, none of the buffer, and the answer has a place of that table.
 pub fn fill(m: &[u8; MARKS], u: u32, p: usize, e: usize, out: &mut [u8]) -> Filled
     requires { (p ≤ e) × (e ≤ marks_size) }
     ensures { Fills m.now u p e out.old result.place result.used out.new }
 {
-    let mut place = next(m, p, e);
     let mut used = 0;
-    while place < e {
+    for place in p..e {
+        if m[place] != 1 {
+            continue;
+        }
         if out.len() - used < LINE {
             return Filled { place, used };
         }
-        used = put_place(u, place, out, used);
-        place = next(m, place + 1, e);
+        used += put_place(u, place, &mut out[used..]);
     }
-    Filled { place, used }
+    Filled { place: e, used }
 }
 
 // Puts the title of the links at the start of a buffer.
@@ -136,15 +111,15 @@ pub fn put_count(cues: u32, out: &mut [u8; 64]) -> usize
     ensures { StartsWith (cues_title ++ values_text (cues ∷ [])) result out.new }
 {
     let at = codec::put_bytes(&CUES, out);
-    put_one(cues, out, at)
+    at + put_one(cues, &mut out[at..])
 }
 
 // Puts a refusal there, with its title.
-pub fn put_refusal(refusal: Refusal, out: &mut [u8; 64]) -> usize
-    ensures { StartsWith (refusal_text refusal) result out.new }
+// Kept: alike to put_count but for the title and the line, of one value there and of two here; a function that is lent both is no plainer. And two numbers,
+// by what may not change: the clause is of any two, which a `Refusal` is not.
+pub fn put_refusal(number: u32, place: u32, out: &mut [u8; 64]) -> usize
+    ensures { StartsWith (refusal_text (refusal number place)) result out.new }
 {
-    let number = refusal.number;
-    let place = refusal.place;
     let at = codec::put_bytes(&REFUSAL, out);
-    put_pair(number, place, out, at)
+    at + put_pair(number, place, &mut out[at..])
 }

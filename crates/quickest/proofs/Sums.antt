@@ -27,16 +27,15 @@ use Rattle.distances.proofs.Closure.{ExactTable}
 use Rattle.distances.proofs.Lightest.{least-only, told-lightest}
 use Rattle.distances.proofs.Knowing.{estimates-tells, told-exact}
 use Rattle.distances.proofs.Quickest.{quickest-lightest}
-use Rattle.blocks.specs.Loaded.{Loaded, IsBlock}
+use Rattle.blocks.specs.Loaded.{Loaded}
 use Rattle.blocks.specs.Places.{Found}
 use Rattle.blocks.specs.declared.Place.{Place}
 use Rattle.blocks.proofs.Loaded.{loaded-show}
-use Rattle.searches.specs.Starts.{estimates_size}
 use Rattle.searches.specs.Edges.{numbers, Only, SpreadIn, MaySettle}
 use Rattle.searches.specs.Joins.{RowKept}
-use Rattle.searches.proofs.Parts.{block-count, part-lent, part_length, part-put, part-kept}
+use Rattle.searches.proofs.Parts.{block-count, part-kept}
+use Rattle.distance.specs.Summaries.{RowFound}
 use Rattle.searches.proofs.Settled.{spread_estimates}
-use Rattle.searches.proofs.Telling.{Known}
 use Rattle.searches.proofs.Answering.{cue-counted}
 use Rattle.quickest.specs.Sums.{MaySum, SumsTo, HasSums}
 
@@ -107,14 +106,15 @@ module _ {xs t waits : List ℕ} (g : Loaded xs t) (w : AreWaits waits) where
       go b a j h x y (no n) = s.below b a j (omega arith) x y
 
   -- All blocks.
-  pub sums-all : {k n : ℕ} {work : List ℕ} → SumsTo xs waits k 0 work → n ≡ last_block bs → n + 1 ≤ k → length work ≡ work_size
+  pub sums-all : (k : ℕ) {n : ℕ} {work : List ℕ} → SumsTo xs waits k 0 work → n ≡ last_block bs → n + 1 ≤ k → length work ≡ work_size
       → HasSums xs t waits work
-  sums-all {n = n} s en h size =
+  sums-all k {n} {work} s en h size =
       record {
-        loaded = g;
-        waited = w;
+        known = record {
+          loaded = g;
+          exact = sums-exact (length bs) work (λ m i j l. s.below m i j (omega (arith, block-count n g en)));
+        };
         long = omega (arith, show.blocks);
-        knows = λ m i j l. s.below m i j (omega (arith, block-count n g en));
       }
 
   -- What is told for a cue and that of a place.
@@ -130,40 +130,24 @@ module _ {xs t waits : List ℕ} (g : Loaded xs t) (w : AreWaits waits) where
       starts : Starts (show_links bs) (count bs)
       starts = λ l i. (show_ends bs show.good show.no_joins l i).0
 
--- The work area of a contract, as every search over a loaded show knows it.
-pub sums-known : {xs t waits work : List ℕ} → HasSums xs t waits work → Known no_sum (priced waits) xs t work
-sums-known {xs} {work = work} r =
-    record { loaded = r.loaded; exact = sums-exact r.loaded r.waited (length (blocks_of xs)) work r.knows }
-
--- With the sums of all blocks, or of the lower ones, a block may be settled.
-pub may_settle : {xs t waits work : List ℕ} → HasSums xs t waits work → {k : ℕ} {d : List ℕ} → IsBlock xs k → length d ≡ estimates_size
-    → MaySettle xs t k work d
-may_settle r {k} h e = record { loaded = r.loaded; block = h; room = omega (arith, r.long); size = e }
-
 -- A block's part of a work area for 128 blocks.
-pub part-fits : {xs t waits : List ℕ} {k : ℕ} {d work : List ℕ} → MaySum xs t waits k d work → summary_size * k + summary_size ≤ length work
+pub part-fits : {xs t waits : List ℕ} {k : ℕ} {work : List ℕ} → MaySum xs t waits k work → summary_size * k + summary_size ≤ length work
 part-fits m = omega (arith, (loaded-show m.loaded).blocks, m.block, m.area)
 
-joins-eight : {xs t waits : List ℕ} {k : ℕ} {d work : List ℕ} → MaySum xs t waits k d work → joins_of (blocks_of xs) k ≤ max_joins
+joins-eight : {xs t waits : List ℕ} {k : ℕ} {work : List ℕ} → MaySum xs t waits k work → joins_of (blocks_of xs) k ≤ max_joins
 joins-eight {k = k} m = joins-small k (loaded-show m.loaded).small
 
-pub sum-settles : {xs t waits : List ℕ} {k : ℕ} {d work : List ℕ} → MaySum xs t waits k d work → MaySettle xs t k work d
-sum-settles m = record { loaded = m.loaded; block = m.block; room = omega (arith, part-fits m); size = m.size }
+pub sum-settles : {xs t waits : List ℕ} {k : ℕ} {work : List ℕ} → MaySum xs t waits k work → MaySettle xs t k work
+sum-settles m = record { loaded = m.loaded; block = m.block; room = omega (arith, part-fits m) }
 
--- One row more of a block's part of the work area, as the code puts it in.
-pub sums_next : {xs t waits : List ℕ} {k i : ℕ} {d₀ before : List ℕ} {w o m : ℕ} {d v : List ℕ} → MaySum xs t waits k d₀ before
-    → SumsTo xs waits k i before → i < joins_of (blocks_of xs) k → w ≡ own_of (blocks_of xs) k → o ≡ w → m ≡ joins_of (blocks_of xs) k
-    → SpreadIn no_sum (priced waits) (blocks_of xs) before k (Only (o + 1 + i)) d
-    → RowKept (take (summary_size * k + summary_size - summary_size * k) (drop (summary_size * k) before)) i d (o + 1) m v
-    → length v ≡ length (take (summary_size * k + summary_size - summary_size * k) (drop (summary_size * k) before))
-    → SumsTo xs waits k (i + 1)
-    (take (summary_size * k) before ++ (v ++ drop (summary_size * k + summary_size - summary_size * k) (drop (summary_size * k) before)))
-sums_next {k = k} {i} {before = before} {m = m} {d} {v} may s l ew eo em sp r same =
+-- One row more of a block's part of the work area.
+pub sums_next : {xs t waits : List ℕ} {k i : ℕ} {before work : List ℕ} → MaySum xs t waits k before → SumsTo xs waits k i before
+    → i < joins_of (blocks_of xs) k → RowFound no_sum (priced waits) (blocks_of xs) k i before work → SumsTo xs waits k (i + 1) work
+sums_next {k = k} {i} {before = before} may s l r =
     let fits = part-fits may in
-    rw (part-put before v v k refl)
-    (sums_on may.loaded may.waited k i _ m before d _ (eo ∙ ew) em (omega arith) s sp
-    (part-kept before v k fits (same ∙ part_length before k fits) i d _ m (omega (arith, joins-eight may)) (omega (arith, joins-eight may))
-    (rw (part-lent before k) at r)))
+    rw r.is
+    (sums_on may.loaded may.waited k i _ _ before r.estimates _ refl refl l s r.spread
+    (part-kept before r.part k fits r.size i r.estimates _ _ (omega (arith, joins-eight may)) (omega (arith, joins-eight may)) r.row))
 
 -- The first 16,384 numbers as they are lent, and as they are left.
 pub area-lent : (work : List ℕ) → work_size ≤ length work → length (take (work_size - 0) (drop 0 work)) ≡ work_size

@@ -1,7 +1,7 @@
-// Numbers put into a list of rows: `copy` to its beginning, `set_row` at a row.
+// Numbers put to the beginning of a list: `copy` any, `set_row` those of a row.
 #![tactic(auto)]
 
-ghost use Rattle.std.specs.Prelude.{◌≡◌, ◌+◌, ◌*◌, ◌≤◌, length};
+ghost use Rattle.std.specs.Prelude.{◌≡◌, ◌≤◌, length};
 ghost use Rattle.std.proofs.lemmas.List.Edits.{sets};
 ghost use Rattle.model.specs.Limits.{row_size};
 ghost use Rattle.model.specs.Lists.{overwrite};
@@ -13,19 +13,14 @@ pub fn copy(from: &[u32], to: &mut [u32])
     requires { length from.now ≤ length to.old }
     ensures { to.new ≡ overwrite from.now to.old }
 {
-    let mut i = 0;
-    while i < from.len() {
-        to[i] = from[i];
-        i += 1;
-    }
+    to[..from.len()].copy_from_slice(from);
 }
 
-// A row's numbers written as row r, counted from 0.
-pub fn set_row(row: &[u32], r: usize, numbers: &mut [u32])
-    requires { (length row.now ≡ row_size) × (r * row_size + row_size ≤ length numbers.old) }
-    ensures { numbers.new ≡ sets numbers.old (r * row_size) row.now }
+// A row's numbers written to the beginning of another list; the answer is how many they are.
+pub fn set_row(row: &[u32], numbers: &mut [u32]) -> usize
+    requires { (length row.now ≡ row_size) × (row_size ≤ length numbers.old) }
+    ensures { (result ≡ row_size) × (numbers.new ≡ sets numbers.old 0 row.now) }
 {
-    let a = r * ROW_SIZE;
-    let e = a + ROW_SIZE;
-    copy(row, &mut numbers[a..e]);
+    numbers[..ROW_SIZE].copy_from_slice(row);
+    ROW_SIZE
 }

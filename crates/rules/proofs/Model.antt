@@ -1,5 +1,5 @@
 -- The tests of the code are the model's checks 5 to 8 of the row.
-use Prim.Native.Nat.{ℕ, zero, suc, ◌+◌, ◌*◌, ◌-◌, ◌≤◌, ◌<◌}
+use Prim.Native.Nat.{ℕ, ◌+◌, ◌*◌, ◌-◌, ◌≤◌, ◌<◌}
 use native.Mathlib.Omega.{arith}
 use native.Mathlib.Decide.{ℕ_discrete, dec_lt}
 use mathlib.Core.Path.{◌≡◌, refl, sym, ◌∙◌, ap, ap₂}
@@ -33,6 +33,7 @@ use Rattle.model.specs.Rules.{
 }
 use Rattle.basics.proofs.Choices.{lt_then, lt_else, eq_then, eq_else}
 use Rattle.rules.specs.Cells.{cells, key_below}
+use Rattle.rules.proofs.Tests.{take_cells, drop_cells}
 use Rattle.rules.specs.Faults.{named_fault, open_fault, or_else, link_order, use_order, link_fault, use_fault, fault_of}
 
 -- A choice by a choice.
@@ -90,21 +91,6 @@ columns-cells xs r =
   where
     at : (a b : ℕ) → a ≡ b → get_or xs a 0 ≡ get_or xs b 0
     at a b e = ap (λ (k : ℕ). get_or xs k 0) e
-
-take_cells : (xs : List ℕ) (p n i : ℕ) → i ≤ n → take i (cells xs p n) ≡ cells xs p i
-unfolding cells
-take_cells xs p n zero h = refl
-take_cells xs p zero (suc i) h = absurd (omega arith)
-take_cells xs p (suc n) (suc i) h = ap (λ (l : List ℕ). get_or xs p 0 ∷ l) (take_cells xs (p + 1) n i (omega arith))
-
-drop_cells : (xs : List ℕ) (p n i : ℕ) → i ≤ n → drop i (cells xs p n) ≡ cells xs (p + i) (n - i)
-unfolding cells
-drop_cells xs p n zero h = let e : p + 0 ≡ p = omega arith in let f : n - 0 ≡ n = omega arith in rw (e, f)
-drop_cells xs p zero (suc i) h = absurd (omega arith)
-drop_cells xs p (suc n) (suc i) h =
-    let e : p + 1 + i ≡ p + suc i = omega arith in
-    let f : n - i ≡ suc n - suc i = omega arith in
-    rw (← e, ← f) (drop_cells xs (p + 1) n i (omega arith))
 
 -- Three kinds of row.
 module _ (s : Seen) (xs : List ℕ) (r : ℕ) where

@@ -1,56 +1,72 @@
--- Laws of the tests of one row: how each loop goes on, stops and ends.
+-- Laws of the tests of one row: of its columns, and of each loop, how it begins, goes on, stops and ends.
 use Prim.Native.Nat.{ℕ, zero, suc, ◌+◌, ◌-◌, ◌≤◌, ◌<◌}
 use native.Mathlib.Omega.{arith}
 use native.Mathlib.Decide.{ℕ_discrete, dec_lt}
 use mathlib.Core.Path.{◌≡◌, refl, sym, ◌∙◌, ap}
-use mathlib.Core.Bool.{Bool, true, false, cond}
+use mathlib.Core.Bool.{Bool, true, false, not, cond, ◌&&◌, ◌||◌, true≢false}
 use mathlib.Core.List.{List, [], ◌∷◌, ◌++◌}
-use lib.ListN.{get_or}
+use lib.ListN.{length, get_or, take, drop}
 use lib.Dec.{eqb, ltb}
 use lib.Bits.{bit_or, or_add_and, and_le_l, and_le_r}
+use Rattle.std.proofs.lemmas.List.{take_more, drop_more, take_all, drop_all, take-append-drop, length-take-le}
+use borrow.Author.Tests.{eq-eqb, ne_eqb}
+use Rattle.std.specs.List.{list_all, list_any}
+use Rattle.std.specs.Ordering.{partial_ordering_then, is_some_and, is_lt, nat_cmp}
+use Rattle.std.specs.Cmp.Lexicographic.{slice_partial_cmp}
+use Rattle.std.specs.Prelude.{Option, Some, Result, Ok, Err}
+use Rattle.std.specs.declared.cmp.Ordering.{Ordering}
+use Rattle.std.specs.declared.cmp.Ordering.TheVariants.{Less, Equal, Greater}
 use Rattle.model.specs.Choice.{if_lt, if_eq, if_true}
 use Rattle.model.specs.Rules.{every, is_cue, is_zero, differs, distinct, is_below}
-use Rattle.basics.proofs.Choices.{lt_then, lt_else, eq_then, eq_else, true_then, true_else, lt_bool, ifs}
+use Rattle.basics.proofs.Choices.{lt_then, lt_else, eq_then, eq_else, true_then, true_else, true_yes, true_no, ifs}
 use Rattle.rules.specs.Cells.{cells, key_below}
-use Rattle.rules.specs.Faults.{or_else}
+use Rattle.rules.specs.Faults.{named_fault, or_else}
+use Rattle.rules.specs.Numbers.{said, number, kind_number, KindGiven}
+use Rattle.rules.specs.declared.faults.Kind.{Kind}
+use Rattle.rules.specs.declared.faults.Kind.TheVariants.{Opening, Link, Use}
+use Rattle.rules.specs.declared.faults.Fault.{Fault}
+use Rattle.rules.specs.declared.faults.Fault.TheVariants.{Place, Range, Repeated, Order}
 
--- The numbers from p on, the first i of them taken off.
-pub cells-next : (xs : List ℕ) (p n i : ℕ) → i < n → cells xs (p + i) (n - i) ≡ get_or xs (p + i) 0 ∷ cells xs (p + (i + 1)) (n - (i + 1))
+-- Columns that are lent, by their places.
+pub cells-part : (xs : List ℕ) (p n : ℕ) → p + n ≤ length xs → take n (drop p xs) ≡ cells xs p n
 unfolding cells
-cells-next xs p n i h =
-    let e : n - i ≡ suc (n - (i + 1)) = omega arith in
-    let f : p + i + 1 ≡ p + (i + 1) = omega arith in
-    rw (e, cells) (ap (λ (k : ℕ). get_or xs (p + i) 0 ∷ cells xs k (n - (i + 1))) f)
+cells-part xs p zero h = refl
+cells-part xs p (suc n) h =
+    let e : suc p ≡ p + 1 = omega arith in
+    rw (drop_more xs p 0 (omega arith)) (ap (λ (l : List ℕ). get_or xs p 0 ∷ l) (cells-part xs (p + 1) n (omega arith)))
 
-pub cells-end : (xs : List ℕ) (p n i : ℕ) → n ≤ i → cells xs (p + i) (n - i) ≡ []
+pub columns-part : (xs : List ℕ) (p n : ℕ) → p + 11 ≤ length xs → n ≡ 8 → take n (drop (p + 3) xs) ≡ cells xs (p + 3) 8
+columns-part xs p n h e = rw e (cells-part xs (p + 3) 8 (omega arith))
+
+pub length-cells : (xs : List ℕ) (p n : ℕ) → length (cells xs p n) ≡ n
 unfolding cells
-cells-end xs p n i h = let e : n - i ≡ 0 = omega arith in rw (e, cells)
+length-cells xs p zero = refl
+length-cells xs p (suc n) = ap suc (length-cells xs (p + 1) n)
 
-pub cells-begin : (xs : List ℕ) (p n : ℕ) → cells xs p n ≡ cells xs (p + 0) (n - 0)
-cells-begin xs p n = let e : n - 0 ≡ n = omega arith in let f : p + 0 ≡ p = omega arith in rw (e, f)
+pub take_cells : (xs : List ℕ) (p n i : ℕ) → i ≤ n → take i (cells xs p n) ≡ cells xs p i
+unfolding cells
+take_cells xs p n zero h = refl
+take_cells xs p zero (suc i) h = absurd (omega arith)
+take_cells xs p (suc n) (suc i) h = ap (λ (l : List ℕ). get_or xs p 0 ∷ l) (take_cells xs (p + 1) n i (omega arith))
 
--- A test of all of them: what is left to test after the first i.
-module _ (ok : ℕ → Bool) (xs : List ℕ) (p n : ℕ) where
-  abbrev pub EveryRest : ℕ → Type 0
-  EveryRest i = every ok (cells xs p n) ≡ every ok (cells xs (p + i) (n - i))
+pub drop_cells : (xs : List ℕ) (p n i : ℕ) → i ≤ n → drop i (cells xs p n) ≡ cells xs (p + i) (n - i)
+unfolding cells
+drop_cells xs p n zero h = let e : p + 0 ≡ p = omega arith in let f : n - 0 ≡ n = omega arith in rw (e, f)
+drop_cells xs p zero (suc i) h = absurd (omega arith)
+drop_cells xs p (suc n) (suc i) h =
+    let e : p + 1 + i ≡ p + suc i = omega arith in
+    let f : n - i ≡ suc n - suc i = omega arith in
+    rw (← e, ← f) (drop_cells xs (p + 1) n i (omega arith))
 
-  pub every-begin : EveryRest 0
-  every-begin = ap (every ok) (cells-begin xs p n)
-
-  every-turn : (i : ℕ) → EveryRest i → i < n
-      → every ok (cells xs p n) ≡ if_true (ok (get_or xs (p + i) 0)) (every ok (cells xs (p + (i + 1)) (n - (i + 1)))) false
-  unfolding every
-  every-turn i e h = e ∙ ap (every ok) (cells-next xs p n i h)
-
-  pub every-stop : (i : ℕ) → EveryRest i → i < n → ok (get_or xs (p + i) 0) ≡ false → false ≡ every ok (cells xs p n)
-  every-stop i e h f = sym (every-turn i e h ∙ true_else _ _ _ f)
-
-  pub every-on : (i : ℕ) → EveryRest i → i < n → ok (get_or xs (p + i) 0) ≡ true → EveryRest (i + 1)
-  every-on i e h t = every-turn i e h ∙ true_then _ _ _ t
-
-  pub every-done : (i : ℕ) → EveryRest i → n ≤ i → true ≡ every ok (cells xs p n)
-  unfolding every
-  every-done i e h = sym (e ∙ ap (every ok) (cells-end xs p n i h))
+-- A test of all of them, as the library has it.
+pub every-all : (ok : ℕ → Bool) (l : List ℕ) → list_all ok l ≡ every ok l
+unfolding every if_true
+every-all ok [] = refl
+every-all ok (x ∷ l) = go (every-all ok l) (ok x)
+  where
+    go : list_all ok l ≡ every ok l → (t : Bool) → (t && list_all ok l) ≡ cond t (every ok l) false
+    go h true = h
+    go h false = refl
 
 -- The tests themselves.
 pub cue-low : (cues x : ℕ) → x < 1 → is_cue cues x ≡ false
@@ -81,14 +97,7 @@ pub differs-no : (x y : ℕ) → x ≡ y → differs x y ≡ false
 unfolding differs
 differs-no x y e = eq_then _ _ _ _ e
 
--- Of eight numbers those behind the first m are 0: what is left to test after the first i, if all that was read is 0.
-eq_same : (a b : ℕ) → if_eq a b false false ≡ false
-eq_same a b = go (ℕ_discrete a b)
-  where
-    go : Dec (a ≡ b) → if_eq a b false false ≡ false
-    go (yes e) = eq_then _ _ _ _ e
-    go (no n) = eq_else _ _ _ _ n
-
+-- Of the columns those behind the first m are 0: what is left to test after the first i, if all that was read is 0.
 eq_bool : (a b : ℕ) → eqb a b ≡ if_eq a b true false
 unfolding if_eq
 eq_bool a b = bool (eqb a b)
@@ -107,29 +116,26 @@ or_test a b t = go (ℕ_discrete a 0) (ℕ_discrete b 0)
         eq_else _ _ _ _ (λ e. omega (arith, or_add_and a b, and_le_l a b)) ∙ sym (eq_then a 0 _ _ x ∙ eq_else b 0 _ _ y)
     go (no x) d = eq_else _ _ _ _ (λ e. omega (arith, or_add_and a b, and_le_r a b)) ∙ sym (eq_else a 0 _ _ x)
 
-module _ (xs : List ℕ) (p m : ℕ) where
+module _ (cs : List ℕ) (m : ℕ) where
   abbrev pub ZeroRest : ℕ → ℕ → Type 0
-  ZeroRest i all =
-      every is_zero (cells xs (p + m) (8 - m)) ≡ if_eq all 0 (every is_zero (cells xs (p + m + (i - m)) (8 - m - (i - m)))) false
+  ZeroRest i all = every is_zero (drop m cs) ≡ if_eq all 0 (every is_zero (drop (m + (i - m)) cs)) false
 
   pub zeros_begin : ZeroRest 0 0
-  zeros_begin = let e : 0 - m ≡ 0 = omega arith in every-begin is_zero xs (p + m) (8 - m) ∙ sym (rw e (eq_then 0 0 _ _ refl))
+  zeros_begin = let e : m + (0 - m) ≡ m = omega arith in rw e (sym (eq_then 0 0 _ _ refl))
 
-  zeros_next : (i : ℕ) → m ≤ i → i < 8
-      → every is_zero (cells xs (p + m + (i - m)) (8 - m - (i - m)))
-      ≡ if_eq (get_or xs (p + i) 0) 0 (every is_zero (cells xs (p + m + (i + 1 - m)) (8 - m - (i + 1 - m)))) false
+  zeros_next : (i : ℕ) → m ≤ i → i < length cs
+      → every is_zero (drop (m + (i - m)) cs) ≡ if_eq (get_or cs i 0) 0 (every is_zero (drop (m + (i + 1 - m)) cs)) false
   unfolding every
   zeros_next i h k =
-      let f : i + 1 - m ≡ i - m + 1 = omega arith in
-      let g : p + i ≡ p + m + (i - m) = omega arith in
-      ap (every is_zero) (cells-next xs (p + m) (8 - m) (i - m) (omega arith))
-      ∙ rw (f, g) (go (get_or xs (p + m + (i - m)) 0) (ℕ_discrete (get_or xs (p + m + (i - m)) 0) 0) _)
+      let f : m + (i - m) ≡ i = omega arith in
+      let g : m + (i + 1 - m) ≡ i + 1 = omega arith in
+      rw (f, g, drop_more cs i 0 k) (go (get_or cs i 0) (ℕ_discrete (get_or cs i 0) 0) _)
     where
       go : (x : ℕ) → Dec (x ≡ 0) → (t : Bool) → if_true (is_zero x) t false ≡ if_eq x 0 t false
       go x (yes z) t = true_then _ _ _ (zero-yes x z) ∙ sym (eq_then _ _ _ _ z)
       go x (no z) t = true_else _ _ _ (zero-no x z) ∙ sym (eq_else _ _ _ _ z)
 
-  pub zeros_on : (i all w : ℕ) → ZeroRest i all → i < 8 → w ≡ if_lt i m 0 (get_or xs (p + i) 0) → ZeroRest (i + 1) (bit_or all w)
+  pub zeros_on : (i all w : ℕ) → ZeroRest i all → i < length cs → w ≡ if_lt i m 0 (get_or cs i 0) → ZeroRest (i + 1) (bit_or all w)
   zeros_on i all w e k q = go (dec_lt i m)
     where
       go : Dec (i < m) → ZeroRest (i + 1) (bit_or all w)
@@ -138,26 +144,14 @@ module _ (xs : List ℕ) (p m : ℕ) where
           let f : i + 1 - m ≡ i - m = omega arith in
           rw f (e ∙ sym (or_test all w _ ∙ ap (λ (t : Bool). if_eq all 0 t false) (eq_then w 0 _ _ n)))
       go (no h) =
-          let n : w ≡ get_or xs (p + i) 0 = q ∙ lt_else _ _ _ _ (omega arith) in
+          let n : w ≡ get_or cs i 0 = q ∙ lt_else _ _ _ _ (omega arith) in
           e ∙ ap (λ (t : Bool). if_eq all 0 t false) (zeros_next i (omega arith) k ∙ rw (← n)) ∙ sym (or_test all w _)
 
-  pub zeros_done : (i all : ℕ) → ZeroRest i all → 8 ≤ i → eqb all 0 ≡ every is_zero (cells xs (p + m) (8 - m))
+  pub zeros_done : (i all : ℕ) → ZeroRest i all → length cs ≤ i → m ≤ length cs → eqb all 0 ≡ every is_zero (drop m cs)
   unfolding every
-  zeros_done i all e h = eq_bool all 0 ∙ sym (e ∙ rw (cells-end xs (p + m) (8 - m) (i - m) (omega arith)))
-
--- The seven behind the own cues of an opening.
-pub open_zeros : (xs : List ℕ) (p : ℕ) (t : Bool) → t ≡ every is_zero (cells xs (p + 3 + 1) (8 - 1)) → t ≡ every is_zero (cells xs (p + 4) 7)
-open_zeros xs p t e = let f : p + 4 ≡ p + 3 + 1 = omega arith in rw f e
+  zeros_done i all e h k = eq_bool all 0 ∙ sym (e ∙ rw (drop_all (m + (i - m)) cs (omega arith)))
 
 -- Distinct numbers: one more that differs from all before it.
-cells-last : (xs : List ℕ) (p i : ℕ) → cells xs p (i + 1) ≡ cells xs p i ++ (get_or xs (p + i) 0 ∷ [])
-unfolding cells
-cells-last xs p zero = let e : p + 0 ≡ p = omega arith in rw e
-cells-last xs p (suc i) =
-    let e : p + suc i ≡ p + 1 + i = omega arith in
-    let f : suc i + 1 ≡ suc (i + 1) = omega arith in
-    rw (e, f) (ap (λ (l : List ℕ). get_or xs p 0 ∷ l) (cells-last xs (p + 1) i))
-
 differs-both : (x y : ℕ) → differs x y ≡ differs y x
 unfolding differs
 differs-both x y = go (ℕ_discrete x y)
@@ -196,84 +190,191 @@ distinct-last (y ∷ l) x =
     go false false true d = refl
     go false false false d = refl
 
-module _ (xs : List ℕ) (p : ℕ) where
-  pub distinct-one : distinct (cells xs p 1) ≡ true
-  unfolding cells every distinct if_true
-  distinct-one = refl
+-- One that stands among them: some number does not differ from it.
+eqb-both : (x y : ℕ) → eqb x y ≡ eqb y x
+eqb-both x y = go (ℕ_discrete x y)
+  where
+    go : Dec (x ≡ y) → eqb x y ≡ eqb y x
+    go (yes e) = eq-eqb x y e ∙ sym (eq-eqb y x (sym e))
+    go (no n) = ne_eqb x y n ∙ sym (ne_eqb y x (λ e. n (sym e)))
 
-  last-is : (i : ℕ) → distinct (cells xs p (i + 1)) ≡ if_true (every (differs (get_or xs (p + i) 0)) (cells xs p i)) (distinct (cells xs p i)) false
-  last-is i = ap distinct (cells-last xs p i) ∙ distinct-last (cells xs p i) (get_or xs (p + i) 0)
+any-every : (x : ℕ) (l : List ℕ) → list_any (λ (y : ℕ). eqb y x) l ≡ not (every (differs x) l)
+unfolding every if_true differs if_eq
+any-every x [] = refl
+any-every x (y ∷ l) = rw (eqb-both y x) (go (any-every x l) (eqb x y))
+  where
+    go : list_any (λ (z : ℕ). eqb z x) l ≡ not (every (differs x) l) → (t : Bool)
+        → (t || list_any (λ (z : ℕ). eqb z x) l) ≡ not (cond (cond t false true) (every (differs x) l) false)
+    go h true = refl
+    go h false = h
 
-  false_on : (i k : ℕ) → distinct (cells xs p i) ≡ false → distinct (cells xs p (i + k)) ≡ false
-  false_on i zero e = let f : i + 0 ≡ i = omega arith in rw f e
-  false_on i (suc k) e =
-      let f : i + suc k ≡ i + k + 1 = omega arith in
-      rw f (last-is (i + k) ∙ rw (false_on i k e) (none (every (differs (get_or xs (p + (i + k)) 0)) (cells xs p (i + k)))))
+every-front : (ok : ℕ → Bool) (l m : List ℕ) → every ok l ≡ false → every ok (l ++ m) ≡ false
+unfolding every if_true
+every-front ok [] m e = absurd (true≢false e)
+every-front ok (x ∷ l) m e = go (every-front ok l m) (ok x) e
+  where
+    go : (every ok l ≡ false → every ok (l ++ m) ≡ false) → (t : Bool) → cond t (every ok l) false ≡ false → cond t (every ok (l ++ m)) false ≡ false
+    go h true f = h f
+    go h false f = refl
+
+distinct-front : (l m : List ℕ) → distinct l ≡ false → distinct (l ++ m) ≡ false
+unfolding distinct if_true
+distinct-front [] m e = absurd (true≢false e)
+distinct-front (x ∷ l) m e = go (distinct-front l m) (every (differs x) l) refl e
+  where
+    none : (t : Bool) → cond t false false ≡ false
+    none true = refl
+    none false = refl
+
+    go : (distinct l ≡ false → distinct (l ++ m) ≡ false) → (t : Bool) → every (differs x) l ≡ t → cond t (distinct l) false ≡ false
+        → cond (every (differs x) (l ++ m)) (distinct (l ++ m)) false ≡ false
+    go h true q f = rw (h f) (none (every (differs x) (l ++ m)))
+    go h false q f = rw (every-front (differs x) l m q)
+
+not-none : (t u : Bool) → t ≡ not u → t ≡ false → u ≡ true
+not-none t true e f = refl
+not-none t false e f = absurd (true≢false (sym e ∙ f))
+
+not-some : (t u : Bool) → t ≡ not u → t ≡ true → u ≡ false
+not-some t false e f = refl
+not-some t true e f = absurd (true≢false (sym f ∙ e))
+
+module _ (l : List ℕ) where
+  pub distinct-one : distinct (take 1 l) ≡ true
+  unfolding every distinct if_true
+  distinct-one = go l
     where
-      none : (t : Bool) → if_true t false false ≡ false
-      none true = true_then _ _ _ refl
-      none false = true_else _ _ _ refl
+      go : (l : List ℕ) → distinct (take 1 l) ≡ true
+      go [] = refl
+      go (x ∷ l) = refl
 
-  pub distinct-on : (i : ℕ) (t : Bool) → distinct (cells xs p i) ≡ true → t ≡ every (differs (get_or xs (p + i) 0)) (cells xs p i) → t ≡ true
-      → distinct (cells xs p (i + 1)) ≡ true
-  distinct-on i t e q f = last-is i ∙ true_then _ _ _ (sym q ∙ f) ∙ e
+  pub distinct-on : (i : ℕ) (t : Bool) → distinct (take i l) ≡ true → i < length l → t ≡ list_any (λ (y : ℕ). eqb y (get_or l i 0)) (take i l) → t ≡ false
+      → distinct (take (i + 1) l) ≡ true
+  distinct-on i t e h q f =
+      rw (take_more l i 0 h) (distinct-last (take i l) (get_or l i 0) ∙ true_then _ _ _ (not-none t _ (q ∙ any-every _ _) f) ∙ e)
 
-  pub distinct-stop : (i n : ℕ) (t : Bool) → i < n → t ≡ every (differs (get_or xs (p + i) 0)) (cells xs p i) → t ≡ false
-      → false ≡ distinct (cells xs p n)
-  distinct-stop i n t h q f =
-      let g : i + 1 + (n - (i + 1)) ≡ n = omega arith in
-      sym (rw g at (false_on (i + 1) (n - (i + 1)) (last-is i ∙ true_else _ _ _ (sym q ∙ f))))
+  pub distinct-stop : (i : ℕ) (t : Bool) → i < length l → t ≡ list_any (λ (y : ℕ). eqb y (get_or l i 0)) (take i l) → t ≡ true → false ≡ distinct l
+  distinct-stop i t h q f =
+      let g : distinct (take (i + 1) l) ≡ false =
+      rw (take_more l i 0 h) (distinct-last (take i l) (get_or l i 0) ∙ true_else _ _ _ (not-some t _ (q ∙ any-every _ _) f)) in
+      sym (ap distinct (sym (take-append-drop (i + 1) l)) ∙ distinct-front (take (i + 1) l) (drop (i + 1) l) g)
 
-  pub distinct-done : (i n : ℕ) → n ≤ i → distinct (cells xs p i) ≡ true → true ≡ distinct (cells xs p n)
-  distinct-done i n h e = go (distinct (cells xs p n)) refl
-    where
-      go : (t : Bool) → distinct (cells xs p n) ≡ t → true ≡ t
-      go true q = refl
-      go false q =
-          let g : n + (i - n) ≡ i = omega arith in
-          sym e ∙ rw g at (false_on n (i - n) q)
+  pub distinct-done : (i : ℕ) → length l ≤ i → distinct (take i l) ≡ true → true ≡ distinct l
+  distinct-done i h e = sym (ap distinct (sym (take_all i l h)) ∙ e)
 
--- The order of two keys: what is left to compare after the first i columns.
-abbrev pub rest : List ℕ → ℕ → ℕ → ℕ → List ℕ
-rest xs p n a = cells xs p n ++ (a ∷ [])
+-- The order of two keys: the library's order of pairs of columns and a label.
+pub below : (x y : List ℕ) (a b : ℕ) → length x ≡ length y
+    → is_some_and is_lt (partial_ordering_then (slice_partial_cmp (λ v w. Some (nat_cmp v w)) x y) (Some (nat_cmp a b))) ≡ is_below (x ++ (a ∷ [])) (y ++ (b ∷ []))
+unfolding is_below if_lt if_eq
+below [] [] a b e = go (ltb a b) (eqb a b)
+  where
+    go : (t u : Bool) → is_some_and is_lt (Some (cond t Less (cond u Equal Greater))) ≡ cond t true (cond u false false)
+    go true u = refl
+    go false true = refl
+    go false false = refl
+below [] (w ∷ y) a b e = absurd (omega arith)
+below (v ∷ x) [] a b e = absurd (omega arith)
+below (v ∷ x) (w ∷ y) a b e = go (below x y a b (omega arith)) (ltb v w) (eqb v w)
+  where
+    rest : Option Ordering
+    rest = slice_partial_cmp (λ v w. Some (nat_cmp v w)) x y
 
-module _ (xs : List ℕ) (p q n a b : ℕ) where
-  abbrev pub KeyRest : ℕ → Type 0
-  KeyRest i = key_below xs p q n a b ≡ is_below (rest xs (p + i) (n - i) a) (rest xs (q + i) (n - i) b)
+    go : is_some_and is_lt (partial_ordering_then rest (Some (nat_cmp a b))) ≡ is_below (x ++ (a ∷ [])) (y ++ (b ∷ [])) → (t u : Bool)
+        → is_some_and is_lt (partial_ordering_then (partial_ordering_then (Some (cond t Less (cond u Equal Greater))) rest) (Some (nat_cmp a b)))
+        ≡ cond t true (cond u (is_below (x ++ (a ∷ [])) (y ++ (b ∷ []))) false)
+    go h true u = refl
+    go h false true = h
+    go h false false = refl
 
-  pub key_begin : KeyRest 0
+-- The columns of a link or a use: what the code finds of them, check by check.
+module _ (xs : List ℕ) (p many cues : ℕ) (l : List ℕ) (e : l ≡ cells xs (p + 3) 8) (h : many ≤ 8) where
+  taken : take many l ≡ cells xs (p + 3) many
+  taken = rw e (take_cells xs (p + 3) 8 many h)
+
+  left : drop many l ≡ cells xs (p + 3 + many) (8 - many)
+  left = rw e (drop_cells xs (p + 3) 8 many h)
+
+  pub columns-eight : (length l ≡ 8) × (many ≤ 8)
+  columns-eight = (rw e (length-cells xs (p + 3) 8), h)
+
+  pub part-long : many ≡ length (take many l)
+  part-long = sym (length-take-le many l (rw columns-eight.0 h))
+
+  module _ (t : Bool) (q : t ≡ every (is_cue cues) (take many l)) where
+    pub named_out : t ≡ false → 6 ≡ named_fault xs p many cues
+    unfolding named_fault
+    named_out f = true_no _ t _ _ _ (rw taken at q) f refl
+
+    module _ (f : t ≡ true) (u : Bool) (q' : u ≡ every is_zero (drop many l)) where
+      pub named_idle : u ≡ false → 6 ≡ named_fault xs p many cues
+      unfolding named_fault
+      named_idle f' = true_yes _ t _ _ _ (rw taken at q) f (true_no _ u _ _ _ (rw left at q') f' refl)
+
+      module _ (f' : u ≡ true) (v : Bool) (q'' : v ≡ distinct (take many l)) where
+        pub named_twice : v ≡ false → 7 ≡ named_fault xs p many cues
+        unfolding named_fault
+        named_twice g = true_yes _ t _ _ _ (rw taken at q) f (true_yes _ u _ _ _ (rw left at q') f' (true_no _ v _ _ _ (rw taken at q'') g refl))
+
+        pub named_fine : v ≡ true → 0 ≡ named_fault xs p many cues
+        unfolding named_fault
+        named_fine g = true_yes _ t _ _ _ (rw taken at q) f (true_yes _ u _ _ _ (rw left at q') f' (true_yes _ v _ _ _ (rw taken at q'') g refl))
+
+-- The seven behind the own cues of an opening.
+pub open_zeros : (xs l : List ℕ) (p : ℕ) (t : Bool) → l ≡ cells xs (p + 3) 8 → t ≡ every is_zero (drop 1 l) → t ≡ every is_zero (cells xs (p + 4) 7)
+open_zeros xs l p t e q =
+    let f : p + 4 ≡ p + 3 + 1 = omega arith in
+    rw f (rw (e, drop_cells xs (p + 3) 8 1 (omega arith)) at q)
+
+-- Two parts of as many columns.
+pub parts-alike : (xs : List ℕ) (p q n : ℕ) (l m : List ℕ) → l ≡ cells xs (p + 3) 8 → m ≡ cells xs (q + 3) 8 → n ≤ 8 → length (take n l) ≡ length (take n m)
+parts-alike xs p q n l m e f h = sym (part-long xs p n 0 l e h) ∙ part-long xs q n 0 m f h
+
+-- The order of two rows' keys, of n columns or of all.
+module _ (xs : List ℕ) (p q : ℕ) (l m : List ℕ) (e : l ≡ cells xs (p + 3) 8) (f : m ≡ cells xs (q + 3) 8) (a b : ℕ) (t : Bool) where
+  pub key-part : (n : ℕ) → n ≤ 8 → t ≡ is_below (take n l ++ (a ∷ [])) (take n m ++ (b ∷ [])) → a ≡ get_or xs (p + 2) 0 → b ≡ get_or xs (q + 2) 0
+      → t ≡ key_below xs (p + 3) (q + 3) n (get_or xs (p + 2) 0) (get_or xs (q + 2) 0)
   unfolding key_below
-  key_begin = let e : n - 0 ≡ n = omega arith in let f : p + 0 ≡ p = omega arith in let g : q + 0 ≡ q = omega arith in rw (e, f, g)
+  key-part n k w g h = rw (e, f, g, h, take_cells xs (p + 3) 8 n k, take_cells xs (q + 3) 8 n k) at w
 
-  key_turn : (i : ℕ) → KeyRest i → i < n
-      → key_below xs p q n a b
-      ≡ if_lt (get_or xs (p + i) 0) (get_or xs (q + i) 0) true
-      (if_eq (get_or xs (p + i) 0) (get_or xs (q + i) 0) (is_below (rest xs (p + (i + 1)) (n - (i + 1)) a) (rest xs (q + (i + 1)) (n - (i + 1)) b)) false)
-  unfolding is_below
-  key_turn i e h = e ∙ rw (cells-next xs p n i h, cells-next xs q n i h)
+  pub key-whole : t ≡ is_below (l ++ (a ∷ [])) (m ++ (b ∷ [])) → a ≡ get_or xs (p + 2) 0 → b ≡ get_or xs (q + 2) 0
+      → t ≡ key_below xs (p + 3) (q + 3) 8 (get_or xs (p + 2) 0) (get_or xs (q + 2) 0)
+  unfolding key_below
+  key-whole w g h = rw (e, f, g, h) at w
 
-  pub key_less : (i : ℕ) → KeyRest i → i < n → get_or xs (p + i) 0 < get_or xs (q + i) 0 → true ≡ key_below xs p q n a b
-  key_less i e h l = sym (key_turn i e h ∙ lt_then _ _ _ _ l)
+pub wholes-alike : (xs : List ℕ) (p q : ℕ) (l m : List ℕ) → l ≡ cells xs (p + 3) 8 → m ≡ cells xs (q + 3) 8 → length l ≡ length m
+wholes-alike xs p q l m e f = rw (e, f) (length-cells xs (p + 3) 8 ∙ sym (length-cells xs (q + 3) 8))
 
-  pub key_more : (i : ℕ) → KeyRest i → i < n → get_or xs (q + i) 0 ≤ get_or xs (p + i) 0 → (get_or xs (p + i) 0 ≡ get_or xs (q + i) 0 → ⊥)
-      → false ≡ key_below xs p q n a b
-  key_more i e h l m = sym (key_turn i e h ∙ lt_else _ _ _ _ l ∙ eq_else _ _ _ _ m)
+-- What the kind of a row says of its number.
+pub kind_known : (n m : ℕ) (r : Result Kind Fault) (k : Kind) → KindGiven n r → r ≡ Ok k → kind_number k ≡ m → n ≡ m
+kind_known n m r k g e w = sym (rw e at g) ∙ w
 
-  pub key_on : (i : ℕ) → KeyRest i → i < n → get_or xs (p + i) 0 ≡ get_or xs (q + i) 0 → KeyRest (i + 1)
-  key_on i e h q = key_turn i e h ∙ lt_else _ _ _ _ (omega arith) ∙ eq_then _ _ _ _ q
+pub kind_unknown : (n : ℕ) (r : Result Kind Fault) (f : Fault) → KindGiven n r → r ≡ Err f → (f ≡ Place) × (2 < n)
+kind_unknown n r f g e = rw e at g
 
-  pub key_done : (i : ℕ) → KeyRest i → n ≤ i → ltb a b ≡ key_below xs p q n a b
-  unfolding is_below
-  key_done i e h = lt_bool a b ∙ sym (e ∙ rw (cells-end xs p n i h, cells-end xs q n i h) (ap (if_lt a b true) (eq_same a b)))
+pub no_use : (n : ℕ) (r : Result Kind Fault) → KindGiven n r → (r ≡ Ok Use → ⊥) → n ≡ 2 → ⊥
+no_use n (Ok Opening) g m e = omega arith
+no_use n (Ok Link) g m e = omega arith
+no_use n (Ok Use) g m e = m refl
+no_use n (Err f) g m e = omega (arith, g.1)
 
--- A number that was found and is no 0 stands; at 0 the next check speaks.
-pub found : (k r next : ℕ) → k ≡ r → (k ≡ 0 → ⊥) → k ≡ or_else r next
-unfolding or_else
-found k r next e n = e ∙ sym (eq_else r 0 next r (λ z. n (e ∙ z)))
+pub the_use : (n : ℕ) (r : Result Kind Fault) → KindGiven n r → r ≡ Ok Use → n ≡ 2
+the_use n r g e = sym (rw e at g)
 
-pub not_found : (k r next v : ℕ) → k ≡ r → k ≡ 0 → v ≡ next → v ≡ or_else r next
-unfolding or_else
-not_found k r next v e z q = q ∙ sym (eq_then r 0 next r (sym e ∙ z))
+-- A fault that was found stands; where none was, the next check speaks.
+module _ {A B : Type 0} (x : Result A Fault) (y : Result B Fault) where
+  pub found : (f : Fault) (r next : ℕ) → said x ≡ r → x ≡ Err f → y ≡ Err f → said y ≡ or_else r next
+  unfolding or_else
+  found f r next e q z = rw z (rw q at e ∙ sym (eq_else r 0 next r (λ v. some f (rw q at e ∙ v))))
+    where
+      some : (f : Fault) → number f ≡ 0 → ⊥
+      some Place z = omega arith
+      some Range z = omega arith
+      some Repeated z = omega arith
+      some Order z = omega arith
+
+  pub not_found : (a : A) (r next : ℕ) → said x ≡ r → x ≡ Ok a → said y ≡ next → said y ≡ or_else r next
+  unfolding or_else
+  not_found a r next e q z = z ∙ sym (eq_then r 0 next r (sym e ∙ ap said q))
 
 -- The branches of a fault.
 pub ruleset faults = (ifs, found, not_found, open_zeros)

@@ -1,32 +1,87 @@
-// Checks 5 to 8 of one row, in lent rows at place p: the refusal's number, or 0.
+// Checks 5 to 8 of one row, in lent rows: `fault`.
 #![tactic(auto)]
 
-ghost use Rattle.std.specs.Prelude.{◌≡◌, ◌+◌, ◌-◌, ◌≤◌, ◌<◌, length};
+ghost use Rattle.std.specs.Prelude.{◌≡◌, ◌+◌, ◌-◌, ◌≤◌, ◌<◌, ◌++◌, ◌∷◌, [], length, get_or, drop, IfOk};
 ghost use Rattle.model.specs.Choice.{if_lt};
 ghost use Rattle.model.specs.Limits.{row_size, max_joins};
-ghost use Rattle.model.specs.Rules.{every, is_cue, is_zero, differs, distinct};
-ghost use Rattle.rules.specs.Cells.{cells, key_below};
+ghost use Rattle.model.specs.Rules.{every, is_cue, is_zero, distinct, is_below};
+ghost use Rattle.rules.specs.Cells.{cells};
 ghost use Rattle.rules.specs.Faults.{named_fault, open_fault, link_order, use_order, link_fault, use_fault, fault_of};
+ghost use Rattle.rules.specs.Numbers.{said, kind_number, KindGiven};
 
-use model::limits::{MAX_BLOCKS, MAX_JOINS, MAX_LABEL, MAX_OWN};
+use faults::{Fault, Kind, State};
+use model::limits::{MAX_BLOCKS, MAX_JOINS, MAX_LABEL, MAX_OWN, ROW_SIZE};
 
-// The n numbers from p on are all cues of a block that has so many.
-fn every_cue(xs: &[u32], p: usize, n: usize, cues: u32) -> bool
-    requires { p + n ≤ length xs.now }
-    ensures { result ≡ every (is_cue cues) (cells xs.now p n) }
-{
-    let mut i = 0;
-    while i < n {
-        let x = xs[p + i];
-        if x < 1 {
-            return false;
-        }
-        if cues < x {
-            return false;
-        }
-        i += 1;
+pub mod faults;
+
+// A row among lent rows and the row before it, by the places where they begin. The first row counts as the one before itself.
+// Kept: a value of the row and of the row before by two functions each, for one with a flag is no plainer; and places, since two parts would be lent from row to row.
+#[derive(Clone, Copy)]
+pub struct Row<'a> {
+    pub xs: &'a [u32],
+    pub at: usize,
+    pub before: usize,
+    ghost whole: { (at + row_size ≤ length xs.now) × (before + row_size ≤ length xs.now) },
+}
+
+impl<'a> Row<'a> {
+    pub fn block(self) -> u32
+        ensures { result ≡ get_or self.entry.xs.now self.entry.at 0 }
+    {
+        self.xs[self.at]
     }
-    true
+
+    // The number of its kind, and the kind, if it is one's.
+    pub fn kind_number(self) -> u32
+        ensures { result ≡ get_or self.entry.xs.now (self.entry.at + 1) 0 }
+    {
+        self.xs[self.at + 1]
+    }
+
+    pub fn kind(self) -> Result<Kind, Fault>
+        ensures { KindGiven (get_or self.entry.xs.now (self.entry.at + 1) 0) result }
+    {
+        Kind::try_from(self.xs[self.at + 1])
+    }
+
+    // The label of a link, the block that a use names, or how many joins a block has.
+    pub fn label(self) -> u32
+        ensures { result ≡ get_or self.entry.xs.now (self.entry.at + 2) 0 }
+    {
+        self.xs[self.at + 2]
+    }
+
+    // The first column: the own cues of a block.
+    pub fn own(self) -> u32
+        ensures { result ≡ get_or self.entry.xs.now (self.entry.at + 3) 0 }
+    {
+        self.xs[self.at + 3]
+    }
+
+    fn columns(self) -> &'a [u32]
+        ensures { result.now ≡ cells self.entry.xs.now (self.entry.at + 3) max_joins }
+    {
+        &self.xs[self.at + 3..self.at + ROW_SIZE]
+    }
+
+    fn label_before(self) -> u32
+        ensures { result ≡ get_or self.entry.xs.now (self.entry.before + 2) 0 }
+    {
+        self.xs[self.before + 2]
+    }
+
+    fn columns_before(self) -> &'a [u32]
+        ensures { result.now ≡ cells self.entry.xs.now (self.entry.before + 3) max_joins }
+    {
+        &self.xs[self.before + 3..self.before + ROW_SIZE]
+    }
+}
+
+// They are all cues of a block that has so many.
+fn every_cue(named: &[u32], cues: u32) -> bool
+    ensures { result ≡ every (is_cue cues) named.now }
+{
+    named.iter().all(|x| 1 <= *x && *x <= cues)
 }
 
 // Number i, or 0 where it is one of the first `many`.
@@ -39,220 +94,145 @@ fn left_over(x: u32, i: usize, many: usize) -> u32
     x
 }
 
-// Of the eight numbers from p on, all behind the first `many` are 0. All eight are read, with no exit: that is the fastest.
-fn every_zero(xs: &[u32], p: usize, many: usize) -> bool
-    requires { (p + 8 ≤ length xs.now) × (many ≤ max_joins) }
-    ensures { result ≡ every is_zero (cells xs.now (p + many) (8 - many)) }
+// Of eight columns all behind the first `many` are 0.
+// Kept: all eight are read, with no exit: an iterator's `all` over the rest leaves early, and without that the check took some 12 % less (docs/PROVING.md).
+// Kept: `many ≤ max_joins` here and below is no plainer in a type of its own: it is a place in the columns at once, and the type would be opened for that.
+fn every_zero(columns: &[u32], many: usize) -> bool
+    requires { (length columns.now ≡ 8) × (many ≤ max_joins) }
+    ensures { result ≡ every is_zero (drop many columns.now) }
 {
     let mut all = 0;
-    let mut i = 0;
-    while i < 8 {
-        all = all | left_over(xs[p + i], i, many);
-        i += 1;
+    for (i, x) in columns.iter().enumerate() {
+        all |= left_over(*x, i, many);
     }
     all == 0
 }
 
-// The n numbers from p on all differ from x.
-fn every_other(xs: &[u32], p: usize, n: usize, x: u32) -> bool
-    requires { p + n ≤ length xs.now }
-    ensures { result ≡ every (differs x) (cells xs.now p n) }
-{
-    let mut i = 0;
-    while i < n {
-        if x == xs[p + i] {
-            return false;
-        }
-        i += 1;
-    }
-    true
-}
-
 // No number stands twice among them: each differs from all before it.
-fn all_distinct(xs: &[u32], p: usize, n: usize) -> bool
-    requires { p + n ≤ length xs.now }
-    ensures { result ≡ distinct (cells xs.now p n) }
+fn all_distinct(named: &[u32]) -> bool
+    ensures { result ≡ distinct named.now }
 {
-    let mut i = 1;
-    while i < n {
-        let x = xs[p + i];
-        let apart = every_other(xs, p, i, x);
-        if !apart {
+    for i in 1..named.len() {
+        if named[..i].contains(&named[i]) {
             return false;
         }
-        i += 1;
     }
     true
 }
 
-// The n columns from p on and then label a come before those from q on and label b.
-fn is_below(xs: &[u32], p: usize, q: usize, n: usize, a: u32, b: u32) -> bool
-    requires { (p + n ≤ length xs.now) × (q + n ≤ length xs.now) }
-    ensures { result ≡ key_below xs.now p q n a b }
+// As many columns and then label a come before columns and label b.
+fn is_below(x: &[u32], a: u32, y: &[u32], b: u32) -> bool
+    requires { length x.now ≡ length y.now }
+    ensures { result ≡ is_below (x.now ++ (a ∷ [])) (y.now ++ (b ∷ [])) }
 {
-    let mut i = 0;
-    while i < n {
-        let x = xs[p + i];
-        let y = xs[q + i];
-        if x < y {
-            return true;
-        }
-        if x != y {
-            return false;
-        }
-        i += 1;
-    }
-    a < b
+    (x, a) < (y, b)
 }
 
 // Checks 6 and 7 of the columns of a link or a use that names so many cues.
-fn named_fault(xs: &[u32], p: usize, many: usize, cues: u32) -> u32
-    requires { (p + row_size ≤ length xs.now) × (many ≤ max_joins) }
-    ensures { result ≡ named_fault xs.now p many cues }
+fn named_fault(row: Row, many: usize, cues: u32) -> Result<(), Fault>
+    requires { many ≤ max_joins }
+    ensures { said result ≡ named_fault row.entry.xs.now row.entry.at many cues }
 {
-    if every_cue(xs, p + 3, many, cues) {
-        if every_zero(xs, p + 3, many) {
-            if all_distinct(xs, p + 3, many) {
-                return 0;
-            }
-            return 7;
-        }
-        return 6;
+    let columns = row.columns();
+    let named = &columns[..many];
+    if !every_cue(named, cues) {
+        return Err(Fault::Range);
     }
-    6
+    if !every_zero(columns, many) {
+        return Err(Fault::Range);
+    }
+    if !all_distinct(named) {
+        return Err(Fault::Repeated);
+    }
+    Ok(())
 }
 
-fn open_fault(xs: &[u32], p: usize, blocks: u32) -> u32
-    requires { p + row_size ≤ length xs.now }
-    ensures { result ≡ open_fault xs.now p blocks }
+fn open_fault(row: Row, blocks: u32) -> Result<(), Fault>
+    ensures { said result ≡ open_fault row.entry.xs.now row.entry.at blocks }
 {
-    if xs[p] != blocks {
-        return 5;
+    if row.block() != blocks || blocks >= MAX_BLOCKS {
+        return Err(Fault::Place);
     }
-    if blocks >= MAX_BLOCKS {
-        return 5;
+    if MAX_JOINS < row.label() || MAX_OWN < row.own() || !every_zero(row.columns(), 1) {
+        return Err(Fault::Range);
     }
-    if MAX_JOINS < xs[p + 2] {
-        return 6;
-    }
-    if MAX_OWN < xs[p + 3] {
-        return 6;
-    }
-    if every_zero(xs, p + 3, 1) {
-        return 0;
-    }
-    6
+    Ok(())
 }
 
-// Check 8 of a link: q is the place of the row before, and before its kind.
-fn link_order(xs: &[u32], p: usize, q: usize, before: u32) -> u32
-    requires { (p + row_size ≤ length xs.now) × (q + row_size ≤ length xs.now) }
-    ensures { result ≡ link_order xs.now p q before }
+// Check 8 of a link.
+fn link_order(row: Row, before: u32) -> Result<(), Fault>
+    ensures { said result ≡ link_order row.entry.xs.now row.entry.at row.entry.before before }
 {
-    if before != 1 {
-        return 0;
+    if before != Kind::Link as u32 {
+        return Ok(());
     }
-    if is_below(xs, q + 3, p + 3, 2, xs[q + 2], xs[p + 2]) {
-        return 0;
+    if !is_below(
+        &row.columns_before()[..2],
+        row.label_before(),
+        &row.columns()[..2],
+        row.label(),
+    ) {
+        return Err(Fault::Order);
     }
-    8
+    Ok(())
 }
 
 // Check 8 of a use.
-fn use_order(xs: &[u32], p: usize, q: usize, before: u32) -> u32
-    requires { (p + row_size ≤ length xs.now) × (q + row_size ≤ length xs.now) }
-    ensures { result ≡ use_order xs.now p q before }
+fn use_order(row: Row, before: u32) -> Result<(), Fault>
+    ensures { said result ≡ use_order row.entry.xs.now row.entry.at row.entry.before before }
 {
-    if before != 2 {
-        return 0;
+    if before != Kind::Use as u32 {
+        return Ok(());
     }
-    if is_below(xs, p + 3, q + 3, 8, xs[p + 2], xs[q + 2]) {
-        return 8;
+    let (label, label_before) = (row.label(), row.label_before());
+    if is_below(row.columns(), label, row.columns_before(), label_before) {
+        return Err(Fault::Order);
     }
-    0
+    Ok(())
 }
 
-fn link_fault(xs: &[u32], p: usize, q: usize, blocks: u32, cues: u32, before: u32) -> u32
-    requires { (p + row_size ≤ length xs.now) × (q + row_size ≤ length xs.now) }
-    ensures { result ≡ link_fault xs.now p q blocks cues before }
+fn link_fault(row: Row, seen: State) -> Result<(), Fault>
+    ensures { said result ≡ link_fault row.entry.xs.now row.entry.at row.entry.before seen.blocks seen.cues seen.kind }
 {
-    let block = xs[p];
-    if block >= blocks {
-        return 5;
+    let block = row.block();
+    if block >= seen.blocks || block + 1 != seen.blocks || seen.kind >= Kind::Use as u32 {
+        return Err(Fault::Place);
     }
-    if block + 1 != blocks {
-        return 5;
+    let label = row.label();
+    if label < 1 || MAX_LABEL < label {
+        return Err(Fault::Range);
     }
-    if before >= 2 {
-        return 5;
-    }
-    let label = xs[p + 2];
-    if label < 1 {
-        return 6;
-    }
-    if MAX_LABEL < label {
-        return 6;
-    }
-    let k = named_fault(xs, p, 2, cues);
-    if k != 0 {
-        return k;
-    }
-    link_order(xs, p, q, before)
+    named_fault(row, 2, seen.cues)?;
+    link_order(row, seen.kind)
 }
 
 // many is how many joins the block has that the use names.
-fn use_fault(
-    xs: &[u32],
-    p: usize,
-    q: usize,
-    blocks: u32,
-    cues: u32,
-    before: u32,
-    many: usize,
-) -> u32
-    requires { (p + row_size ≤ length xs.now) × (q + row_size ≤ length xs.now) × (many ≤ max_joins) }
-    ensures { result ≡ use_fault xs.now p q blocks cues before many }
+fn use_fault(row: Row, seen: State, many: usize) -> Result<(), Fault>
+    requires { many ≤ max_joins }
+    ensures { said result ≡ use_fault row.entry.xs.now row.entry.at row.entry.before seen.blocks seen.cues seen.kind many }
 {
-    let block = xs[p];
-    if block >= blocks {
-        return 5;
+    let block = row.block();
+    if block >= seen.blocks || block + 1 != seen.blocks {
+        return Err(Fault::Place);
     }
-    if block + 1 != blocks {
-        return 5;
+    if row.label() >= block {
+        return Err(Fault::Range);
     }
-    if xs[p + 2] >= block {
-        return 6;
-    }
-    let k = named_fault(xs, p, many, cues);
-    if k != 0 {
-        return k;
-    }
-    use_order(xs, p, q, before)
+    named_fault(row, many, seen.cues)?;
+    use_order(row, seen.kind)
 }
 
-// The row at p where the rows before it open so many blocks, the current block has so many cues, and the row before, at q, has the kind
-// before: the number of the first of checks 5 to 8 that it fails, or 0.
-pub fn fault(
-    xs: &[u32],
-    p: usize,
-    q: usize,
-    blocks: u32,
-    cues: u32,
-    before: u32,
-    many: usize,
-) -> u32
-    requires { (p + row_size ≤ length xs.now) × (q + row_size ≤ length xs.now) × (many ≤ max_joins) }
-    ensures { result ≡ fault_of xs.now p q blocks cues before many }
+// The row's kind, or the first of checks 5 to 8 that it fails, behind rows of which so much is known.
+pub fn fault(row: Row, seen: State, many: usize) -> Result<Kind, Fault>
+    requires { many ≤ max_joins }
+    ensures first { said result ≡ fault_of row.entry.xs.now row.entry.at row.entry.before seen.blocks seen.cues seen.kind many }
+    ensures kind { IfOk result (λ k. kind_number k ≡ get_or row.entry.xs.now (row.entry.at + 1) 0) }
 {
-    let kind = xs[p + 1];
-    if kind == 0 {
-        return open_fault(xs, p, blocks);
+    let kind = row.kind()?;
+    match kind {
+        Kind::Opening => open_fault(row, seen.blocks)?,
+        Kind::Link => link_fault(row, seen)?,
+        Kind::Use => use_fault(row, seen, many)?,
     }
-    if kind == 1 {
-        return link_fault(xs, p, q, blocks, cues, before);
-    }
-    if kind == 2 {
-        return use_fault(xs, p, q, blocks, cues, before, many);
-    }
-    5
+    Ok(kind)
 }

@@ -5,24 +5,40 @@ use mathlib.Core.Path.{◌≡◌, refl, sym, ◌∙◌, ap}
 use mathlib.Core.Bool.{Bool, false}
 use mathlib.Core.Logic.{◌⊎◌, inl, inr}
 use mathlib.Core.List.{List}
-use lib.ListN.{length, get_or}
-use Rattle.model.specs.Limits.{summary_size, summary_width, max_followed}
+use lib.ListN.{get_or, take, drop}
+use Rattle.model.specs.Limits.{summary_size, summary_width, max_followed, max_joins}
 use Rattle.model.specs.Blocks.{Link, Block, block_at, joins_of, own_of, blocks_of}
 use Rattle.shows.specs.WellFormed.{Cue}
-use Rattle.shows.specs.Waits.{AreWaits}
 use Rattle.basics.proofs.Members.{get_d_mem}
 use Rattle.shows.proofs.AtBlock.{joins-small, own-small}
 use Rattle.shows.proofs.BlockAt.{joins_of-at, own_of_at}
-use Rattle.distances.specs.Walks.{Price, Linked, each-one}
-use Rattle.distances.specs.Quickest.{priced}
+use Rattle.distances.specs.Walks.{Price, Linked}
 use Rattle.distances.specs.Tells.{met_by, by-link, by-use}
 use Rattle.verdicts.specs.Index.{link_at, links_from, use_at, uses_from}
 use Rattle.blocks.specs.Loaded.{Loaded, IsBlock, LinkRows, UseRows, column_at, UseRow}
-use Rattle.blocks.proofs.Loaded.{mem-links_from, mem-uses_from, links_from-mem, uses_from-mem, loaded-show, own-few, joins-few, link_row, use_row, used_block}
+use Rattle.blocks.proofs.Loaded.{mem-links_from, mem-uses_from, links_from-mem, uses_from-mem, loaded-show, own-few, joins-few, link_row, use_row}
 use Rattle.searches.specs.Rounds.{orb, Edges, One, Still, Round, quiet}
 use Rattle.searches.specs.Starts.{Beginnings, Meets, Started, estimates_size}
-use Rattle.searches.specs.Edges.{Span, numbers, UseEdge, Mesh, Between, LinkEdge, LinkEnds, UseEdges, BlockEdge, cue_count, MaySettle}
+use Rattle.searches.specs.Edges.{Span, numbers, UseEdge, Mesh, Between, LinkEdge, Weighs, LinkEnds, UseEdges, BlockEdge, cue_count, MaySettle}
+use Rattle.searches.specs.Parts.{part_of}
+use Rattle.searches.proofs.Parts.{lent_at}
 use Rattle.searches.proofs.Rounds.{lowered_wide, span_begin, round_then, span_on, span_back, round_loops, round_same}
+
+-- By weights of a part, as it is lent: by those from its place on.
+mesh_lent : (xs work : List ℕ) (r a m : ℕ) {d e : List ℕ} {c : Bool} → Round (Mesh xs (take summary_size (drop a work)) r 0 m) d c e
+    → m ≤ max_joins → Round (Mesh xs work r a m) d c e
+unfolding Mesh
+mesh_lent xs work r a m o few = round_same lowered_wide (λ u v w i. into u v w i) (λ u v w i. back u v w i) o
+  where
+    weight : (i j : ℕ) → i < m → j < m
+        → get_or (take summary_size (drop a work)) (0 + summary_width * i + j) 0 ≡ get_or work (a + summary_width * i + j) 0
+    weight i j hi hj = lent_at summary_size a work (0 + summary_width * i + j) (a + summary_width * i + j) (omega arith) (omega arith)
+
+    into : (u v w : ℕ) → Mesh xs (take summary_size (drop a work)) r 0 m u v w → Mesh xs work r a m u v w
+    into u v w (i, j, hi, hj, (eu, ev, ew)) = (i, j, hi, hj, (eu, ev, ew ∙ weight i j hi hj))
+
+    back : (u v w : ℕ) → Mesh xs work r a m u v w → Mesh xs (take summary_size (drop a work)) r 0 m u v w
+    back u v w (i, j, hi, hj, (eu, ev, ew)) = (i, j, hi, hj, (eu, ev, ew ∙ sym (weight i j hi hj)))
 
 -- One use, by the row r that names its cues and the weights from place q on.
 module _ (xs work : List ℕ) (r q : ℕ) where
@@ -37,11 +53,11 @@ module _ (xs work : List ℕ) (r q : ℕ) where
           let s : u ≡ v = eu ∙ ap (λ (k : ℕ). column_at xs r k) e ∙ sym ev in rw s (omega arith)
 
   -- Two of its cues, as they are read: the edges there and back.
-  pub between-both : (i j : ℕ) {a b k l x y : ℕ} {d e f : List ℕ} {s c t : Bool} → Round (One a b x) d s e → Round (One b a y) e c f → t ≡ orb s c
-      → a ≡ k → k ≡ column_at xs r i → b ≡ l → l ≡ column_at xs r j → x ≡ get_or work (q + summary_width * i + j) 0
-      → y ≡ get_or work (q + summary_width * j + i) 0 → Round (Between xs work r q i j) d t f
+  pub between-both : (i j : ℕ) {a b k l m n x y : ℕ} {d e f : List ℕ} {s c t : Bool} → Round (One a b x) d s e → Round (One b a y) e c f → t ≡ orb s c
+      → a ≡ k → k ≡ column_at xs r i → b ≡ l → l ≡ column_at xs r j → x ≡ get_or work m 0 → y ≡ get_or work n 0 → m ≡ q + summary_width * i + j
+      → n ≡ q + summary_width * j + i → Round (Between xs work r q i j) d t f
   unfolding Between
-  between-both i j {a} {b} {x = x} {y} o o' t ak ek bl el ex ey =
+  between-both i j {a} {b} {x = x} {y} o o' t ak ek bl el xm yn em en =
       round_then lowered_wide (λ u v w (eu, ev, ew). inl (eu ∙ ea, ev ∙ eb, ew ∙ ex)) (λ u v w (eu, ev, ew). inr (eu ∙ eb, ev ∙ ea, ew ∙ ey))
       (λ u v w l. back u v w l) o o' t
     where
@@ -50,6 +66,12 @@ module _ (xs work : List ℕ) (r q : ℕ) where
 
       eb : b ≡ column_at xs r j
       eb = bl ∙ el
+
+      ex : x ≡ get_or work (q + summary_width * i + j) 0
+      ex = xm ∙ ap (λ (p : ℕ). get_or work p 0) em
+
+      ey : y ≡ get_or work (q + summary_width * j + i) 0
+      ey = yn ∙ ap (λ (p : ℕ). get_or work p 0) en
 
       back : (u v w : ℕ) → Between xs work r q i j u v w → One a b x u v w ⊎ One b a y u v w
       back u v w (inl (eu, ev, ew)) = inl (eu ∙ sym ea, ev ∙ sym eb, ew ∙ sym ex)
@@ -109,16 +131,6 @@ module _ (xs work : List ℕ) (r q : ℕ) where
       back u v w (suc zero) (suc (suc (suc j))) hi hj l = absurd (omega arith)
       back u v w (suc (suc zero)) (suc (suc (suc j))) hi hj l = absurd (omega arith)
       back u v w (suc (suc (suc i))) j hi hj l = absurd (omega arith)
-
-  -- Two cues, by the weights as they are read.
-  pub mesh_pair : {a b k l x y : ℕ} {d e f : List ℕ} {s c t : Bool} → Round (One a b x) d s e → Round (One b a y) e c f → t ≡ orb s c → a ≡ k
-      → k ≡ column_at xs r 0 → b ≡ l → l ≡ column_at xs r 1 → x ≡ get_or work (q + 1) 0 → y ≡ get_or work (q + summary_width) 0
-      → Round (Mesh xs work r q 2) d t f
-  mesh_pair o o' t ak ek bl el ex ey =
-      let forth : q + 1 ≡ q + summary_width * 0 + 1 = omega arith in
-      let up : q + summary_width ≡ q + summary_width * 1 + 0 = omega arith in
-      mesh_two
-      (between-both 0 1 o o' t ak ek bl el (ex ∙ ap (λ (k : ℕ). get_or work k 0) forth) (ey ∙ ap (λ (k : ℕ). get_or work k 0) up))
 
   -- By another name for the number of its cues.
   pub mesh_as : {m n : ℕ} {d e : List ℕ} {c : Bool} → Round (Mesh xs work r q n) d c e → m ≡ n → Round (Mesh xs work r q m) d c e
@@ -203,27 +215,14 @@ pub link-note : (price : Price) (l : Link) {label : ℕ} (d : List ℕ) → labe
 unfolding LinkEdge
 link-note price l d e h most = quiet refl refl (λ u v w i. absurd (omega (arith, most l.label w i.2)))
 
-link-taken : (price : Price) (l : Link) (x y z : ℕ) {d e : List ℕ} {c : Bool} → price l.label z → ((w : ℕ) → price l.label w → w ≡ z)
-    → x ≡ l.from → y ≡ l.to → Round (One x y z) d c e → Round (LinkEdge price l) d c e
+-- A link that is followed, by its ends and its label as they are read.
+pub link-taken : (price : Price) (l : Link) {x y z p q w label : ℕ} {d e : List ℕ} {c : Bool} → Round (One x y z) d c e → x ≡ p → p ≡ l.from → y ≡ q
+    → q ≡ l.to → label ≡ l.label → z ≡ w → Weighs price label w → Round (LinkEdge price l) d c e
 unfolding LinkEdge
-link-taken price l x y z h only ex ey o =
-    round_same lowered_wide (λ u v w i. (sym ex ∙ sym i.0, sym ey ∙ sym i.1, rw i.2 h))
-    (λ u v w i. (sym i.0 ∙ sym ex, sym i.1 ∙ sym ey, only w i.2)) o
-
--- A link that is followed, by its ends and its label as they are read: it counts one, or waits as long as its label does.
-module _ (l : Link) {x y z p q label : ℕ} {d e : List ℕ} {c : Bool} (o : Round (One x y z) d c e) (ex : x ≡ p) (ep : p ≡ l.from) (ey : y ≡ q)
-    (eq : q ≡ l.to) (el : label ≡ l.label) (h : label ≤ max_followed) where
-  pub link-one : z ≡ 1 → Round (LinkEdge each-one l) d c e
-  link-one ez = link-taken each-one l x y z (omega arith, ez) (λ w i. i.1 ∙ sym ez) (ex ∙ ep) (ey ∙ eq) o
-
-  pub link-waits : (waits : List ℕ) (n : ℕ) → z ≡ get_or waits n 0 → n ≡ label → Round (LinkEdge (priced waits) l) d c e
-  link-waits waits n ez en =
-      let ew : z ≡ get_or waits l.label 0 = ez ∙ ap (λ (k : ℕ). get_or waits k 0) (en ∙ el) in
-      link-taken (priced waits) l x y z (omega arith, ew) (λ w i. i.1 ∙ sym ew) (ex ∙ ep) (ey ∙ eq) o
-
--- A label that is followed has a wait.
-pub label-waits : {waits : List ℕ} {n label : ℕ} → AreWaits waits → n ≡ label → label ≤ max_followed → n < length waits
-label-waits w e h = omega (arith, w.size)
+link-taken price l o ex ep ey eq el ez h =
+    let ws : Weighs price l.label _ = rw el at h in
+    round_same lowered_wide (λ u v w i. (sym (ex ∙ ep) ∙ sym i.0, sym (ey ∙ eq) ∙ sym i.1, rw (i.2 ∙ ez) ws.is))
+    (λ u v w i. (sym i.0 ∙ sym (ex ∙ ep), sym i.1 ∙ sym (ey ∙ eq), ws.only w i.2 ∙ sym ez)) o
 
 -- A round over the link rows from a on and before z; none of them, one more, and all of a block's.
 pub record LinksOver (price : Price) (xs : List ℕ) (a z : ℕ) (d : List ℕ) (c : Bool) (e : List ℕ) : Type 0 where
@@ -286,41 +285,41 @@ module _ {xs work : List ℕ} where
       back u v w (x, m, i) =
           let (r, h, l, e) = mem-uses_from xs (blocks_of xs) a (z - a) x m in (r, h, omega (arith, rows.order), (rw e at i))
 
--- At row r of the uses of block k, which names block b and m cues: what is asked for there, and the round over one use more.
-module _ {xs t work d₀ : List ℕ} {k a z : ℕ} (b r : ℕ) (eb : b ≡ (use_at xs (blocks_of xs) r).block) (may : MaySettle xs t k work d₀)
-    (rows : UseRows xs t k a z) (lo : a ≤ r) (hi : r < z) where
-  row : UseRow xs k r
-  row = use_row may.loaded k may.block r rows lo hi
+-- At row r of a use, which names block b and m cues: what is asked for there, and the round over its edges.
+pub used_room : {xs : List ℕ} {k r : ℕ} (b n : ℕ) → UseRow xs k r → b ≡ (use_at xs (blocks_of xs) r).block → summary_size * k ≤ n
+    → summary_size * b + summary_size ≤ n
+used_room b n row eb room = omega (arith, row.lower)
 
-  pub used_named : IsBlock xs b
-  used_named = used_block b row eb
+module _ {xs t : List ℕ} {k r : ℕ} (g : Loaded xs t) (row : UseRow xs k r) {b m : ℕ} (eb : b ≡ (use_at xs (blocks_of xs) r).block)
+    (em : m ≡ joins_of (blocks_of xs) b) where
+  pub used_meets : {n : ℕ} → n ≡ estimates_size → Meets xs r m n
+  used_meets {n} e = row-meets g row b m eb em n e
 
-  pub used_room : summary_size * b + summary_size ≤ length work
-  used_room = omega (arith, row.lower, may.room)
+  pub used_round : (work : List ℕ) {d e : List ℕ} {c : Bool} → Round (Mesh xs (part_of work b) r 0 m) d c e
+      → Round (UseEdge (blocks_of xs) work (use_at xs (blocks_of xs) r)) d c e
+  used_round work o =
+      let meets : Meets xs r m estimates_size = used_meets refl in
+      mesh_use g row b m eb em work (mesh_lent xs work r (summary_size * b) m o meets.few)
 
-  module _ {m : ℕ} (em : m ≡ joins_of (blocks_of xs) b) where
-    pub used_meets : {n : ℕ} → n ≡ length d₀ → Meets xs r m n
-    used_meets {n} e = row-meets may.loaded row b m eb em n (e ∙ may.size)
+-- The row of a use of block k, as the code goes over them.
+pub use-there : {A : Type 0} {xs t : List ℕ} {w : List A} {k a z : ℕ} (r : ℕ) → MaySettle xs t k w → UseRows xs t k a z → a ≤ r → r < z → UseRow xs k r
+use-there {k = k} r may rows lo hi = use_row may.loaded k may.block r rows lo hi
 
-    module _ {e f : List ℕ} {c : Bool} (x : Round (Mesh xs work r (summary_size * b) m) e c f) where
-      use_round : Round (UseEdge (blocks_of xs) work (use_at xs (blocks_of xs) r)) e c f
-      use_round = mesh_use may.loaded row b m eb em work x
+-- One use more; and one more from the last to the first, where those from row p on are passed.
+module _ {xs work d e f : List ℕ} {s c o : Bool} where
+  pub uses-on : {a r : ℕ} → UsesOver xs work a r d s e → Round (UseEdge (blocks_of xs) work (use_at xs (blocks_of xs) r)) e c f → o ≡ orb s c → a ≤ r
+      → UsesOver xs work a (r + 1) d o f
+  uses-on {a} {r} so x eo lo =
+      record { round = span_on lowered_wide (λ i. UseEdge (blocks_of xs) work (use_at xs (blocks_of xs) i)) a r lo so.round x eo }
 
-      pub uses-on : {d : List ℕ} {s o : Bool} → UsesOver xs work a r d s e → o ≡ orb s c → UsesOver xs work a (r + 1) d o f
-      uses-on so eo =
-          record { round = span_on lowered_wide (λ i. UseEdge (blocks_of xs) work (use_at xs (blocks_of xs) i)) a r lo so.round use_round eo }
-
--- One use more from the last to the first, where those from row p on are passed.
-pub uses-back : {xs t work d₀ : List ℕ} {k a z p m : ℕ} (b r : ℕ) {d e f : List ℕ} {s c o : Bool} → UsesOver xs work p z d s e
-    → Round (Mesh xs work r (summary_size * b) m) e c f → o ≡ orb s c → b ≡ (use_at xs (blocks_of xs) r).block → m ≡ joins_of (blocks_of xs) b
-    → UseRows xs t k a z → MaySettle xs t k work d₀ → a < p → p ≤ z → r ≡ p - 1 → UsesOver xs work r z d o f
-uses-back {xs} {work = work} {z = z} {p} b r so x eo eb em rows may lo hi er =
-    let one = use_round b r eb may rows (omega arith) (omega arith) em x in
-    record { round = span_back lowered_wide (λ i. UseEdge (blocks_of xs) work (use_at xs (blocks_of xs) i)) r p z (omega arith) hi so.round one eo }
+  pub uses-back : {p z r : ℕ} → UsesOver xs work p z d s e → Round (UseEdge (blocks_of xs) work (use_at xs (blocks_of xs) r)) e c f → o ≡ orb s c
+      → p ≡ r + 1 → p ≤ z → UsesOver xs work r z d o f
+  uses-back {p} {z} {r} so x eo ep hi =
+      record { round = span_back lowered_wide (λ i. UseEdge (blocks_of xs) work (use_at xs (blocks_of xs) i)) r p z ep hi so.round x eo }
 
 -- A cue of block k has a place among the estimates.
-pub cue-there : {xs t work d : List ℕ} {k c n : ℕ} → MaySettle xs t k work d → c ≤ cue_count (blocks_of xs) k → n ≡ length d → c < n
-cue-there {k = k} may h e = omega (arith, may.size, own-few may.loaded k may.block, joins-few may.loaded k may.block)
+pub cue-there : {A : Type 0} {xs t : List ℕ} {work : List A} {k c n : ℕ} → MaySettle xs t k work → c ≤ cue_count (blocks_of xs) k → n ≡ estimates_size → c < n
+cue-there {k = k} may h e = omega (arith, own-few may.loaded k may.block, joins-few may.loaded k may.block)
 
 -- Estimates that are cleared for as many cues as block k has, counted as they are read.
 pub started_block : (bs : List Block) (k : ℕ) {inf : ℕ} {S : Beginnings} {d : List ℕ} (o p j : ℕ) → Started inf (o + j) S d → o ≡ p → p ≡ own_of bs k

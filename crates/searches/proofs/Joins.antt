@@ -1,12 +1,13 @@
 -- Laws of what estimates begin with at joins and at the cues of a use, of rows of kept numbers, and of the rows that two places share.
 use Prim.Native.Nat.{ℕ, suc, ◌+◌, ◌*◌, ◌-◌, ◌≤◌, ◌<◌}
 use native.Mathlib.Omega.{arith}
-use native.Mathlib.Decide.{ℕ_discrete}
+use native.Mathlib.Decide.{ℕ_discrete, dec_lt}
+use Rattle.std.specs.Prelude.{min}
 use mathlib.Core.Path.{◌≡◌, refl, sym, ◌∙◌, ap}
 use mathlib.Core.Logic.{◌⊎◌, inl, inr, ◌≢◌}
-use mathlib.Core.List.{List}
-use lib.ListN.{length, get_or, set}
-use lib.Seq.{get_or-set_same, get_or-set_other}
+use mathlib.Core.List.{List, ◌++◌}
+use lib.ListN.{length, get_or, set, take, drop}
+use lib.Seq.{get_or-set_same, get_or-set_other, get_or-take}
 use Rattle.model.specs.Limits.{summary_width}
 use Rattle.model.specs.Blocks.{Use, Block, block_at, joins_of, own_of, blocks_of}
 use Rattle.shows.proofs.BlockAt.{joins_of-at, own_of_at}
@@ -17,9 +18,10 @@ use Rattle.blocks.specs.Places.{block_on, UsesTo}
 use Rattle.blocks.specs.declared.Place.{Place}
 use Rattle.blocks.proofs.Loaded.{used_block}
 use Rattle.blocks.proofs.Places.{uses-row, level-used}
-use Rattle.searches.specs.Starts.{estimates_size, Beginnings, Nowhere, Cell, Meets, MetAt, Started, Merged, Gathered}
+use Rattle.searches.specs.Starts.{estimates_size, Nowhere, Cell, Meets, MetAt, Started, Merged, Gathered}
 use Rattle.searches.proofs.Edges.{row-meets}
-use Rattle.searches.proofs.Starts.{each-begin, each_on, started_first, started_same}
+use Rattle.searches.proofs.Starts.{merged_same, each-begin, each_on, started_first, started_same}
+use Rattle.searches.proofs.Parts.{lent_at, put_before, put_in, put_behind}
 use Rattle.searches.specs.Edges.{cue_count}
 use Rattle.searches.specs.Joins.{JoinsAt, AtJoins, passed, RowKept, JoinsKept}
 use Rattle.searches.specs.Copies.{kept_at, Source, inner, here, FromKept, FromAbove, Common}
@@ -29,51 +31,84 @@ pub joins-begin : (p : ℕ) (e d : List ℕ) → Merged (JoinsAt p e 0) d d
 unfolding JoinsAt
 joins-begin p e d = each-begin (λ i. Cell (p + i) (get_or e i 0)) d
 
-pub joins-on : (p : ℕ) (e : List ℕ) (i : ℕ) {d g f : List ℕ} → Merged (JoinsAt p e i) d g → Merged (Cell (p + i) (get_or e i 0)) g f
+pub joins-on : (p : ℕ) (e : List ℕ) (i : ℕ) {k : ℕ} {d g f : List ℕ} → Merged (JoinsAt p e i) d g → Merged (Cell k (get_or e i 0)) g f → k ≡ p + i
     → Merged (JoinsAt p e (i + 1)) d f
 unfolding JoinsAt
-joins-on p e i s t = each_on (λ i. Cell (p + i) (get_or e i 0)) i s t
+joins-on p e i s t ek = each_on (λ i. Cell (p + i) (get_or e i 0)) i s (rw ek at t)
 
-pub joins-done : (p : ℕ) (e : List ℕ) (i m : ℕ) {d g : List ℕ} → Merged (JoinsAt p e i) d g → i ≤ m → m ≤ i → Merged (JoinsAt p e m) d g
-joins-done p e i m s h k = let q : i ≡ m = omega arith in rw q at s
+-- In a part of the estimates, as it is lent, with numbers of a front: in all of them.
+module _ (p m : ℕ) (d e v : List ℕ) (size : length v ≡ m) (fits : p + m ≤ length d) where
+  abbrev w : List ℕ
+  w = take p d ++ (v ++ drop (p + m - p) (drop p d))
+
+  within_part : (x i : ℕ) → i < m → x ≡ p + i → (get_or (take (p + m - p) (drop p d)) i 0 ≡ get_or d x 0) × (get_or w x 0 ≡ get_or v i 0)
+  within_part x i h ex = (lent_at (p + m - p) p d i x (omega arith) ex, put_in p (p + m - p) d v (omega arith) (omega arith) i (omega arith) ex)
+
+  out_of_part : (x : ℕ) → (x < p) ⊎ (p + m ≤ x) → get_or w x 0 ≡ get_or d x 0
+  out_of_part x (inl h) = put_before p (p + m - p) d v (omega arith) (omega arith) x h
+  out_of_part x (inr h) = put_behind p (p + m - p) d v (omega arith) (omega arith) x (omega arith)
+
+  pub joins_lent : Merged (JoinsAt 0 (take m e) m) (take (p + m - p) (drop p d)) v → Merged (JoinsAt p e m) d w
+  unfolding JoinsAt
+  joins_lent s =
+      record {
+        fallen = λ x y b. fallen x y b;
+        lower = λ x. lower x (dec_lt x p) (dec_lt x (p + m));
+        from = λ x. from x (dec_lt x p) (dec_lt x (p + m));
+      }
+    where
+      fallen : (x y : ℕ) → JoinsAt p e m x y → get_or w x 0 ≤ y
+      fallen x y (i, h, (ex, ey)) =
+          let k : get_or v i 0 ≤ y = s.fallen i y (i, h, (omega arith, ey ∙ sym (get_or-take m e i 0 h))) in
+          omega (arith, within_part x i h ex)
+
+      lower : (x : ℕ) → Dec (x < p) → Dec (x < p + m) → get_or w x 0 ≤ get_or d x 0
+      lower x (yes a) b = omega (arith, out_of_part x (inl a))
+      lower x (no a) (no b) = omega (arith, out_of_part x (inr (omega arith)))
+      lower x (no a) (yes b) = omega (arith, within_part x (x - p) (omega arith) (omega arith), s.lower (x - p))
+
+      made : (x i : ℕ) → i < m → x ≡ p + i → (get_or v i 0 ≡ get_or (take (p + m - p) (drop p d)) i 0) ⊎ JoinsAt 0 (take m e) m i (get_or v i 0)
+          → (get_or w x 0 ≡ get_or d x 0) ⊎ JoinsAt p e m x (get_or w x 0)
+      made x i h ex (inl q) = let (old, new) = within_part x i h ex in inl (new ∙ q ∙ old)
+      made x i h ex (inr (j, k, (ej, ev))) =
+          let (old, new) = within_part x i h ex in inr (j, k, (omega arith, new ∙ ev ∙ get_or-take m e j 0 k))
+
+      from : (x : ℕ) → Dec (x < p) → Dec (x < p + m) → (get_or w x 0 ≡ get_or d x 0) ⊎ JoinsAt p e m x (get_or w x 0)
+      from x (yes a) b = inl (out_of_part x (inl a))
+      from x (no a) (no b) = inl (out_of_part x (inr (omega arith)))
+      from x (no a) (yes b) = made x (x - p) (omega arith) (omega arith) (s.from (x - p))
 
 -- A row of numbers.
 pub row-begin : (v : List ℕ) (i : ℕ) (d : List ℕ) (p : ℕ) → RowKept v i d p 0 v
 row-begin v i d p = record { at = λ j h. absurd (omega arith); else = λ x h. refl }
 
-pub row_on : (n : ℕ) {v e : List ℕ} (i : ℕ) {d : List ℕ} (p m : ℕ) → summary_width * i + n ≤ length v → m < n → length e ≡ length v
-    → RowKept v i d p m e → RowKept v i d p (m + 1) (set e (summary_width * i + m) (get_or d (p + m) 0))
-row_on n {v} {e} i {d} p m long less same r = record { at = λ j l. at j l (ℕ_discrete j m); else = λ x l. else x l }
+pub row_on : {v e : List ℕ} (i : ℕ) {d : List ℕ} (m : ℕ) → summary_width * i + m < length e → RowKept v i d 0 m e → RowKept v i d 0 (m + 1) (set e (summary_width * i + m) (get_or d m 0))
+row_on {v} {e} i {d} m long r = record { at = λ j l. at j l (ℕ_discrete j m); else = λ x l. else x l }
   where
+    first : (j : ℕ) → get_or d (0 + j) 0 ≡ get_or d j 0
+    first j = let z : 0 + j ≡ j = omega arith in ap (λ (n : ℕ). get_or d n 0) z
+
     at : (j : ℕ) → j < m + 1 → Dec (j ≡ m)
-        → get_or (set e (summary_width * i + m) (get_or d (p + m) 0)) (summary_width * i + j) 0 ≡ get_or d (p + j) 0
-    at j l (yes q) = rw q (get_or-set_same e (summary_width * i + m) (get_or d (p + m) 0) 0 (omega arith))
+        → get_or (set e (summary_width * i + m) (get_or d m 0)) (summary_width * i + j) 0 ≡ get_or d (0 + j) 0
+    at j l (yes q) = rw q (get_or-set_same e (summary_width * i + m) (get_or d m 0) 0 (omega arith) ∙ sym (first m))
     at j l (no n) =
-        get_or-set_other e (summary_width * i + m) (summary_width * i + j) (get_or d (p + m) 0) 0 (λ q. n (omega arith)) ∙ r.at j
+        get_or-set_other e (summary_width * i + m) (summary_width * i + j) (get_or d m 0) 0 (λ q. n (omega arith)) ∙ r.at j
         (omega arith)
 
     else : (x : ℕ) → (x < summary_width * i) ⊎ (summary_width * i + (m + 1) ≤ x)
-        → get_or (set e (summary_width * i + m) (get_or d (p + m) 0)) x 0 ≡ get_or v x 0
-    else x (inl l) = get_or-set_other e (summary_width * i + m) x (get_or d (p + m) 0) 0 (λ q. omega arith) ∙ r.else x (inl l)
-    else x (inr l) = get_or-set_other e (summary_width * i + m) x (get_or d (p + m) 0) 0 (λ q. omega arith) ∙ r.else x (inr (omega arith))
+        → get_or (set e (summary_width * i + m) (get_or d m 0)) x 0 ≡ get_or v x 0
+    else x (inl l) = get_or-set_other e (summary_width * i + m) x (get_or d m 0) 0 (λ q. omega arith) ∙ r.else x (inl l)
+    else x (inr l) = get_or-set_other e (summary_width * i + m) x (get_or d m 0) 0 (λ q. omega arith) ∙ r.else x (inr (omega arith))
 
-pub row_done : {v : List ℕ} {i : ℕ} {d : List ℕ} {p j m : ℕ} {e : List ℕ} → RowKept v i d p j e → j ≤ m → m ≤ j → RowKept v i d p m e
-row_done {j = j} {m} r h k = let q : j ≡ m = omega arith in rw q at r
+-- With the estimates of a part, as it is lent: with those from its place on.
+pub row_lent : {v e : List ℕ} {i : ℕ} (d : List ℕ) (p m : ℕ) → RowKept v i (take (p + m - p) (drop p d)) 0 m e → RowKept v i d p m e
+row_lent d p m r =
+    record { at = λ j h. r.at j h ∙ lent_at (p + m - p) p d (0 + j) (p + j) (omega arith) (omega arith); else = r.else }
 
 -- The row has the estimates at a block's joins, by the numbers that the code has of the block.
 pub joins-kept : (bs : List Block) (k : ℕ) {w o m : ℕ} {v : List ℕ} {l : ℕ} {d e : List ℕ} → RowKept v l d (o + 1) m e → o ≡ w
     → w ≡ own_of bs k → m ≡ joins_of bs k → JoinsKept bs k v l d e
 joins-kept bs k r eo ew em = rw (eo ∙ ew, em) at r
-
--- What amounts to the same is put in.
-merged_same : {S T : Beginnings} {d e : List ℕ} → ((a x : ℕ) → S a x → T a x) → ((a x : ℕ) → T a x → S a x) → Merged S d e
-    → Merged T d e
-merged_same {S} {T} {d} {e} f g m =
-    record { fallen = λ a x b. m.fallen a x (g a x b); lower = m.lower; from = λ a. from a (m.from a) }
-  where
-    from : (a : ℕ) → (get_or e a 0 ≡ get_or d a 0) ⊎ S a (get_or e a 0) → (get_or e a 0 ≡ get_or d a 0) ⊎ T a (get_or e a 0)
-    from a (inl p) = inl p
-    from a (inr b) = inr (f a (get_or e a 0) b)
 
 -- The cues of a use, by its row.
 module _ {xs : List ℕ} {k r : ℕ} (row : UseRow xs k r) where
@@ -196,11 +231,8 @@ same-on {a} {b} {i} s e = record { at = λ j h. go j h (ℕ_discrete j i) }
 
 -- No more of them are.
 module _ {a b : List ℕ} {n m i : ℕ} (s : SameRows a b i) (h : i ≤ n) (k : i ≤ m) where
-  pub common_all : n ≤ i → Common a n b m i
+  pub common_all : i ≡ min n m → Common a n b m i
   common_all l = record { first = h; second = k; same = s.at; differ = λ x y. absurd (omega arith) }
-
-  pub common_short : i ≡ m → Common a n b m i
-  common_short e = record { first = h; second = k; same = s.at; differ = λ x y. absurd (omega arith) }
 
   pub common_differ : get_or a i 0 ≢ get_or b i 0 → Common a n b m i
   common_differ d = record { first = h; second = k; same = s.at; differ = λ x y. d }

@@ -6,32 +6,17 @@ use mathlib.Core.Path.{◌≡◌, refl, sym, ◌∙◌, ap}
 use mathlib.Core.Bool.{Bool, true, false}
 use mathlib.Core.Logic.{◌⊎◌, inl, inr}
 use mathlib.Core.List.{List}
-use lib.ListN.{length, get_or, set, replicate, get_or-replicate}
+use lib.ListN.{length, get_or, set, take, drop, replicate, get_or-replicate}
 use lib.Seq.{get_or-set_same, get_or-set_other}
 use Rattle.model.specs.Limits.{summary_width, max_joins}
 use Rattle.blocks.specs.Loaded.{column_at}
 use Rattle.searches.specs.Rounds.{orb, Lowered, more, Still, Round, quiet, moved, Fell, same, less}
 use Rattle.searches.specs.Starts.{Meets, MetAt, Merged, Gathered}
-use Rattle.searches.specs.Lines.{Least, Capped, Line, Lines, Alike, Even}
+use Rattle.searches.specs.Lines.{Least, Line, Lines, Alike, Even}
 use Rattle.searches.specs.Edges.{Mesh}
 use Rattle.searches.proofs.Lowering.{true_not_false}
 use Rattle.searches.proofs.Rounds.{runs-begin}
-
--- The smaller of an estimate and a sum that is cut off at inf.
-pub least-sum : (inf y x w room s r : ℕ) → y ≤ inf → room + x ≡ inf → (s ≤ w) × (s ≤ room) × ((s ≡ w) ⊎ ((s ≡ room) × (room < w)))
-    → (r ≤ y) × (r ≤ x + s) × ((r ≡ y) ⊎ ((r ≡ x + s) × (x + s < y))) → Least inf y x w r
-least-sum inf y x w room s r h e (sw, sr, S) (ry, rs, R) = record { old = ry; new = omega arith; from = from R S }
-  where
-    from : (r ≡ y) ⊎ ((r ≡ x + s) × (x + s < y)) → (s ≡ w) ⊎ ((s ≡ room) × (room < w)) → (r ≡ y) ⊎ ((r ≡ x + w) × (r < inf))
-    from (inl p) q = inl p
-    from (inr (p, l)) (inl q) = inr (omega arith, omega arith)
-    from (inr (p, l)) (inr (q, k)) = absurd (omega arith)
-
-pub least-capped : (inf y x w z r : ℕ) → y ≤ inf → Capped inf x w z → ((z < y) × (r ≡ z)) ⊎ ((y ≤ z) × (r ≡ y)) → Least inf y x w r
-least-capped inf y x w z r h (inl e) (inl (l, f)) = record { old = omega arith; new = omega arith; from = inr (omega arith, omega arith) }
-least-capped inf y x w z r h (inl e) (inr (l, f)) = record { old = omega arith; new = omega arith; from = inl f }
-least-capped inf y x w z r h (inr (e, k)) (inl (l, f)) = absurd (omega arith)
-least-capped inf y x w z r h (inr (e, k)) (inr (l, f)) = record { old = omega arith; new = omega arith; from = inl f }
+use Rattle.searches.proofs.Parts.{lent_at}
 
 -- An estimate from inf on lowers no other.
 pub line_skip : (inf n : ℕ) (work : List ℕ) (q x : ℕ) (d : List ℕ) → inf ≤ x → ((c : ℕ) → get_or d c 0 ≤ inf) → Line inf work q x d n d
@@ -41,37 +26,47 @@ line_skip inf n work q x d h most =
 pub line_begin : (inf : ℕ) (work : List ℕ) (q x : ℕ) (d : List ℕ) → Line inf work q x d 0 d
 line_begin inf work q x d = record { at = λ j l. absurd (omega arith); else = λ j l. refl }
 
-pub line_on : (inf : ℕ) (work : List ℕ) (q x : ℕ) (d : List ℕ) (n : ℕ) (e : List ℕ) (y w r : ℕ) → Line inf work q x d n e → Least inf y x w r
-    → y ≡ get_or e n 0 → w ≡ get_or work (q + n) 0 → n < length e → Line inf work q x d (n + 1) (set e n r)
-line_on inf work q x d n e y w r l least ey ew h = record { at = λ j k. at j k (ℕ_discrete j n); else = else }
+pub line_on : (inf : ℕ) (work : List ℕ) (x : ℕ) (d : List ℕ) (n : ℕ) (e : List ℕ) (y w r : ℕ) → Line inf work 0 x d n e → Least inf y x w r
+    → y ≡ get_or e n 0 → w ≡ get_or work n 0 → n < length e → Line inf work 0 x d (n + 1) (set e n r)
+line_on inf work x d n e y w r l least ey ew h = record { at = λ j k. at j k (ℕ_discrete j n); else = else }
   where
     here : get_or (set e n r) n 0 ≡ r
     here = get_or-set_same e n r 0 h
 
-    at : (j : ℕ) → j < n + 1 → Dec (j ≡ n) → Least inf (get_or d j 0) x (get_or work (q + j) 0) (get_or (set e n r) j 0)
-    at j k (yes p) = rw (p, here, ← (l.else n (omega arith)), ← ey, ← ew) least
+    first : get_or work (0 + n) 0 ≡ w
+    first = let z : 0 + n ≡ n = omega arith in ap (λ (m : ℕ). get_or work m 0) z ∙ sym ew
+
+    at : (j : ℕ) → j < n + 1 → Dec (j ≡ n) → Least inf (get_or d j 0) x (get_or work (0 + j) 0) (get_or (set e n r) j 0)
+    at j k (yes p) = rw (p, here, ← (l.else n (omega arith)), ← ey, first) least
     at j k (no m) = rw (get_or-set_other e n j r 0 m) (l.at j (omega arith))
 
     else : (j : ℕ) → n + 1 ≤ j → get_or (set e n r) j 0 ≡ get_or d j 0
     else j k = get_or-set_other e n j r 0 (λ p. omega arith) ∙ l.else j (omega arith)
 
-pub line_done : {inf : ℕ} {work : List ℕ} {q x : ℕ} {d : List ℕ} {m n : ℕ} {e : List ℕ} → Line inf work q x d m e → m ≤ n → n ≤ m
-    → Line inf work q x d n e
-line_done {m = m} {n} l h g = let e : m ≡ n = omega arith in rw e at l
-
 pub lines-begin : (inf width : ℕ) (work : List ℕ) (q : ℕ) (g d : List ℕ) → Lines inf width work q g d 0 d
 lines-begin inf width work q g d =
     record { old = λ j h. omega arith; new = λ i j l h. absurd (omega arith); from = λ j h. inl refl }
 
-pub lines-on : (inf width : ℕ) (work : List ℕ) (q : ℕ) (g d : List ℕ) (n : ℕ) (e f : List ℕ) (x : ℕ) → Lines inf width work q g d n e
-    → Line inf work (q + summary_width * n) x e width f → x ≡ get_or g n 0 → Lines inf width work q g d (n + 1) f
-lines-on inf width work q g d n e f x s l ex =
+-- By weights of a part, as it is lent: by those from its place on.
+line_lent : {inf x width n a : ℕ} {work d e : List ℕ} → Line inf (take n (drop a work)) 0 x d width e → width ≤ n → Line inf work a x d width e
+line_lent {inf} {x} {n = n} {a} {work} {d} {e} l long =
+    record {
+      at = λ j h. rw (lent_at n a work (0 + j) (a + j) (omega arith) (omega arith)) at (l.at j h);
+      else = l.else;
+    }
+
+pub lines-on : (inf width : ℕ) (work : List ℕ) (q : ℕ) (g d : List ℕ) (n : ℕ) (e f : List ℕ) (x : ℕ) {a : ℕ} → Lines inf width work q g d n e
+    → Line inf (take summary_width (drop a work)) 0 x e width f → x ≡ get_or g n 0 → width ≤ summary_width → a ≡ q + summary_width * n → Lines inf width work q g d (n + 1) f
+lines-on inf width work q g d n e f x {a} s o ex long ea =
     record {
       old = λ j h. omega (arith, s.old j h, (l.at j h).old);
       new = λ i j k h. new i j k h (ℕ_discrete i n);
       from = λ j h. from j h (l.at j h).from (s.from j h);
     }
   where
+    l : Line inf work (q + summary_width * n) x e width f
+    l = rw ea at (line_lent {n = summary_width} {a = a} {work = work} o long)
+
     new : (i j : ℕ) → i < n + 1 → j < width → Dec (i ≡ n) → get_or f j 0 ≤ get_or g i 0 + get_or work (q + summary_width * i + j) 0
     new i j k h (yes p) = rw (p, ← ex) (l.at j h).new
     new i j k h (no m) = omega (arith, s.new i j (omega arith) h, (l.at j h).old)
@@ -83,17 +78,12 @@ lines-on inf width work q g d n e f x s l ex =
     from j h (inl p) (inl q) = inl (p ∙ q)
     from j h (inl p) (inr (i, k, q, m)) = inr (i, omega arith, p ∙ q, omega arith)
 
-pub lines-done : {inf width : ℕ} {work : List ℕ} {q : ℕ} {g d : List ℕ} {m n : ℕ} {e : List ℕ} → Lines inf width work q g d m e → m ≤ n
-    → n ≤ m → Lines inf width work q g d n e
-lines-done {m = m} {n} l h g = let e : m ≡ n = omega arith in rw e at l
-
 -- Two lists, one place more.
 pub alike_begin : (t : Bool) (a b : List ℕ) → Alike t a b 0
 alike_begin t a b = record { same = λ e j h. absurd (omega arith) }
 
 pub alike_on : (s u t : Bool) (a b : List ℕ) (i x y : ℕ) → Alike s a b i → t ≡ orb s u → (u ≡ false → x ≡ y) → x ≡ get_or a i 0 → y ≡ get_or b i 0
     → Alike t a b (i + 1)
-unfolding orb
 alike_on true u t a b i x y s o p ex ey = record { same = λ e j h. absurd (true_not_false o e) }
 alike_on false u t a b i x y s o p ex ey = record { same = λ e j h. go e j h (ℕ_discrete j i) }
   where
@@ -101,25 +91,18 @@ alike_on false u t a b i x y s o p ex ey = record { same = λ e j h. go e j h (�
     go e j h (yes q) = rw q (sym ex ∙ p (sym o ∙ e) ∙ ey)
     go e j h (no n) = s.same refl j (omega arith)
 
-pub alike_done : {t : Bool} {a b : List ℕ} {m n : ℕ} → Alike t a b m → m ≤ n → n ≤ m → Alike t a b n
-alike_done {m = m} {n} l h g = let e : m ≡ n = omega arith in rw e at l
-
 -- A list against one number, one place more.
 pub even_begin : (t : Bool) (x : ℕ) (a : List ℕ) → Even t x a 0
 even_begin t x a = record { same = λ e j h. absurd (omega arith) }
 
-pub even_on : (s : Bool) {u t : Bool} {x i m n y : ℕ} {a : List ℕ} → Even s x a i → (u ≡ false → y ≡ x) → t ≡ orb s u → length a ≡ n
-    → m ≤ n → i < m → Even t x (set a i y) (i + 1)
-unfolding orb
-even_on true s p o size few l = record { same = λ e j h. absurd (true_not_false o e) }
-even_on false {t = t} {x} {i} {y = y} {a = a} s p o size few l = record { same = λ e j h. go e j h (ℕ_discrete j i) }
+pub even_on : (s : Bool) {u t : Bool} {x i y : ℕ} {a : List ℕ} → Even s x a i → (u ≡ false → y ≡ x) → t ≡ orb s u → i < length a
+    → Even t x (set a i y) (i + 1)
+even_on true s p o l = record { same = λ e j h. absurd (true_not_false o e) }
+even_on false {t = t} {x} {i} {y = y} {a = a} s p o l = record { same = λ e j h. go e j h (ℕ_discrete j i) }
   where
     go : t ≡ false → (j : ℕ) → j < i + 1 → Dec (j ≡ i) → get_or (set a i y) j 0 ≡ x
     go e j h (yes q) = rw q (get_or-set_same a i y 0 (omega arith) ∙ p (sym o ∙ e))
     go e j h (no n) = get_or-set_other a i j y 0 n ∙ s.same refl j (omega arith)
-
-pub even_done : {t : Bool} {x i m : ℕ} {a : List ℕ} → Even t x a i → i ≤ m → m ≤ i → Even t x a m
-even_done {i = i} {m} s h l = let z : i ≡ m = omega arith in rw z at s
 
 -- Cues that have all the same estimate improve none.
 pub round_even : {xs : List ℕ} (work : List ℕ) {r : ℕ} (q : ℕ) {m x : ℕ} {d g₀ g : List ℕ} {t : Bool} → Gathered xs r d m g₀ g → Even t x g m

@@ -8,17 +8,8 @@ use mathlib.Core.Logic.{◌⊎◌, inl, inr}
 use mathlib.Core.List.{List, [], ◌∷◌}
 use lib.ListN.{length, get_or, set}
 use lib.Seq.{get_or-set_same, get_or-set_other}
-use Rattle.searches.specs.Lines.{Capped}
+use Rattle.searches.specs.Lines.{Least}
 use Rattle.searches.specs.Rounds.{orb, sum, One, Lowered, none, more, Still, Round, quiet, moved, Fell, same, less}
-
--- Either of two tests.
-pub or_yes : (a b : Bool) → a ≡ true → true ≡ orb a b
-unfolding orb
-or_yes a b e = rw e
-
-pub or_no : (a b : Bool) → a ≡ false → b ≡ orb a b
-unfolding orb
-or_no a b e = rw e
 
 -- A smaller number in a list: it stands in the list, and the sum falls.
 pub inside : (d : List ℕ) (v y : ℕ) → y < get_or d v 0 → v < length d
@@ -71,28 +62,17 @@ set_same [] v = refl
 set_same (x ∷ d) zero = refl
 set_same (x ∷ d) (suc v) = ap (λ e. x ∷ e) (set_same d v)
 
--- The lesser of the two is put in, and c says whether the estimate falls.
-module _ (d : List ℕ) (u v w x y z m : ℕ) (c : Bool) (ex : x ≡ get_or d u 0) (ey : y ≡ get_or d v 0) (ez : z ≡ w) where
-  pub round_both : ((x + z < y) × (m ≡ x + z)) ⊎ ((y ≤ x + z) × (m ≡ y)) → ((x + z < y) × (c ≡ true)) ⊎ ((y ≤ x + z) × (c ≡ false))
-      → Round (One u v w) d c (set d v m)
-  round_both (inl (l, e)) (inl (l', f)) = rw (e, f) (round_put d u v w x y z ex ey ez l)
-  round_both (inr (l, e)) (inr (l', f)) = rw (e, f, ey, set_same d v) (round_kept d u v w x y z ex ey ez l)
-  round_both (inl (l, e)) (inr (l', f)) = absurd (omega arith)
-  round_both (inr (l, e)) (inl (l', f)) = absurd (omega arith)
-
--- The same where the sum is cut off at inf, which no estimate is above.
-pub round_capped : (inf : ℕ) (d : List ℕ) (u v w x y z m : ℕ) (c : Bool) → x ≡ get_or d u 0 → y ≡ get_or d v 0 → y ≤ inf → Capped inf x w z
-    → ((z < y) × (m ≡ z)) ⊎ ((y ≤ z) × (m ≡ y)) → ((z < y) × (c ≡ true)) ⊎ ((y ≤ z) × (c ≡ false)) → Round (One u v w) d c (set d v m)
-round_capped inf d u v w x y z m c ex ey h (inl e) l f = round_both d u v w x y w m c ex ey refl (rw e at l) (rw e at f)
-round_capped inf d u v w x y z m c ex ey h (inr (e, k)) l f = round_both d u v w x y w m c ex ey refl (lesser l) (kept f)
+-- An estimate lowered by one edge is put in, and c says whether it falls.
+pub round_least : (inf : ℕ) (d : List ℕ) (u v w x y z : ℕ) (c : Bool) → x ≡ get_or d u 0 → y ≡ get_or d v 0 → Least inf y x w z
+    → ((z < y) × (c ≡ true)) ⊎ ((y ≤ z) × (c ≡ false)) → Round (One u v w) d c (set d v z)
+round_least inf d u v w x y z c ex ey l (inl (k, f)) = go l.from
   where
-    lesser : ((z < y) × (m ≡ z)) ⊎ ((y ≤ z) × (m ≡ y)) → ((x + w < y) × (m ≡ x + w)) ⊎ ((y ≤ x + w) × (m ≡ y))
-    lesser (inl (a, b)) = absurd (omega arith)
-    lesser (inr (a, b)) = inr (omega arith, b)
-
-    kept : ((z < y) × (c ≡ true)) ⊎ ((y ≤ z) × (c ≡ false)) → ((x + w < y) × (c ≡ true)) ⊎ ((y ≤ x + w) × (c ≡ false))
-    kept (inl (a, b)) = absurd (omega arith)
-    kept (inr (a, b)) = inr (omega arith, b)
+    go : (z ≡ y) ⊎ ((z ≡ x + w) × (z < inf)) → Round (One u v w) d c (set d v z)
+    go (inl e) = absurd (omega arith)
+    go (inr (e, n)) = rw (e, f) (round_put d u v w x y w ex ey refl (omega arith))
+round_least inf d u v w x y z c ex ey l (inr (k, f)) =
+    let e : z ≡ y = omega (arith, l.old) in
+    rw (e, f, ey, set_same d v) (round_kept d u v w x y w ex ey refl (omega (arith, l.new)))
 
 -- Estimates that fell or did not, one after the other.
 pub fell_begin : (d : List ℕ) → Fell d false d
@@ -110,7 +90,6 @@ fell_both d v y z m c ey (inl (l, e)) (inr (l', f)) = absurd (omega arith)
 fell_both d v y z m c ey (inr (l, e)) (inl (l', f)) = absurd (omega arith)
 
 pub fell_on : {d e f : List ℕ} {b c t : Bool} → Fell d b e → Fell e c f → t ≡ orb b c → Fell d t f
-unfolding orb
 fell_on (same p q) (same p' q') o = same (o ∙ (rw (p, p'))) (q' ∙ q)
 fell_on (same p q) (less p' n) o = less (o ∙ (rw (p, p'))) (rw q at n)
 fell_on (less p n) (same p' q) o = less (o ∙ (rw p)) (rw (← q) at n)

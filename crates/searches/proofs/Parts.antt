@@ -1,11 +1,13 @@
 -- Laws of the work area block by block: a part as it is lent, and the area with other numbers in it.
-use Prim.Native.Nat.{ℕ, ◌+◌, ◌*◌, ◌-◌, ◌≤◌, ◌<◌}
+use Prim.Native.Nat.{ℕ, zero, suc, ◌+◌, ◌*◌, ◌-◌, ◌≤◌, ◌<◌}
 use native.Mathlib.Omega.{arith}
 use native.Mathlib.Decide.{dec_lt}
-use mathlib.Core.Path.{◌≡◌, sym, ◌∙◌, ap}
+use mathlib.Core.Path.{◌≡◌, refl, sym, ◌∙◌, ap}
 use mathlib.Core.Logic.{◌⊎◌, inl, inr}
 use mathlib.Core.List.{List, ◌++◌}
 use lib.ListN.{length, get_or, take, drop, length-drop, get_or-append}
+use Rattle.std.specs.Simd.{first_chunks}
+use Rattle.std.proofs.lemmas.List.{get_or-append_right}
 use lib.Seq.{take_at, drop_at, drop-drop, get_or-take, get_or-drop, length-take-le}
 use Rattle.model.specs.Limits.{max_blocks, summary_size, summary_width}
 use Rattle.model.specs.Blocks.{blocks_of, last_block}
@@ -23,6 +25,53 @@ block-count n g e = omega (arith, (loaded-show g).blocks)
 -- There are no more than there may be.
 pub blocks-few : {xs t : List ℕ} → Loaded xs t → length (blocks_of xs) ≤ max_blocks
 blocks-few g = (loaded-show g).blocks.1
+
+-- What stands in a part of a list, as it is lent.
+pub lent_at : (n a : ℕ) (w : List ℕ) (x y : ℕ) → x < n → y ≡ a + x → get_or (take n (drop a w)) x 0 ≡ get_or w y 0
+lent_at n a w x y h e = get_or-take n (drop a w) x 0 h ∙ get_or-drop a w x 0 ∙ ap (λ (z : ℕ). get_or w z 0) (sym e)
+
+-- A part that is one of several in a row, of n each; and as it is read.
+chunk_at : {A : Type 0} (n : ℕ) (w : List A) (k i : ℕ) (x : List A) → i < k → get_or (first_chunks n k w) i x ≡ take n (drop (n * i) w)
+chunk_at n w zero i x h = absurd (omega arith)
+chunk_at n w (suc k) zero x h = let z : n * 0 ≡ 0 = omega arith in rw z refl
+chunk_at n w (suc k) (suc i) x h =
+    let z : n + n * i ≡ n * suc i = omega arith in
+    chunk_at n (drop n w) k i x (omega arith) ∙ ap (take n) (drop-drop (n * i) n w ∙ ap (λ (p : ℕ). drop p w) z)
+
+pub chunk_is : {A : Type 0} {l : List (List A)} (n k i : ℕ) (w x : List A) → x ≡ get_or l i x → l ≡ first_chunks n k w → i < k
+    → x ≡ take n (drop (n * i) w)
+chunk_is n k i w x e f h = e ∙ ap (λ (l : List (List _)). get_or l i x) f ∙ chunk_at n w k i x h
+
+-- How many there are from place a on and before a + m.
+pub part_size : {A : Type 0} (w : List A) (a m : ℕ) → a + m ≤ length w → length (take (a + m - a) (drop a w)) ≡ m
+part_size w a m h = length-take-le (a + m - a) (drop a w) (omega (arith, length-drop a w)) ∙ omega arith
+
+-- A list with other numbers in such a part.
+module _ (a n : ℕ) (w v : List ℕ) (size : length v ≡ n) (long : a + n ≤ length w) where
+  abbrev changed : List ℕ
+  changed = take a w ++ (v ++ drop n (drop a w))
+
+  head-size : length (take a w) ≡ a
+  head-size = length-take-le a w (omega arith)
+
+  pub put_before : (x : ℕ) → x < a → get_or changed x 0 ≡ get_or w x 0
+  put_before x h = get_or-append (take a w) (v ++ drop n (drop a w)) 0 x (omega (arith, head-size)) ∙ get_or-take a w x 0 h
+
+  pub put_in : (x : ℕ) {y : ℕ} → x < n → y ≡ a + x → get_or changed y 0 ≡ get_or v x 0
+  put_in x {y} h e =
+      let z : y - a ≡ x = omega arith in
+      get_or-append_right (take a w) (v ++ drop n (drop a w)) a y 0 head-size (omega arith)
+      ∙ ap (λ (i : ℕ). get_or (v ++ drop n (drop a w)) i 0) z
+      ∙ get_or-append v (drop n (drop a w)) 0 x (omega arith)
+
+  pub put_behind : (x : ℕ) → a + n ≤ x → get_or changed x 0 ≡ get_or w x 0
+  put_behind x h =
+      let z : a + (n + (x - a - n)) ≡ x = omega arith in
+      get_or-append_right (take a w) (v ++ drop n (drop a w)) a x 0 head-size (omega arith)
+      ∙ get_or-append_right v (drop n (drop a w)) n (x - a) 0 size (omega arith)
+      ∙ get_or-drop n (drop a w) (x - a - n) 0
+      ∙ get_or-drop a w (n + (x - a - n)) 0
+      ∙ ap (λ (i : ℕ). get_or w i 0) z
 
 -- Block k's part as the code lends it, and the work area with other numbers put in there.
 pub part-lent : (w : List ℕ) (k : ℕ) → take (summary_size * k + summary_size - summary_size * k) (drop (summary_size * k) w) ≡ part_of w k
@@ -61,7 +110,7 @@ module _ (w v : List ℕ) (k : ℕ) (long : summary_size * k + summary_size ≤ 
     with_with u = rw (with_before, rest)
 
     -- What stands in the part, and what stands elsewhere.
-    with_in : (x : ℕ) → x < summary_size → get_or (with_part w k v) (summary_size * k + x) 0 ≡ get_or v x 0
+    pub with_in : (x : ℕ) → x < summary_size → get_or (with_part w k v) (summary_size * k + x) 0 ≡ get_or v x 0
     with_in x h =
         sym (get_or-drop (summary_size * k) (with_part w k v) x 0) ∙ ap (λ (z : List ℕ). get_or z x 0) behind
         ∙ get_or-append v (drop (summary_size * k + summary_size) w) 0 x (omega arith)

@@ -52,7 +52,6 @@ module _ {S : Type 0} {G : Game S} (wide : Wider G) where
   -- Two rounds, one after the other, are a round over the edges of both.
   pub round_then : {Q W X : Edges} {d e f : S} {b c t : Bool} → ((u v w : ℕ) → Q u v w → X u v w) → ((u v w : ℕ) → W u v w → X u v w)
       → ((u v w : ℕ) → X u v w → Q u v w ⊎ W u v w) → RoundOf G Q d b e → RoundOf G W e c f → t ≡ orb b c → RoundOf G X d t f
-  unfolding orb
   round_then {Q} {W} {X} {d} {e} {f} l r back (quiet p q s) (quiet p' q' s') o =
       quiet (o ∙ (rw (p, p'))) (q' ∙ q) (λ u v w i. at u v w (back u v w i))
     where

@@ -1,40 +1,28 @@
 -- Laws of what estimates begin with, and of the estimates of some cues. A loop over them has begun, goes on (`-on`), and is done, where
 -- its count has come to its end.
-use Prim.Native.Nat.{ℕ, ◌+◌, ◌≤◌, ◌<◌}
+use Prim.Native.Nat.{ℕ, ◌+◌, ◌-◌, ◌≤◌, ◌<◌}
 use native.Mathlib.Omega.{arith}
 use native.Mathlib.Decide.{ℕ_discrete}
 use mathlib.Core.Path.{◌≡◌, refl, sym, ◌∙◌, ap}
 use mathlib.Core.Logic.{◌⊎◌, inl, inr}
-use mathlib.Core.List.{List}
-use lib.ListN.{length, get_or, set, replicate, length-replicate, get_or-replicate}
-use lib.Seq.{get_or-set_same, get_or-set_other, ext_get_or}
-use Rattle.model.specs.Limits.{max_joins}
+use mathlib.Core.List.{List, ◌++◌}
+use lib.ListN.{length, get_or, set, take, drop, replicate, length-replicate, get_or-replicate, get_or-append}
+use lib.Seq.{get_or-set_same, get_or-set_other}
 use Rattle.blocks.specs.Loaded.{column_at}
 use Rattle.searches.specs.Starts.{Beginnings, Nowhere, Cell, Either, EachOf, Meets, MetAt, Started, Merged, Gathered}
 use Rattle.searches.proofs.Lowering.{inside, set_same}
+use Rattle.searches.proofs.Parts.{lent_at, put_in, put_behind}
 
--- The first i numbers of a list are x; all of them.
-pub record FilledTo (x i : ℕ) (d : List ℕ) : Type 0 where
-  pub at : (a : ℕ) → a < i → get_or d a 0 ≡ x
-
-pub fill_begin : (x : ℕ) (d : List ℕ) → FilledTo x 0 d
-fill_begin x d = record { at = λ a h. absurd (omega arith) }
-
-pub fill_on : {x i : ℕ} {d : List ℕ} → FilledTo x i d → i < length d → FilledTo x (i + 1) (set d i x)
-fill_on {x} {i} {d} f h = record { at = λ a l. go a l (ℕ_discrete a i) }
-  where
-    go : (a : ℕ) → a < i + 1 → Dec (a ≡ i) → get_or (set d i x) a 0 ≡ x
-    go a l (yes e) = rw e (get_or-set_same d i x 0 h)
-    go a l (no m) = get_or-set_other d i a x 0 m ∙ f.at a (omega arith)
-
-pub fill_done : {x i n : ℕ} {d : List ℕ} → FilledTo x i d → length d ≤ i → length d ≡ n → d ≡ replicate n x
-fill_done {x} {i} {n} {d} f h e =
-    ext_get_or 0 d (replicate n x) (e ∙ sym (length-replicate n x))
-    (λ a k. f.at a (omega arith) ∙ sym (get_or-replicate n a x 0 (omega arith)))
-
-pub started_blank : {inf n i : ℕ} {d : List ℕ} → FilledTo inf i d → n < i → Started inf n Nowhere d
-started_blank f h =
-    record { fallen = λ a x l b. absurd b; attained = λ a l k. absurd (omega (arith, f.at a (omega arith))) }
+-- No estimate yet.
+pub started_blank : (inf n k : ℕ) (rest : List ℕ) → n < k → Started inf n Nowhere (replicate k inf ++ rest)
+started_blank inf n k rest h =
+    record {
+      fallen = λ a x l b. absurd b;
+      attained = λ a l m.
+          absurd
+          (omega
+          (arith, get_or-append (replicate k inf) rest 0 a (omega (arith, length-replicate k inf)), get_or-replicate k a inf 0 (omega arith)));
+    }
 
 -- An estimate put in, or not.
 pub merged_put : (v y : ℕ) (d : List ℕ) → y < get_or d v 0 → Merged (Cell v y) d (set d v y)
@@ -91,6 +79,16 @@ merged_then {S} {T} {X} {d} {e} {f} l r back s t =
     from a (inl p) = first a p (s.from a)
     from a (inr b) = inr (r a (get_or f a 0) b)
 
+-- What amounts to the same is put in.
+pub merged_same : {S T : Beginnings} {d e : List ℕ} → ((a x : ℕ) → S a x → T a x) → ((a x : ℕ) → T a x → S a x) → Merged S d e
+    → Merged T d e
+merged_same {S} {T} {d} {e} f g m =
+    record { fallen = λ a x b. m.fallen a x (g a x b); lower = m.lower; from = λ a. from a (m.from a) }
+  where
+    from : (a : ℕ) → (get_or e a 0 ≡ get_or d a 0) ⊎ S a (get_or e a 0) → (get_or e a 0 ≡ get_or d a 0) ⊎ T a (get_or e a 0)
+    from a (inl p) = inl p
+    from a (inr b) = inr (f a (get_or e a 0) b)
+
 -- Each of some: none yet, and one more.
 pub each-begin : (S : ℕ → Beginnings) (d : List ℕ) → Merged (EachOf S 0) d d
 each-begin S d = merged_nothing d (λ a x b. omega (arith, b.1))
@@ -108,14 +106,33 @@ pub met-begin : (xs : List ℕ) (r : ℕ) (kept : List ℕ) (q : ℕ) (d : List 
 unfolding MetAt
 met-begin xs r kept q d = each-begin (λ i. Cell (column_at xs r i) (get_or kept (q + i) 0)) d
 
-pub met-on : (xs : List ℕ) (r : ℕ) (kept : List ℕ) (q i : ℕ) {c v : ℕ} {d e f : List ℕ} → Merged (MetAt xs r kept q i) d e
-    → c ≡ column_at xs r i → v ≡ c → Merged (Cell v (get_or kept (q + i) 0)) e f → Merged (MetAt xs r kept q (i + 1)) d f
+pub met-on : (xs : List ℕ) (r : ℕ) (kept : List ℕ) (q i : ℕ) {c v k : ℕ} {d e f : List ℕ} → Merged (MetAt xs r kept q i) d e
+    → c ≡ column_at xs r i → v ≡ c → Merged (Cell v (get_or kept k 0)) e f → k ≡ q + i → Merged (MetAt xs r kept q (i + 1)) d f
 unfolding MetAt
-met-on xs r kept q i s ec ev t = each_on (λ i. Cell (column_at xs r i) (get_or kept (q + i) 0)) i s (rw (ev, ec) at t)
+met-on xs r kept q i s ec ev t ek = each_on (λ i. Cell (column_at xs r i) (get_or kept (q + i) 0)) i s (rw (ev, ec, ek) at t)
 
-pub met-done : (xs : List ℕ) (r : ℕ) (kept : List ℕ) (q : ℕ) {i m : ℕ} {d e : List ℕ} → Merged (MetAt xs r kept q i) d e → i ≤ m → m ≤ i
-    → Merged (MetAt xs r kept q m) d e
-met-done xs r kept q {i} {m} s h l = let z : i ≡ m = omega arith in rw z at s
+-- With the numbers of a part, as it is lent: with those from its place on. And of one at the front.
+met_in : (xs : List ℕ) (r : ℕ) (kept : List ℕ) (a m n : ℕ) {d e : List ℕ} → m ≤ n → Merged (MetAt xs r (take n (drop a kept)) 0 m) d e
+    → Merged (MetAt xs r kept a m) d e
+unfolding MetAt
+met_in xs r kept a m n long s = merged_same (λ b x i. into b x i) (λ b x i. back b x i) s
+  where
+    at : (i : ℕ) → i < m → get_or (take n (drop a kept)) (0 + i) 0 ≡ get_or kept (a + i) 0
+    at i h = lent_at n a kept (0 + i) (a + i) (omega arith) (omega arith)
+
+    into : (b x : ℕ) → MetAt xs r (take n (drop a kept)) 0 m b x → MetAt xs r kept a m b x
+    into b x (i, h, (eb, ex)) = (i, h, (eb, ex ∙ at i h))
+
+    back : (b x : ℕ) → MetAt xs r kept a m b x → MetAt xs r (take n (drop a kept)) 0 m b x
+    back b x (i, h, (eb, ex)) = (i, h, (eb, ex ∙ sym (at i h)))
+
+pub met_lent : (xs : List ℕ) (r : ℕ) (kept : List ℕ) (a m : ℕ) {d e : List ℕ} → Merged (MetAt xs r (take (a + m - a) (drop a kept)) 0 m) d e
+    → Merged (MetAt xs r kept a m) d e
+met_lent xs r kept a m s = met_in xs r kept a m (a + m - a) (omega arith) s
+
+pub met_front : (xs : List ℕ) (r : ℕ) (kept : List ℕ) (m : ℕ) {d e : List ℕ} → Merged (MetAt xs r (take m kept) 0 m) d e
+    → Merged (MetAt xs r kept 0 m) d e
+met_front xs r kept m s = met_in xs r kept 0 m m (omega arith) s
 
 module _ {inf n : ℕ} {begun : Beginnings} where
   pub started_merged : {S : Beginnings} {d e : List ℕ} → Started inf n begun d → Merged S d e → Started inf n (Either begun S) e
@@ -146,16 +163,10 @@ started_first {S = S} s m = started_same (λ a x b. to a x b) (λ a x b. inr b) 
 
 -- A row that names cues: one of its columns, and the cue read there, which has an estimate in a list of that length.
 module _ {xs : List ℕ} {r m n : ℕ} where
-  pub column-few : {i : ℕ} → Meets xs r m n → i < m → i < max_joins
-  column-few h l = omega (arith, h.few)
-
   pub column-within : (i : ℕ) {c v l : ℕ} → v ≡ c → c ≡ column_at xs r i → Meets xs r m n → i < m → l ≡ n → v < l
   column-within i w e h l k = omega (arith, h.within i l)
 
-  -- Their number by another name, and fewer of them.
-  pub meets-as : {k : ℕ} → Meets xs r m n → m ≡ k → Meets xs r k n
-  meets-as h e = rw e at h
-
+  -- Fewer of them.
   pub meets-fewer : {k : ℕ} (i : ℕ) → Meets xs r m n → i ≤ m → k ≡ n → Meets xs r i k
   meets-fewer i h l e = record { there = h.there; few = omega (arith, h.few); within = λ j k. omega (arith, h.within j (omega arith)) }
 
@@ -163,9 +174,9 @@ module _ {xs : List ℕ} {r m n : ℕ} where
 pub gathered_begin : (xs : List ℕ) (r : ℕ) (d e : List ℕ) → Gathered xs r d 0 e e
 gathered_begin xs r d e = record { at = λ i h. absurd (omega arith); else = λ i h. refl }
 
-pub gathered_on : {xs : List ℕ} {r : ℕ} {d : List ℕ} (i : ℕ) {m : ℕ} {e₀ e : List ℕ} {c v : ℕ} → Gathered xs r d i e₀ e → v ≡ c
-    → c ≡ column_at xs r i → length e ≡ length e₀ → m ≤ length e₀ → i < m → Gathered xs r d (i + 1) e₀ (set e i (get_or d v 0))
-gathered_on {xs} {r} {d} i {e₀ = e₀} {e} {v = v} g ev ec size few h = record { at = λ j l. at j l (ℕ_discrete j i); else = else }
+pub gathered_on : {xs : List ℕ} {r : ℕ} {d : List ℕ} (i : ℕ) {e₀ e : List ℕ} {c v : ℕ} → Gathered xs r d i e₀ e → v ≡ c
+    → c ≡ column_at xs r i → i < length e → Gathered xs r d (i + 1) e₀ (set e i (get_or d v 0))
+gathered_on {xs} {r} {d} i {e₀ = e₀} {e} {v = v} g ev ec h = record { at = λ j l. at j l (ℕ_discrete j i); else = else }
   where
     x : ℕ
     x = get_or d v 0
@@ -177,5 +188,11 @@ gathered_on {xs} {r} {d} i {e₀ = e₀} {e} {v = v} g ev ec size few h = record
     else : (j : ℕ) → i + 1 ≤ j → get_or (set e i x) j 0 ≡ get_or e₀ j 0
     else j l = get_or-set_other e i j x 0 (λ q. omega arith) ∙ g.else j (omega arith)
 
-pub gathered_done : {xs d e₀ e : List ℕ} {r i m : ℕ} → Gathered xs r d i e₀ e → i ≤ m → m ≤ i → Gathered xs r d m e₀ e
-gathered_done {i = i} {m} g h l = let z : i ≡ m = omega arith in rw z at g
+-- Those of m cues, put into a part at the front of a list that is long enough.
+pub gathered_front : {xs : List ℕ} {r : ℕ} {d : List ℕ} (m : ℕ) (e₀ v : List ℕ) → Gathered xs r d m (take m e₀) v → length v ≡ m → m ≤ length e₀
+    → Gathered xs r d m e₀ (v ++ drop m e₀)
+gathered_front m e₀ v g size long =
+    record {
+      at = λ i h. put_in 0 m e₀ v size (omega arith) i h (omega arith) ∙ g.at i h;
+      else = λ i h. put_behind 0 m e₀ v size (omega arith) i (omega arith);
+    }

@@ -18,19 +18,15 @@ use Rattle.distances.proofs.Closure.{ExactTable, Covered, at_told, At}
 use Rattle.distances.proofs.Detours.{part_join, PartTold, up_told, BeginsFor, begins-at, begins-part, JoinsTold, down_told}
 use Rattle.verdicts.specs.Index.{use_at}
 use Rattle.blocks.specs.declared.Place.{Place}
-use Rattle.blocks.specs.Loaded.{Loaded}
 use Rattle.blocks.proofs.Loaded.{loaded-show}
 use Rattle.searches.specs.Starts.{Beginnings, Either}
-use Rattle.searches.specs.Edges.{numbers, Only, SpreadIn}
+use Rattle.searches.specs.Edges.{numbers, Only, SpreadIn, MaySettle}
 use Rattle.searches.specs.Joins.{AtJoins, passed}
+use Rattle.blocks.specs.Loaded.{IsBlock}
+use Rattle.searches.specs.Knowing.{Known, HasTable}
 use Rattle.searches.specs.Copies.{TellsInside, TellsWhole, kept_at, TellsJoins, Source, inner, here, FromKept}
 use Rattle.searches.proofs.Settled.{labels, spread_estimates}
 use Rattle.copies.proofs.ByRows.{top_sound}
-
--- A loaded show, and numbers in the work area that tell the least weights between the joins of its blocks.
-pub record Known (inf : ℕ) (price : Price) (xs t work : List ℕ) : Type 0 where
-  pub loaded : Loaded xs t
-  pub exact : ExactTable price (blocks_of xs) (length (blocks_of xs)) (InTable inf (numbers work))
 
 module _ {inf : ℕ} {price : Price} {xs t work : List ℕ} (r : Known inf price xs t work) where
   abbrev bs : List Block
@@ -138,3 +134,8 @@ module _ {inf : ℕ} {price : Price} {xs t work : List ℕ} (r : Known inf price
           back : (a x : ℕ) → From a x → FromKept xs rows l kept a x
           back a x (inner h b) = b
           back a x (here h b) = absurd (omega arith)
+
+-- With the numbers of all blocks, each block may be settled.
+pub may_settle : {A : Type 0} {inf : ℕ} {values : List A → List ℕ} {price : Price} {xs t : List ℕ} {work : List A} {k : ℕ}
+    → HasTable inf values price xs t work → IsBlock xs k → MaySettle xs t k work
+may_settle r h = record { loaded = r.known.loaded; block = h; room = omega (arith, r.long) }

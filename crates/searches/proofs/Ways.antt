@@ -29,8 +29,8 @@ use Rattle.copies.specs.ByRows.{copy_on}
 use Rattle.searches.specs.Copies.{TellsInside, TellsWhole, TellsJoins, KeptFrom, Risen, Source, Sunk, FromKept, FromAbove}
 use Rattle.copies.proofs.ByRows.{block-suc, top_sound, Level, levels, here, part-on, is-part, part-use_is, next-is, own-bounds, cue-is, numbered-up, cue-numbered}
 use Rattle.copies.proofs.ByRows.{own-known, own-few, rows-to}
-use Rattle.searches.proofs.Rounds.{spread_first}
-use Rattle.searches.proofs.Telling.{Known, start-told, rise_told, sink_told, source_own, source_part}
+use Rattle.searches.specs.Knowing.{Known}
+use Rattle.searches.proofs.Telling.{start-told, rise_told, sink_told, source_own, source_part}
 
 -- What was kept for a level stays as other levels are kept.
 kept-other : {inf : ℕ} {price : Price} (y : Copy) (s j l m p : ℕ) (kept d more : List ℕ) → l < j → m ≤ max_joins → RowKept kept l d p m more
@@ -180,27 +180,13 @@ module _ {inf : ℕ} {price : Price} {xs t work : List ℕ} (r : Known inf price
       up : InCopy (copy (l + 1)) s → InCopy (copy (a + 1)) s
       up n = let z : a + 1 + (l - a) ≡ l + 1 = omega arith in numbered-up g f s (l - a) (a + 1) (omega arith) (rw z n)
 
--- Rows that lead to a level lead to the one above it; those of a place lead to each of its levels, and its cue has an estimate there.
-pub uses-before : {xs rows : List ℕ} (l : ℕ) → UsesTo xs rows (l + 1) → UsesTo xs rows l
-uses-before l u = uses-fewer l u (omega arith)
-
+-- The cue of a place has an estimate.
 module _ {xs t rows : List ℕ} {q : Place} (g : Loaded xs t) (f : Found xs t rows q) where
-  pub uses-next : {l : ℕ} → l < q.depth → UsesTo xs rows (l + 1)
-  uses-next {l} h = rows-to g f (l + 1) (omega arith)
-
   pub own_room : {c n : ℕ} → c ≡ q.own → n ≡ estimates_size → c < n
   own_room ec en = omega (arith, own-few g f)
 
   pub own-within : {c : ℕ} → c ≡ q.own → c ≤ cue_count (blocks_of xs) q.block
   own-within ec = omega (arith, own-known g f)
-
--- A block by its number as the code has it.
-pub spread_on : {inf : ℕ} {price : Price} (bs : List Block) (work : List ℕ) {k : ℕ} (b : ℕ) {S : Beginnings} {d e f : List ℕ} → k ≡ b
-    → Started inf (cue_count bs k) Nowhere d → Merged S d e → SettledOver (BlockEdge price bs work k) e f → SpreadIn inf price bs work b S f
-spread_on bs work b q s m w = spread_first _ _ (rw q at s) m (rw q at w)
-
-pub joins-as : (bs : List Block) {k : ℕ} (b : ℕ) {v : List ℕ} {l : ℕ} {d e : List ℕ} → k ≡ b → JoinsKept bs k v l d e → JoinsKept bs b v l d e
-joins-as bs b q r = rw q at r
 
 -- Up from level n to level l: whatever place estimates and what was kept are of at level n, they are its at level l.
 pub record Climbing (inf : ℕ) (price : Price) (xs t work rows : List ℕ) (n : ℕ) (kept₀ d₀ : List ℕ) (l : ℕ) (kept d : List ℕ) : Type 0 where

@@ -9,7 +9,7 @@ use Rattle.distances.specs.Tells.{Join, met_by, summary_place, Local}
 use Rattle.verdicts.specs.Index.{link_at}
 use Rattle.blocks.specs.Loaded.{Loaded, IsBlock, IsRow, column_at}
 use Rattle.searches.specs.Rounds.{Edges, One, Runs, Still}
-use Rattle.searches.specs.Starts.{estimates_size, Beginnings, Cell, Started}
+use Rattle.searches.specs.Starts.{Beginnings, Cell, Started}
 
 -- The number in the work area for joins i and j of block k.
 abbrev pub numbers : List ℕ → ℕ → ℕ → ℕ → ℕ
@@ -40,6 +40,11 @@ Between xs work r q i j u v w =
 unfoldable pub LinkEdge : Price → Link → Edges
 LinkEdge price l u v w = (l.from ≡ u) × (l.to ≡ v) × price l.label w
 
+-- A label's links weigh w, and nothing else.
+pub record Weighs (price : Price) (label w : ℕ) : Type 0 where
+  pub is : price label w
+  pub only : (v : ℕ) → price label v → v ≡ w
+
 -- Row r is there, and the ends of its link have estimates among the n of a list.
 pub record LinkEnds (xs : List ℕ) (r n : ℕ) : Type 0 where
   pub there : IsRow xs r
@@ -63,13 +68,11 @@ pub record SettledOver (W : Edges) (d e : List ℕ) : Type 0 where
   pub runs : Runs W d e
   pub still : Still W e
 
--- What settling the estimates d of block k asks for: a loaded show, the numbers of the lower blocks in the work area, and an estimate for each cue that
--- a block may have.
-pub record MaySettle (xs t : List ℕ) (k : ℕ) (work d : List ℕ) : Type 0 where
+-- What settling the estimates of block k asks for: a loaded show, and the numbers of the lower blocks in the work area.
+pub record MaySettle {A : Type 0} (xs t : List ℕ) (k : ℕ) (work : List A) : Type 0 where
   pub loaded : Loaded xs t
   pub block : IsBlock xs k
   pub room : summary_size * k ≤ length work
-  pub size : length d ≡ estimates_size
 
 -- Estimates begin with 0 at one cue.
 abbrev pub Only : ℕ → Beginnings

@@ -6,3 +6,4 @@ pub mod Edges
 pub mod Joins
 pub mod Parts
 pub mod Copies
+pub mod Knowing

@@ -9,10 +9,6 @@ pub record Least (inf y x w r : ℕ) : Type 0 where
   pub new : r ≤ x + w
   pub from : (r ≡ y) ⊎ ((r ≡ x + w) × (r < inf))
 
--- z is the sum of an estimate x and a weight w, or inf where that is no estimate.
-abbrev pub Capped : ℕ → ℕ → ℕ → ℕ → Type 0
-Capped inf x w z = (z ≡ x + w) ⊎ ((z ≡ inf) × (inf ≤ x + w))
-
 -- The first n of the estimates d became those of e, by the weights from place q on and an estimate
 -- x; the others are the same.
 pub record Line (inf : ℕ) (work : List ℕ) (q x : ℕ) (d : List ℕ) (n : ℕ) (e : List ℕ) : Type 0 where

@@ -1,11 +1,10 @@
 -- Rounds of relaxation over estimates. An estimate stands at the number of its cue; an edge of
 -- weight w from u to v lets v's estimate be at most u's and w more.
-use Rattle.std.specs.Prelude.{ℕ, ◌+◌, ◌≤◌, ◌<◌, ◌≡◌, Bool, true, false, ◌⊎◌, List, [], ◌∷◌, get_or}
+use Rattle.std.specs.Prelude.{ℕ, ◌+◌, ◌≤◌, ◌<◌, ◌≡◌, Bool, true, false, ◌||◌, ◌⊎◌, List, [], ◌∷◌, get_or}
 
 -- Either of two tests.
-unfoldable pub orb : Bool → Bool → Bool
-orb true t = true
-orb false t = t
+abbrev pub orb : Bool → Bool → Bool
+orb = ◌||◌
 
 -- The sum of some estimates.
 unfoldable pub sum : List ℕ → ℕ

@@ -2,12 +2,11 @@
 use Prim.Native.Nat.{ℕ}
 use mathlib.Core.Path.{◌≡◌, refl}
 use mathlib.Core.List.{List}
+use Rattle.std.specs.Prelude.{Ok}
+use Rattle.model.specs.Answers.{show_size}
 use Rattle.model.specs.Blocks.{blocks_of}
-use Rattle.model.specs.Verdicts.{verdict}
-use Rattle.model.specs.declared.Verdict.TheVariants.{Accepted}
+use Rattle.model.specs.Verdicts.{verdict, Accepted}
 use Rattle.model.specs.Ring.{ring, noted_ring}
-use Rattle.model.specs.declared.ReadAnswer.TheVariants.{Read}
-use Rattle.model.specs.declared.WriteAnswer.TheVariants.{Written}
 use Rattle.shows.proofs.Accepted.{accepted-show}
 use Rattle.demands.proofs.Acceptance.{accepted-exactly}
 use Rattle.demands.proofs.Words.{words}
@@ -92,8 +91,8 @@ demand_2 =
       a_row_behind = ring-stands;
       round_trips =
           record {
-            write-back = λ file out after rows blocks cues e. writes_back file out after (Read rows blocks cues) rows blocks cues e refl;
-            read_back = λ xs out after bytes e. reads_back xs out after (Written bytes) bytes e refl;
+            write-back = λ file out after rows blocks cues e. writes_back file out after (Ok (show_size rows blocks cues)) rows blocks cues e refl;
+            read_back = λ xs out after bytes e. reads_back xs out after (Ok bytes) bytes e refl;
             read_again = reads_again first_way;
           };
       right = λ xs l. right xs ((accepted-exactly xs).1 l);

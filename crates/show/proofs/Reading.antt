@@ -3,21 +3,19 @@ use Prim.Native.Nat.{ℕ, ◌-◌}
 use mathlib.Core.Path.{◌≡◌, refl}
 use mathlib.Core.List.{List}
 use lib.ListN.{take, drop}
+use Rattle.std.specs.Prelude.{Err, Ok}
+use Rattle.model.specs.Verdicts.{Verdict}
 use Rattle.model.specs.Answers.{of_read}
 use Rattle.model.specs.Questions.{Outcome, outcome, refuse, on_accepted, read_into}
 use Rattle.model.specs.declared.Refusal.{Refusal}
-use Rattle.model.specs.declared.Verdict.{Verdict}
-use Rattle.model.specs.declared.ReadAnswer.TheVariants.{Refused as ReadRefused}
-use Rattle.loading.specs.Loads.{Loads}
-use Rattle.loading.specs.declared.Loading.{Loading}
-use Rattle.loading.specs.declared.Loading.TheVariants.{Ready, Refused as Unloaded}
+use Rattle.loading.specs.Loads.{Loads, Loading}
 use Rattle.loading.proofs.Outcomes.{loaded-yes, loaded-no}
 
 module _ (v : Verdict) (xs ys t out : List ℕ) (r : Loading) (l : Loads v xs r ys t) where
-  pub read-loaded : (n : ℕ) (o : Outcome) → r ≡ Ready n → o ≡ read_into (take (n - 0) (drop 0 ys)) out
+  pub read-loaded : (n : ℕ) (o : Outcome) → r ≡ Ok n → o ≡ read_into (take (n - 0) (drop 0 ys)) out
       → o ≡ on_accepted v (λ f. refuse f out) (read_into xs out)
   read-loaded n o e h = loaded-yes v xs ys t r l n e (λ f. refuse f out) (λ zs. read_into zs out) o h
 
-  pub read-unloaded : (f : Refusal) → r ≡ Unloaded f → outcome (of_read (ReadRefused f)) out ≡ on_accepted v (λ f. refuse f out) (read_into xs out)
+  pub read-unloaded : (f : Refusal) → r ≡ Err f → outcome (of_read (Err f)) out ≡ on_accepted v (λ f. refuse f out) (read_into xs out)
   unfolding of_read refuse
   read-unloaded f e = loaded-no v xs ys t r l (λ f. refuse f out) (read_into xs out) _ f e refl

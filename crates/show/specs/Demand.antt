@@ -2,26 +2,15 @@
 -- point is asked and answers is known by its promise (crates/model/specs/Asking), which is what its function ensures; the words are those of
 -- crates/demands/specs, a page for each part; for the text of a file, of crates/shows/specs/Files and SmallFiles; for chains and summaries, of
 -- crates/distances/specs/Demand. Other words of the model and its laws are pinned by `Words` and by the statements that they stand in.
-use Rattle.std.specs.Prelude.{ℕ, ◌*◌, ◌≤◌, ◌<◌, Bool, take, replicate}
+use Rattle.std.specs.Prelude.{ℕ, ◌*◌, ◌≤◌, ◌<◌, Bool, take, replicate, Ok}
 use mathlib.Core.List.{List, [], ◌∷◌}
 use Rattle.std.proofs.Math.ListN.{length}
 use Rattle.model.specs.Limits.{row_size, max_depth}
 use Rattle.model.specs.Blocks.{blocks_of, last_block, count}
 use Rattle.model.specs.Unfolding.{show_links}
 use Rattle.model.specs.Summaries.{block_links}
-use Rattle.model.specs.Answers.{of_write, of_count, of_locate, of_number, of_list, of_row, of_fewest, of_quickest}
+use Rattle.model.specs.Answers.{of_write, of_count, of_locate, of_number, of_list, of_row, of_fewest, of_quickest, WriteAnswer, CountAnswer, NumberAnswer, ReadAnswer, LocateAnswer, ListAnswer, RowAnswer, FewestAnswer, QuickestAnswer, show_size}
 use Rattle.model.specs.Ring.{ring, noted_ring, opening, padded_file, ring_waits, cut_waits, outside_waits, twice_waits}
-use Rattle.model.specs.declared.ReadAnswer.{ReadAnswer}
-use Rattle.model.specs.declared.ReadAnswer.TheVariants.{Read}
-use Rattle.model.specs.declared.WriteAnswer.{WriteAnswer}
-use Rattle.model.specs.declared.WriteAnswer.TheVariants.{Written}
-use Rattle.model.specs.declared.CountAnswer.{CountAnswer}
-use Rattle.model.specs.declared.LocateAnswer.{LocateAnswer}
-use Rattle.model.specs.declared.NumberAnswer.{NumberAnswer}
-use Rattle.model.specs.declared.ListAnswer.{ListAnswer}
-use Rattle.model.specs.declared.RowAnswer.{RowAnswer}
-use Rattle.model.specs.declared.FewestAnswer.{FewestAnswer}
-use Rattle.model.specs.declared.QuickestAnswer.{QuickestAnswer}
 use Rattle.model.specs.Asking.{AsksRead, AsksDeskRead, AsksWrite, AsksCount, AsksLocate, AsksNumber, AsksOut, AsksIn, AsksRow, AsksFewest, AsksQuickest}
 use Rattle.demands.specs.Acceptance.{nth_row, IsRow, Lawful}
 use Rattle.demands.specs.Words.{Words}
@@ -87,16 +76,16 @@ pub record RefusalsExact : Type 0 where
 -- Round trips are exact, of what the buffers hold: read, then write what was left; write, then read what was left; and read, write and read again
 -- (02, Paper 1).
 pub record RoundTripsExact : Type 0 where
-  pub write-back : (file out after : List ℕ) (rows blocks cues : ℕ) → AsksRead file out (Read rows blocks cues) after
+  pub write-back : (file out after : List ℕ) (rows blocks cues : ℕ) → AsksRead file out (Ok (show_size rows blocks cues)) after
       → (r : WriteAnswer) (out' after' : List ℕ) → AsksWrite (take (rows * row_size) after) out' r after' → length file ≤ length out'
       → WritesBack file (take (rows * row_size) after) r out' after'
-  pub read_back : (xs out after : List ℕ) (bytes : ℕ) → AsksWrite xs out (Written bytes) after
+  pub read_back : (xs out after : List ℕ) (bytes : ℕ) → AsksWrite xs out (Ok bytes) after
       → (r : ReadAnswer) (out' after' : List ℕ) → AsksRead (take bytes after) out' r after' → length xs ≤ length out'
       → ReadsBack xs r out' after'
-  pub read_again : (file out after : List ℕ) (rows blocks cues : ℕ) → AsksRead file out (Read rows blocks cues) after
-      → (bytes : ℕ) (out' after' : List ℕ) → AsksWrite (take (rows * row_size) after) out' (Written bytes) after'
+  pub read_again : (file out after : List ℕ) (rows blocks cues : ℕ) → AsksRead file out (Ok (show_size rows blocks cues)) after
+      → (bytes : ℕ) (out' after' : List ℕ) → AsksWrite (take (rows * row_size) after) out' (Ok bytes) after'
       → (r : ReadAnswer) (out'' after'' : List ℕ) → AsksRead (take bytes after') out'' r after'' → rows * row_size ≤ length out''
-      → ReadsAgain (Read rows blocks cues) (take (rows * row_size) after) r out'' after''
+      → ReadsAgain (Ok (show_size rows blocks cues)) (take (rows * row_size) after) r out'' after''
 
 -- Of rows that keep the rules: the blocks are those of the rows; numbers, paths and lists, and the rows behind follow-ons, are right against the unfolding of
 -- the blocks, which single steps in any order lead to.
@@ -161,11 +150,11 @@ pub record Demand4 : Type 0 where
   pub table : TableFact
   pub read : (file out after : List ℕ) (r : ReadAnswer) → AsksDeskRead file out r after → IsDeskRead file out r after
   pub places : (file out after : List ℕ) (r : ReadAnswer) → AsksDeskRead file out r after → OwnLines file r
-  pub lawful : (file out after : List ℕ) (rows blocks cues : ℕ) → AsksDeskRead file out (Read rows blocks cues) after → Lawful (take (rows * row_size) after)
-  pub round_trip : (file out after : List ℕ) (rows blocks cues : ℕ) → AsksDeskRead file out (Read rows blocks cues) after
+  pub lawful : (file out after : List ℕ) (rows blocks cues : ℕ) → AsksDeskRead file out (Ok (show_size rows blocks cues)) after → Lawful (take (rows * row_size) after)
+  pub round_trip : (file out after : List ℕ) (rows blocks cues : ℕ) → AsksDeskRead file out (Ok (show_size rows blocks cues)) after
       → (r : WriteAnswer) (out' after' : List ℕ) → AsksWrite (take (rows * row_size) after) out' r after' → 65536 ≤ length out'
-      → WritesWhole file (Read rows blocks cues) (take (rows * row_size) after) r after'
-  pub work-area : (file out after : List ℕ) (rows blocks cues : ℕ) → AsksDeskRead file out (Read rows blocks cues) after
+      → WritesWhole file (Ok (show_size rows blocks cues)) (take (rows * row_size) after) r after'
+  pub work-area : (file out after : List ℕ) (rows blocks cues : ℕ) → AsksDeskRead file out (Ok (show_size rows blocks cues)) after
       → (s t : ℕ) (work after' : List ℕ) (r : FewestAnswer) → 1 ≤ s → s ≤ cues → 1 ≤ t → t ≤ cues → 16384 ≤ length work
       → AsksFewest (take (rows * row_size) after) s t work r after' → HasDeskSummaries after'
   pub a_file : (file xs : List ℕ) × SpellsFile file xs × DeskLawful xs

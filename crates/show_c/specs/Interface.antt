@@ -3,12 +3,11 @@ use Rattle.std.specs.Prelude.{ℕ, ◌+◌, ◌*◌, min, ◌≡◌, List, lengt
 use Rattle.std.specs.Borrow.{MutBor}
 use denote.Triple.Both.{Both}
 use Rattle.model.specs.Choice.{if_lt}
-use Rattle.model.specs.Verdicts.{refusal}
+use Rattle.model.specs.Verdicts.{refusal, Verdict}
 use Rattle.model.specs.Lists.{overwrite}
 use Rattle.model.specs.Answers.{Returned, returned}
 use Rattle.model.specs.Questions.{Outcome, refuse, on_accepted}
 use Rattle.model.specs.declared.Refusal.{Refusal}
-use Rattle.model.specs.declared.Verdict.{Verdict}
 
 -- 0 for an answer; the refusal's number in the upper 32 bits and its place in the lower ones, which a larger place fills: it never reaches the number.
 unfoldable pub code : Returned → ℕ

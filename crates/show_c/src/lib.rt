@@ -4,86 +4,55 @@
 
 ghost use Rattle.std.specs.Prelude.{◌≡◌, [], ◌∷◌, ◌+◌, ◌*◌, ◌/◌, ◌%◌, ◌≤◌, ◌<◌, min, length};
 ghost use Rattle.model.specs.Lists.{overwrite};
-ghost use Rattle.model.specs.Answers.{flag, of_read, of_list};
+ghost use Rattle.model.specs.Answers.{of_read, of_list};
 ghost use Rattle.model.specs.Verdicts.{verdict, file_verdict};
 ghost use Rattle.model.specs.Desk.{desk_file_verdict};
 ghost use Rattle.model.specs.Questions.{read_asked, desk_read_asked, write_asked, count_asked, locate_asked, number_asked, out_asked, in_asked, row_asked, fewest_asked, quickest_asked};
 ghost use Rattle.show_c.specs.Interface.{given_size, code, IsRefused, short_of, Told, Answers, AnswersInto};
 
-use model::{
-    CountAnswer, FewestAnswer, ListAnswer, LocateAnswer, NumberAnswer, QuickestAnswer, ReadAnswer,
-    Refusal, RowAnswer, WriteAnswer,
-};
+use model::{LineRefusal, Listed, Refusal, ShowSize};
 
 // The least length of `given`.
 const GIVEN_SIZE: usize = 3;
-
-// A number of 32 bits in 64.
-fn long(x: u32) -> u64
-    ensures { (result ≡ x) × (result < 4294967296) }
-{
-    x as u64
-}
 
 // A refusal as one number.
 fn refused(r: Refusal) -> u64
     ensures { result ≡ r.number * 4294967296 + r.place }
 {
-    long(r.number) * 4294967296 + long(r.place)
+    u64::from(r.number()) * 4294967296 + u64::from(r.place)
 }
 
-// A place of 64 bits in 32: one that has no room there is the largest that has.
-fn capped(place: u64) -> u64
-    ensures { result ≡ min place 4294967295 }
+// The same where the place has 64 bits: one that has no room in 32 is the largest that has.
+fn refused_at(r: LineRefusal) -> u64
+    ensures { result ≡ r.number * 4294967296 + min r.place 4294967295 }
 {
-    if place < 4294967295 {
-        return place;
-    }
-    4294967295
-}
-
-// A refusal with such a place, as one number.
-fn refused_at(number: u32, place: u64) -> u64
-    ensures { result ≡ number * 4294967296 + min place 4294967295 }
-{
-    long(number) * 4294967296 + capped(place)
-}
-
-// The lower and the upper half of a number of 64 bits.
-fn low(x: u64) -> u32
-    ensures { result ≡ x % 4294967296 }
-{
-    (x % 4294967296) as u32
-}
-
-fn high(x: u64) -> u32
-    ensures { result ≡ x / 4294967296 }
-{
-    (x / 4294967296) as u32
+    u64::from(r.number()) * 4294967296 + r.place.min(4294967295)
 }
 
 // What is said of rows where `given` is too short.
+// Kept: the number of refusal 11 as it is told, for a `Refusal` is no plainer: it would be made here only to be taken apart.
 fn short_rows(rows: &[u32]) -> u64
     ensures { result ≡ short_of (verdict rows.now) }
 {
     match show::count(rows) {
-        CountAnswer::Cues(_) => 47244640256,
-        CountAnswer::Refused(r) => refused(r),
+        Ok(_) => 47244640256,
+        Err(r) => refused(r),
     }
 }
 
 // The refusal of a file that was read to a list of one number, which has room for no row: it is never answered.
-fn not_read(answer: ReadAnswer) -> u64
+fn not_read(answer: Result<ShowSize, Refusal>) -> u64
     requires { IsRefused (of_read answer) }
     ensures { result ≡ code (of_read answer) }
 {
     match answer {
-        ReadAnswer::Read(_, _, _) => 0,
-        ReadAnswer::Refused(r) => refused(r),
+        Ok(_) => 0,
+        Err(r) => refused(r),
     }
 }
 
 // What is said of a file where `given` is too short, read the first way and the second.
+// Kept: two, since one with the way as a parameter is no plainer: each would hand over one name and be called once.
 fn short_file(file: &[u8]) -> u64
     ensures { result ≡ short_of (file_verdict file.now) }
 {
@@ -98,62 +67,39 @@ fn short_desk_file(file: &[u8]) -> u64
     not_read(show::read_desk(file, &mut none))
 }
 
-// 1 for yes, 0 for no.
-fn flag_of(yes: bool) -> u32
-    ensures { result ≡ flag yes }
-{
-    if yes {
-        return 1;
-    }
-    0
-}
-
 // Values told: they stand first in `given`, and 0 is returned.
-fn tell_1(given: &mut [u32], a: u32) -> u64
-    requires { given_size ≤ length given.old }
-    ensures { (result ≡ 0) × (given.new ≡ overwrite (a ∷ []) given.old) }
+// Kept: that `given` has room, here and in the two below, and no array of three: by the C interface it may be longer, and what stands behind stays (`Answers`).
+fn tell(given: &mut [u32], values: &[u32]) -> u64
+    requires { (given_size ≤ length given.old) × (length values.now ≤ given_size) }
+    ensures { (result ≡ 0) × (given.new ≡ overwrite values.now given.old) }
 {
-    given[0] = a;
+    given[..values.len()].copy_from_slice(values);
     0
-}
-
-fn tell_2(given: &mut [u32], a: u32, b: u32) -> u64
-    requires { given_size ≤ length given.old }
-    ensures { (result ≡ 0) × (given.new ≡ overwrite (a ∷ b ∷ []) given.old) }
-{
-    given[1] = b;
-    tell_1(given, a)
-}
-
-fn tell_3(given: &mut [u32], a: u32, b: u32, c: u32) -> u64
-    requires { given_size ≤ length given.old }
-    ensures { (result ≡ 0) × (given.new ≡ overwrite (a ∷ b ∷ c ∷ []) given.old) }
-{
-    given[2] = c;
-    tell_2(given, a, b)
 }
 
 // What is told of a file that was read: rows, blocks, cues.
-fn tell_read(answer: ReadAnswer, given: &mut [u32]) -> u64
+fn tell_read(answer: Result<ShowSize, Refusal>, given: &mut [u32]) -> u64
     requires { given_size ≤ length given.old }
     ensures { Told result given.old given.new (of_read answer) }
 {
     match answer {
-        ReadAnswer::Read(many, blocks, cues) => tell_3(given, many, blocks, cues),
-        ReadAnswer::Refused(r) => refused(r),
+        Ok(size) => tell(given, &[size.rows, size.blocks, size.cues]),
+        Err(r) => refused(r),
     }
 }
 
 // What is told of a list: cues written, whether there are more (0 or 1).
-fn tell_page(answer: ListAnswer, given: &mut [u32]) -> u64
+fn tell_page(answer: Result<Listed, Refusal>, given: &mut [u32]) -> u64
     requires { given_size ≤ length given.old }
     ensures { Told result given.old given.new (of_list answer) }
 {
     match answer {
-        ListAnswer::Page(written, more) => tell_2(given, written, flag_of(more)),
-        ListAnswer::Refused(r) => refused(r),
+        Ok(listed) => tell(given, &[listed.written, u32::from(listed.more)]),
+        Err(r) => refused(r),
     }
 }
+
+// Kept: the functions below are alike by twos and threes, as the C interface needs each by its own name, with its own values in `given`.
 
 // given: cues
 #[unsafe(no_mangle)]
@@ -164,8 +110,8 @@ pub extern "C" fn show_count(rows: &[u32], given: &mut [u32]) -> u64
         return short_rows(rows);
     }
     match show::count(rows) {
-        CountAnswer::Cues(n) => tell_1(given, n),
-        CountAnswer::Refused(r) => refused(r),
+        Ok(cues) => tell(given, &[cues]),
+        Err(r) => refused(r),
     }
 }
 
@@ -178,8 +124,8 @@ pub extern "C" fn show_number(rows: &[u32], path: &[u32], own: u32, given: &mut 
         return short_rows(rows);
     }
     match show::number(rows, path, own) {
-        NumberAnswer::Number(n) => tell_1(given, n),
-        NumberAnswer::Refused(r) => refused(r),
+        Ok(n) => tell(given, &[n]),
+        Err(r) => refused(r),
     }
 }
 
@@ -192,8 +138,8 @@ pub extern "C" fn show_locate(rows: &[u32], n: u32, path: &mut [u32], given: &mu
         return short_rows(rows);
     }
     match show::locate(rows, n, path) {
-        LocateAnswer::Found(depth, block, own) => tell_3(given, depth, block, own),
-        LocateAnswer::Refused(r) => refused(r),
+        Ok(place) => tell(given, &[place.depth, place.block, place.own]),
+        Err(r) => refused(r),
     }
 }
 
@@ -206,8 +152,8 @@ pub extern "C" fn show_write(rows: &[u32], out: &mut [u8], given: &mut [u32]) ->
         return short_rows(rows);
     }
     match show::write(rows, out) {
-        WriteAnswer::Written(n) => tell_1(given, n),
-        WriteAnswer::Refused(r) => refused(r),
+        Ok(size) => tell(given, &[size]),
+        Err(r) => refused(r),
     }
 }
 
@@ -276,8 +222,8 @@ pub extern "C" fn show_row(rows: &[u32], s: u32, t: u32, path: &mut [u32], given
         return short_rows(rows);
     }
     match show::row(rows, s, t, path) {
-        RowAnswer::Row(row, depth) => tell_2(given, row, depth),
-        RowAnswer::Refused(r) => refused(r),
+        Ok(link) => tell(given, &[link.row, link.depth]),
+        Err(r) => refused(r),
     }
 }
 
@@ -296,9 +242,9 @@ pub extern "C" fn show_fewest(
         return short_rows(rows);
     }
     match show::fewest(rows, s, t, work) {
-        FewestAnswer::Steps(n) => tell_2(given, 1, n),
-        FewestAnswer::None => tell_2(given, 0, 0),
-        FewestAnswer::Refused(r) => refused(r),
+        Ok(Some(n)) => tell(given, &[1, n]),
+        Ok(None) => tell(given, &[0, 0]),
+        Err(r) => refused(r),
     }
 }
 
@@ -318,8 +264,11 @@ pub extern "C" fn show_quickest(
         return short_rows(rows);
     }
     match show::quickest(rows, s, t, file, work) {
-        QuickestAnswer::Tenths(n) => tell_3(given, 1, low(n), high(n)),
-        QuickestAnswer::None => tell_3(given, 0, 0, 0),
-        QuickestAnswer::Refused(number, place) => refused_at(number, place),
+        Ok(Some(n)) => tell(
+            given,
+            &[1, (n % 4294967296) as u32, (n / 4294967296) as u32],
+        ),
+        Ok(None) => tell(given, &[0, 0, 0]),
+        Err(r) => refused_at(r),
     }
 }

@@ -8,24 +8,13 @@ use mathlib.Core.Logic.{◌⊎◌, inl, inr}
 use mathlib.Core.List.{List, [], ◌∷◌, Memᴰ}
 use lib.ListN.{length, get_or, take, drop, take-append-drop, get_or-eq_default}
 use borrow.Author.Tests.{ne_eqb}
+use Rattle.std.specs.Prelude.{Ok, Err}
 use Rattle.model.specs.Choice.{if_eq}
 use Rattle.model.specs.Limits.{row_size, max_rows, max_joins, max_own, max_label, max_total, no_chain}
 use Rattle.model.specs.Rows.{Row, cell, row_at, rows_from, row_count, rows_of, row_values}
 use Rattle.model.specs.Rules.{Seen, start, cues_in, columns_used, named, is_cue, is_zero, label_fits, own_fits, fault, after}
 use Rattle.model.specs.Blocks.{Link, Use, Block, joins_of, own_of, add_link, add_use, add_row, add_rows, blocks_of, total, last_block}
-use Rattle.model.specs.Verdicts.{
-  refused,
-  and_then,
-  check_length,
-  check_rows,
-  opening_rows,
-  check_blocks,
-  may_stand,
-  total_fits,
-  verdict,
-}
-use Rattle.model.specs.declared.Verdict.{Verdict}
-use Rattle.model.specs.declared.Verdict.TheVariants.{Accepted, Refused}
+use Rattle.model.specs.Verdicts.{refused, and_then, check_length, check_rows, opening_rows, check_blocks, may_stand, total_fits, verdict, Verdict, Accepted}
 use Rattle.shows.specs.WellFormed.{Small, small-none, small-more}
 use Rattle.shows.specs.Accepted.{Show}
 use Rattle.shows.proofs.AtBlock.{joins-small}
@@ -41,8 +30,8 @@ not-accepted n r e = let z : ◌≡◌ {A = ℕ} 0 1 = cc in omega arith
 
 pub both_accepted : (v w : Verdict) → and_then v w ≡ Accepted → (v ≡ Accepted) × (w ≡ Accepted)
 unfolding and_then
-both_accepted Accepted w e = (refl, e)
-both_accepted (Refused r) w e = absurd (let z : ◌≡◌ {A = ℕ} 0 1 = cc in omega arith)
+both_accepted (Ok _) w e = (refl, e)
+both_accepted (Err r) w e = absurd (let z : ◌≡◌ {A = ℕ} 0 1 = cc in omega arith)
 
 -- Check 4.
 pub counted : (xs : List ℕ) → check_length xs ≡ Accepted → (length xs % row_size ≡ 0) × (1 ≤ row_count xs) × (row_count xs ≤ max_rows)

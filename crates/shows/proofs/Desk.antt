@@ -9,6 +9,7 @@ use mathlib.Core.List.{List, [], ◌∷◌, ◌++◌}
 use lib.ListN.{length, get_or, take, length-append}
 use borrow.Author.Tests.{ne_eqb}
 use lib.Dec.{eqb}
+use Rattle.std.specs.Prelude.{Err}
 use Rattle.model.specs.Choice.{if_eq}
 use Rattle.model.specs.Limits.{max_rows, max_total, desk_rows, desk_blocks}
 use Rattle.model.specs.Rows.{Row, row_at, rows_from, row_count, rows_of}
@@ -17,10 +18,9 @@ use Rattle.model.specs.Blocks.{Link, Use, Block, joins_of, add_link, add_use, ad
 use Rattle.model.specs.Unfolding.{links}
 use Rattle.model.specs.Lists.{range}
 use Rattle.model.specs.Summaries.{Search, block_links, summary_by}
-use Rattle.model.specs.Verdicts.{refused, check_rows, opening_rows, check_blocks, may_stand, total_fits, verdict}
+use Rattle.model.specs.Verdicts.{refused, check_rows, opening_rows, check_blocks, may_stand, total_fits, verdict, Accepted}
 use Rattle.model.specs.Desk.{built_in, built_in_numbers, with_desk, check_own, check_first}
 use Rattle.model.specs.declared.Refusal.{Refusal}
-use Rattle.model.specs.declared.Verdict.TheVariants.{Accepted, Refused}
 use Rattle.basics.proofs.Choices.{eq_then, eq_else, eq_first, lt_then, lt_else, lt_second}
 use Rattle.shows.proofs.AtBlock.{joins_of-skip, total-skip, links-skip}
 use Rattle.shows.proofs.Accepted.{not-accepted}
@@ -180,7 +180,7 @@ some-row xs (suc n) h = (rows_from xs (0 + 1) n, refl)
 
 -- A refusal of a row is one of the file's; and so is one of a block where the table's blocks pass.
 block-place : (xs : List ℕ) (number : ℕ) (ok : ℕ → Bool) → ((k : ℕ) → k < desk_blocks → ok k ≡ true) → (q : Refusal)
-    → check_blocks number ok 0 (opening_rows 1 (rows_of (with_desk xs))) ≡ Refused q → desk_rows < q.place
+    → check_blocks number ok 0 (opening_rows 1 (rows_of (with_desk xs))) ≡ Err q → desk_rows < q.place
 block-place xs number ok h q e =
     let f = rw (with_rows xs, openings-on 1 built_in (rows_of xs)) at e in
     let on : check_blocks number ok 0 (opening_rows 1 built_in ++ opening_rows (1 + length built_in) (rows_of xs))
@@ -188,7 +188,7 @@ block-place xs number ok h q e =
     blocks-on number ok 0 (opening_rows 1 built_in) (opening_rows (1 + length built_in) (rows_of xs)) (λ j a b. h j (omega (arith, table-openings))) in
     omega (arith, table-length, (blocks-place number ok (0 + length (opening_rows 1 built_in)) (1 + length built_in) (rows_of xs) q (sym on ∙ f)).0)
 
-row-place : (xs : List ℕ) (q : Refusal) → check_rows start 1 (rows_of (with_desk xs)) ≡ Refused q → desk_rows < q.place
+row-place : (xs : List ℕ) (q : Refusal) → check_rows start 1 (rows_of (with_desk xs)) ≡ Err q → desk_rows < q.place
 row-place xs q e =
     let f = rw (with_rows xs) at e in
     omega (arith, table-length, (rows-place (seen_after start built_in) (1 + length built_in) (rows_of xs) q (sym (rows_on start 1 built_in (rows_of xs) table-passes) ∙ f)).0)
@@ -231,7 +231,7 @@ module _ (xs : List ℕ) (own : check_own xs ≡ Accepted) (first : check_first 
       lt_else max_total (total (blocks_of (with_desk xs)) k) false true (omega arith)
 
 -- "places are still the file's own lines": a refusal of the rows falls on none of the table's.
-pub own-place : (xs : List ℕ) (q : Refusal) → check_own xs ≡ Accepted → check_first (row_at xs 0) ≡ Accepted → verdict (with_desk xs) ≡ Refused q
+pub own-place : (xs : List ℕ) (q : Refusal) → check_own xs ≡ Accepted → check_first (row_at xs 0) ≡ Accepted → verdict (with_desk xs) ≡ Err q
     → 5 ≤ q.number → desk_rows < q.place
 own-place xs q own first e h = go (refuser (with_desk xs) q e)
   where

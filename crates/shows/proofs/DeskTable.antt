@@ -9,6 +9,7 @@ use native.Mathlib.Decide.{ℕ_discrete}
 use lib.ListN.{length, get_or, drop, length-append}
 use lib.Seq.{get_or-append-add}
 use borrow.Author.Tests.{eq-eqb, ne_eqb}
+use Rattle.std.specs.Prelude.{Ok, Err}
 use Rattle.model.specs.Choice.{if_eq, if_lt, if_true}
 use Rattle.model.specs.Limits.{row_size, desk_rows, desk_blocks, no_chain}
 use Rattle.model.specs.Rows.{Row, cell, row_at, rows_from, row_count, rows_of, row_values}
@@ -40,10 +41,8 @@ use Rattle.model.specs.Blocks.{Link, Block, no_block, block_at, joins_of, add_li
 use Rattle.model.specs.Unfolding.{cue_at, renamed, uses_links, links}
 use Rattle.model.specs.Chains.{followed, is_in, successors, search_from, fewest}
 use Rattle.model.specs.Summaries.{block_links, or_none, summary, summary_by}
-use Rattle.model.specs.Verdicts.{check_rows, opening_rows}
+use Rattle.model.specs.Verdicts.{check_rows, opening_rows, Verdict, Accepted}
 use Rattle.model.specs.Desk.{plain_opening, plain_link, plain_run, built_in, built_in_numbers, with_desk}
-use Rattle.model.specs.declared.Verdict.{Verdict}
-use Rattle.model.specs.declared.Verdict.TheVariants.{Accepted, Refused}
 use Rattle.basics.proofs.Members.{range-mem, every-mem}
 use Rattle.basics.proofs.Choices.{passed, passed-eq}
 use Rattle.shows.proofs.AtBlock.{block_at_hit, block_at_skip}
@@ -145,8 +144,8 @@ is_crossed bs k =
 
 -- "Over the whole table one fact is proved: its rows pass checks 5 to 8, and block k's summary ..": one test of some rows and their first n blocks.
 accepts : Verdict → Bool
-accepts Accepted = true
-accepts (Refused r) = false
+accepts (Ok _) = true
+accepts (Err r) = false
 
 is_right : List Row → ℕ → Bool
 is_right ws n = if_true (accepts (check_rows start 1 ws)) (every (is_crossed (add_rows [] ws)) (range 0 n)) false
@@ -158,8 +157,8 @@ table-right = refl
 -- The rule at the rows: they pass.
 accepts_so : (v : Verdict) → accepts v ≡ true → v ≡ Accepted
 unfolding accepts
-accepts_so Accepted e = refl
-accepts_so (Refused r) e = absurd (false≢true e)
+accepts_so (Ok _) e = refl
+accepts_so (Err r) e = absurd (false≢true e)
 
 both_right : (accepts (check_rows start 1 built_in) ≡ true) × (every (is_crossed (add_rows [] built_in)) (range 0 desk_blocks) ≡ true)
 unfolding is_right

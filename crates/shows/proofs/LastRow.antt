@@ -7,8 +7,7 @@ use lib.ListN.{length}
 use Rattle.model.specs.Rows.{Row, cell, row_at, rows_from, row_count, rows_of}
 use Rattle.model.specs.Rules.{Seen, start, fault, after}
 use Rattle.model.specs.Blocks.{Block, add_row, add_rows, blocks_of, last_block}
-use Rattle.model.specs.Verdicts.{check_rows, verdict}
-use Rattle.model.specs.declared.Verdict.TheVariants.{Accepted}
+use Rattle.model.specs.Verdicts.{check_rows, verdict, Accepted}
 use Rattle.shows.specs.Accepted.{Show}
 use Rattle.shows.proofs.Passed.{faultless, Kind, opens, links, uses, kind-of}
 use Rattle.shows.proofs.Tracks.{Tracks, tracks_start, tracks_step}

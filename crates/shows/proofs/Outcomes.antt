@@ -4,13 +4,12 @@ use mathlib.Core.Path.{◌≡◌, ◌∙◌}
 use mathlib.Core.Bool.{false}
 use mathlib.Core.List.{List}
 use lib.ListN.{length}
+use Rattle.std.specs.Prelude.{Err}
 use Rattle.model.specs.Rules.{is_cue}
 use Rattle.model.specs.Blocks.{Block, count}
-use Rattle.model.specs.Verdicts.{refusal}
+use Rattle.model.specs.Verdicts.{refusal, Verdict, Accepted}
 use Rattle.model.specs.Questions.{Outcome, refuse, on_accepted, with_room, with_cue}
 use Rattle.model.specs.declared.Refusal.{Refusal}
-use Rattle.model.specs.declared.Verdict.{Verdict}
-use Rattle.model.specs.declared.Verdict.TheVariants.{Accepted, Refused}
 use Rattle.basics.proofs.Choices.{lt_then, lt_else, true_then, true_else}
 
 -- The rows.
@@ -19,7 +18,7 @@ module _ {A : Type 0} (v : Verdict) (refuse : Refusal → A) (answer : A) where
   unfolding on_accepted
   on-yes e = rw e
 
-  pub on-no : (f : Refusal) → v ≡ Refused f → on_accepted v refuse answer ≡ refuse f
+  pub on-no : (f : Refusal) → v ≡ Err f → on_accepted v refuse answer ≡ refuse f
   unfolding on_accepted
   on-no f e = rw e
 

@@ -5,15 +5,14 @@ use mathlib.Core.Path.{◌≡◌, refl}
 use mathlib.Core.List.{List, [], ◌∷◌}
 use native.Mathlib.Omega.{arith}
 use lib.ListN.{length}
+use Rattle.std.specs.Prelude.{Ok, Err}
 use Rattle.model.specs.Limits.{max_bytes}
 use Rattle.model.specs.Rows.{row_count, rows_of, file_text}
 use Rattle.model.specs.Blocks.{blocks_of, count}
-use Rattle.model.specs.Verdicts.{verdict, Reading, Numbers, Unread, read_file, numbers_of, in_lines, read_verdict, file_verdict}
+use Rattle.model.specs.Verdicts.{verdict, Reading, Numbers, Unread, read_file, numbers_of, in_lines, read_verdict, file_verdict, Verdict, Accepted}
 use Rattle.model.specs.Lists.{overwrite}
 use Rattle.model.specs.Questions.{answer, on_accepted, read_into, read_asked, write_into, write_asked}
 use Rattle.model.specs.declared.Refusal.{Refusal}
-use Rattle.model.specs.declared.Verdict.{Verdict}
-use Rattle.model.specs.declared.Verdict.TheVariants.{Accepted, Refused}
 use Rattle.shows.specs.Accepted.{Show}
 use Rattle.shows.proofs.Accepted.{accepted-show}
 use Rattle.shows.proofs.Outcomes.{has_room}
@@ -66,12 +65,12 @@ pub accepted-file : (f : List ℕ) → file_verdict f ≡ Accepted
 unfolding file_verdict read_verdict in_lines
 accepted-file f e = go (read_file f) refl e
   where
-    refused≢ : (r : Refusal) → Refused r ≡ Accepted → ⊥
+    refused≢ : (r : Refusal) → Err r ≡ Accepted → ⊥
     refused≢ r p = let z : ◌≡◌ {A = ℕ} 0 1 = cc in omega arith
 
     passed : (v : Verdict) → in_lines v ≡ Accepted → v ≡ Accepted
-    passed Accepted p = refl
-    passed (Refused r) p = absurd (refused≢ _ p)
+    passed (Ok _) p = refl
+    passed (Err r) p = absurd (refused≢ _ p)
 
     go : (k : Reading) → read_file f ≡ k → read_verdict k ≡ Accepted
         → (xs : List ℕ) × (read_file f ≡ Numbers xs) × (verdict xs ≡ Accepted)

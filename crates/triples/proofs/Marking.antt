@@ -10,7 +10,7 @@ use mathlib.Core.List.{List, [], ◌∷◌, ◌++◌, Memᴰ}
 use lib.ListN.{length, get_or, take, drop, set, length-set}
 use lib.Dec.{ltb}
 use borrow.Author.Tests.{ltb-false}
-use lib.Seq.{take-suc, take_at, take_all, get_or-set_same, get_or-set_other, get_or-take}
+use lib.Seq.{take-suc, take_at, take_all, get_or-set_same, get_or-set_other}
 use Rattle.model.specs.Limits.{printed_cues}
 use Rattle.model.specs.Choice.{if_lt, if_true}
 use Rattle.model.specs.Answers.{flag}
@@ -23,14 +23,14 @@ use Rattle.basics.proofs.Keeping.{kept, keep-short}
 use Rattle.basics.proofs.Members.{get_d_mem, range-bounds, range-mem, range_length}
 use Rattle.basics.proofs.Printed.{triple-hit, triple-miss}
 use Rattle.neighbours.specs.declared.Ask.{Ask}
-use Rattle.lists.specs.declared.Listed.{Listed}
+use Rattle.model.specs.declared.Listed.{Listed}
 use Rattle.neighbours.specs.Picks.{near_end, fits, picks, Picked, wants, wanted}
 use Rattle.lists.specs.Answer.{labelled_cues, IsListed}
 use Rattle.neighbours.proofs.Picked.{picked}
 use Rattle.blocks.specs.declared.Place.{Place}
 use Rattle.blocks.specs.Loaded.{Loaded}
 use Rattle.blocks.specs.Places.{Found}
-use Rattle.triples.specs.Marks.{label_places, Marked, MarkedTo, Blank, marks_all, PageWithin, Says, Aims, TableTo}
+use Rattle.triples.specs.Marks.{label_places, Marked, MarkedTo, Blank, marks_all, Within, Says, Aims, TableTo}
 
 -- What the marks of a label change.
 module _ (label : ℕ) where
@@ -79,6 +79,9 @@ pub mark_on : (page begun m : List ℕ) (i v label : ℕ) → m ≡ marks_all (t
 mark_on page begun m i v label e f h =
     let k : i + 1 ≡ suc i = omega arith in
     rw (k, take-suc page i 0 h, e, f) (sym (marks-more label (take i page) begun (get_or page i 0)))
+
+pub marks-done : (cues begun m : List ℕ) (i label : ℕ) → m ≡ marks_all (take i cues) label begun → length cues ≤ i → m ≡ marks_all cues label begun
+marks-done cues begun m i label e h = e ∙ ap (λ vs. marks_all vs label begun) (take_all i cues h)
 
 -- A triple is a link that the question with just its label picks.
 abbrev pub out : ℕ → ℕ → Ask
@@ -263,33 +266,18 @@ module _ (one : ℕ) (bs : List Block) (u : ℕ) (few : count bs ≤ printed_cue
   all : take n after ≡ labelled_cues one one bs u
   all = rw e (page-first (labelled_cues one one bs u) page after r l (omega (arith, few-cues one one bs u)))
 
-  size : n ≡ length (labelled_cues one one bs u)
-  size = omega (arith, l.written, few-cues one one bs u)
-
-  pub page-small : n ≤ printed_cues
-  page-small = omega (arith, size, few-cues one one bs u)
-
-  pub page-within : length after ≡ length page → PageWithin after n
-  page-within same =
+  pub page-within : Within (take n after)
+  page-within =
       record {
-        long = same ∙ long;
         each = λ i h.
             let vs = labelled_cues one one bs u in
-            let g : get_or vs i 0 ≡ get_or after i 0 = rw (← all) (get_or-take n after i 0 h) in
-            omega (arith, g, cue-was one one bs u (get_or vs i 0) (get_d_mem vs i (omega (arith, size))));
+            let g : get_or vs i 0 ≡ get_or (take n after) i 0 = rw all refl in
+            omega (arith, g, cue-was one one bs u (get_or vs i 0) (get_d_mem vs i (rw all at h)));
       }
 
   pub label-done : (m w : List ℕ) (label : ℕ) → w ≡ marks_all (take n after) label m → label ≡ one → 1 ≤ one → one < label_places
       → MarkedTo (show_links bs) u (count bs) one m → MarkedTo (show_links bs) u (count bs) (one + 1) w
   label-done m w label f g low high was = rw (f, all, g) (mark_step bs u few one m low high was)
-
--- One place more cleared.
-pub clear-on : (m : List ℕ) (i : ℕ) → ((x : ℕ) → x < i → get_or m x 0 ≡ 0) → i < length m → (x : ℕ) → x < i + 1 → get_or (set m i 0) x 0 ≡ 0
-clear-on m i was h x g = go (ℕ_discrete x i)
-  where
-    go : Dec (x ≡ i) → get_or (set m i 0) x 0 ≡ 0
-    go (yes e) = rw e (get_or-set_same m i 0 0 h)
-    go (no n) = get_or-set_other m i x 0 0 n ∙ was x (omega arith)
 
 -- A page of one that stays empty.
 pub says_none : (vs page after : List ℕ) (r : Listed) → length page ≡ 1 → IsListed vs page after r → Says (ltb 0 r.written) vs

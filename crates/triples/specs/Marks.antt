@@ -51,10 +51,9 @@ unfoldable pub marks_all : List ℕ → ℕ → List ℕ → List ℕ
 marks_all [] label m = m
 marks_all (v ∷ vs) label m = marks_all vs label (set m (label_places * v + label) 1)
 
--- The first n numbers of a page have a place in the table.
-pub record PageWithin (page : List ℕ) (n : ℕ) : Type 0 where
-  pub long : length page ≡ printed_cues
-  pub each : (i : ℕ) → i < n → get_or page i 0 ≤ printed_cues
+-- Each of some numbers has a place in the table.
+pub record Within (vs : List ℕ) : Type 0 where
+  pub each : (i : ℕ) → i < length vs → get_or vs i 0 ≤ printed_cues
 
 -- Where a test says no, a list is empty.
 pub record Says (b : Bool) (vs : List ℕ) : Type 0 where

@@ -1,6 +1,6 @@
 -- A value at a place is a text of it that stands there, and the byte behind that text.
 use Prim.Native.Nat.{ℕ, ◌+◌, ◌≤◌, ◌<◌}
-use mathlib.Core.Path.{◌≡◌, refl, sym, ◌∙◌}
+use mathlib.Core.Path.{◌≡◌, refl, sym, ◌∙◌, ap}
 use mathlib.Core.Bool.{Bool, true, false}
 use mathlib.Core.List.{List, [], ◌∷◌, ◌++◌}
 use native.Mathlib.Omega.{arith}
@@ -8,12 +8,12 @@ use native.Mathlib.Numerals.{add-one}
 use native.Mathlib.Decide.{dec_lt}
 use lib.ListN.{length, get_or, drop, drop_of_length-le}
 use lib.Seq.{drop-cons, drop-drop}
+use Rattle.std.proofs.Common.{Option, Some, None}
 use Rattle.model.specs.Values.{is_digit, run, after_run, decimal}
 use Rattle.basics.specs.Values.{shown, SpellsValue, Other, Reads}
 use Rattle.basics.proofs.Choices.{lt_then, lt_first, eq_then, eq_first, true_then, true_first}
 use Rattle.basics.proofs.Digits.{spelled_read, read-spelled}
 use Rattle.values.specs.Fields.{ended_at, value_at}
-use Rattle.values.specs.declared.Field.TheVariants.{Value, Bad}
 
 -- What follows a run of digits stands behind it.
 after_run_lem : (bs : List ℕ) → after_run bs ≡ drop (length (run bs)) bs
@@ -50,7 +50,7 @@ pub record ValueText (f : List ℕ) (e at v next : ℕ) : Type 0 where
   pub on : at < next
   pub inside : next ≤ length f
 
-pub value-text : (f : List ℕ) (e at v next : ℕ) → value_at f e at ≡ Value v next → ValueText f e at v next
+pub value-text : (f : List ℕ) (e at v next : ℕ) → value_at f e at ≡ Some (v, next) → ValueText f e at v next
 unfolding value_at ended_at
 value-text f e at v next p =
     let i = at + length (run (drop at f)) in
@@ -58,8 +58,9 @@ value-text f e at v next p =
     let (h, r) = lt_first _ _ _ _ _ bad q in
     let (b, s) = eq_first _ _ _ _ _ bad r in
     let (spells, d) = read-spelled (drop at f) is in
-    let n : decimal 0 (run (drop at f)) ≡ v = cc in
-    let m : i + 1 ≡ next = cc in
+    let pair : (decimal 0 (run (drop at f)), i + 1) ≡ (v, next) = cc in
+    let n : decimal 0 (run (drop at f)) ≡ v = ap (λ (w : ℕ × ℕ). w.0) pair in
+    let m : i + 1 ≡ next = ap (λ (w : ℕ × ℕ). w.1) pair in
     let c : after_run (drop at f) ≡ e ∷ drop next f = after-at f at ∙ drop-cons f i 0 h ∙ rw (b, ← m, add-one) in
     record {
       text = shown (run (drop at f));
@@ -69,11 +70,11 @@ value-text f e at v next p =
       inside = omega arith;
     }
   where
-    bad : Bad ≡ Value v next → ⊥
-    bad x = let z : ◌≡◌ {A = ℕ} 0 1 = cc in omega arith
+    bad : ◌≡◌ {A = Option (ℕ × ℕ)} None (Some (v, next)) → ⊥
+    bad x = cc
 
 pub text-value : (f : List ℕ) (e at v : ℕ) (t rest : List ℕ) → SpellsValue t v → Other e → drop at f ≡ t ++ (e ∷ rest)
-    → (next : ℕ) × (value_at f e at ≡ Value v next) × (drop next f ≡ rest)
+    → (next : ℕ) × (value_at f e at ≡ Some (v, next)) × (drop next f ≡ rest)
 unfolding value_at ended_at
 text-value f e at v t rest s o p =
     let i = at + length (run (drop at f)) in

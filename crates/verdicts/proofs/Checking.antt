@@ -10,14 +10,16 @@ use Rattle.model.specs.Limits.{row_size, max_rows}
 use Rattle.model.specs.Rows.{rows_from, row_count, rows_of}
 use Rattle.model.specs.Rules.{start}
 use Rattle.model.specs.Blocks.{add_rows, blocks_of}
-use Rattle.model.specs.Verdicts.{refused, and_then, check_length, check_rows, verdict}
-use Rattle.model.specs.declared.Verdict.{Verdict}
-use Rattle.model.specs.declared.Verdict.TheVariants.{Accepted}
-use Rattle.basics.proofs.Choices.{eq_then, eq_else, lt_then, lt_else}
+use Rattle.model.specs.Verdicts.{refused, and_then, check_length, check_rows, verdict, Verdict, Accepted}
+use Rattle.basics.proofs.Choices.{eq_yes, eq_no, eq_then, eq_else, lt_then, lt_else}
 use Rattle.shows.proofs.Accepted.{accepted-show, not-accepted, both_accepted}
 use Rattle.verdicts.specs.Index.{index_size, Indexed}
-use Rattle.verdicts.specs.Passing.{placed, rows_in, judged, Fine, blocks_to, Scanned, IsChecked}
-use Rattle.verdicts.specs.declared.Scan.{Scan}
+use Rattle.std.specs.Prelude.{Result, Ok, Err}
+use Rattle.rules.specs.Numbers.{number}
+use Rattle.verdicts.specs.Passing.{passes_at, place_from, placed, rows_in, judged, Fine, blocks_to, fault_in, row_in, blocks_in, Scanned, IsChecked}
+use Rattle.verdicts.specs.declared.FaultyRow.{FaultyRow}
+use Rattle.verdicts.proofs.Steps.{eq-yes', eq-no'}
+use Rattle.verdicts.proofs.Going.{some_number}
 use Rattle.verdicts.proofs.Known.{known, blocks-all}
 use Rattle.verdicts.proofs.Openings.{indexed, ends-law, totals-law}
 
@@ -76,8 +78,8 @@ both_placed p q = go (ℕ_discrete p 0)
     go (no n) = rw (eq_else p 0 Accepted (refused 9 p) n, eq_else p 0 (if_eq q 0 Accepted (refused 10 q)) (refused 9 p) n) (refuses_first 9 p _)
 
 -- The verdict is what the pass and the table say.
-module _ (xs t : List ℕ) (s : Scan) (S : Scanned xs (rows_in xs) t s) where
-  none-law : rows_in xs ≡ 0 → judged xs t (rows_in xs) s.fault s.row s.blocks ≡ verdict xs
+module _ (xs t : List ℕ) (s : Result ℕ FaultyRow) (S : Scanned xs (rows_in xs) t s) where
+  none-law : rows_in xs ≡ 0 → judged xs t (rows_in xs) (fault_in s) (row_in s) (blocks_in s) ≡ verdict xs
   unfolding judged verdict
   none-law e = rw ((rows_fit xs).0 e) (eq_then _ _ _ _ e ∙ sym (refuses_first 4 0 _))
 
@@ -92,24 +94,24 @@ module _ (xs t : List ℕ) (s : Scan) (S : Scanned xs (rows_in xs) t s) where
     unfolding rows_of
     rows_are = rw count-is
 
-    pub says : (s.fault ≡ 0 → ⊥) → verdict xs ≡ refused s.fault s.row
+    pub says : (fault_in s ≡ 0 → ⊥) → verdict xs ≡ refused (fault_in s) (row_in s)
     unfolding verdict
     says n =
-        let e : check_rows start 1 (rows_of xs) ≡ refused s.fault s.row = rw rows_are at (S.found n) in
+        let e : check_rows start 1 (rows_of xs) ≡ refused (fault_in s) (row_in s) = rw rows_are at (S.found n) in
         rw (length-fits, e) (passes-first _ ∙ refuses_first _ _ _)
 
-    found-law : (s.fault ≡ 0 → ⊥) → judged xs t (rows_in xs) s.fault s.row s.blocks ≡ verdict xs
+    found-law : (fault_in s ≡ 0 → ⊥) → judged xs t (rows_in xs) (fault_in s) (row_in s) (blocks_in s) ≡ verdict xs
     unfolding judged
     found-law n = eq_else _ _ _ _ some ∙ eq_else _ _ _ _ n ∙ sym (says n)
 
-    blocks-are : s.fault ≡ 0 → s.blocks ≡ length (blocks_to xs (rows_in xs))
+    blocks-are : fault_in s ≡ 0 → blocks_in s ≡ length (blocks_to xs (rows_in xs))
     blocks-are z = let k = known xs (rows_in xs) (S.fine z) in S.blocks z ∙ k.blocks ∙ k.tracks.count
 
     blocks-of : blocks_to xs (rows_in xs) ≡ blocks_of xs
     unfolding blocks_of
     blocks-of = sym (blocks-all xs (rows_in xs)) ∙ ap (add_rows []) rows_are
 
-    fine-law : s.fault ≡ 0 → judged xs t (rows_in xs) s.fault s.row s.blocks ≡ verdict xs
+    fine-law : fault_in s ≡ 0 → judged xs t (rows_in xs) (fault_in s) (row_in s) (blocks_in s) ≡ verdict xs
     unfolding judged verdict
     fine-law z =
         let few : rows_in xs ≤ max_rows = (rows-many xs).1 in
@@ -119,10 +121,10 @@ module _ (xs t : List ℕ) (s : Scan) (S : Scanned xs (rows_in xs) t s) where
         eq_else _ _ _ _ some ∙ eq_then _ _ _ _ z
         ∙ rw (length-fits, r, e9, e10, S.table z, blocks-are z, blocks-of) (sym (passes-first _ ∙ passes-first _ ∙ both_placed _ _))
 
-  pub judged-law : judged xs t (rows_in xs) s.fault s.row s.blocks ≡ verdict xs
-  judged-law = go (ℕ_discrete (rows_in xs) 0) (ℕ_discrete s.fault 0)
+  pub judged-law : judged xs t (rows_in xs) (fault_in s) (row_in s) (blocks_in s) ≡ verdict xs
+  judged-law = go (ℕ_discrete (rows_in xs) 0) (ℕ_discrete (fault_in s) 0)
     where
-      go : Dec (rows_in xs ≡ 0) → Dec (s.fault ≡ 0) → judged xs t (rows_in xs) s.fault s.row s.blocks ≡ verdict xs
+      go : Dec (rows_in xs ≡ 0) → Dec (fault_in s ≡ 0) → judged xs t (rows_in xs) (fault_in s) (row_in s) (blocks_in s) ≡ verdict xs
       go (yes e) d = none-law e
       go (no n) (yes z) = fine-law n z
       go (no n) (no m) = found-law n m
@@ -132,14 +134,14 @@ module _ (xs t : List ℕ) (s : Scan) (S : Scanned xs (rows_in xs) t s) where
   unfolding verdict
   accepted-some v e = not-accepted 4 0 (sym ((rows_fit xs).0 e) ∙ (both_accepted (check_length xs) _ v).0)
 
-  accepted-fine : verdict xs ≡ Accepted → s.fault ≡ 0
-  accepted-fine v = go (ℕ_discrete s.fault 0)
+  accepted-fine : verdict xs ≡ Accepted → fault_in s ≡ 0
+  accepted-fine v = go (ℕ_discrete (fault_in s) 0)
     where
-      go : Dec (s.fault ≡ 0) → s.fault ≡ 0
+      go : Dec (fault_in s ≡ 0) → fault_in s ≡ 0
       go (yes z) = z
-      go (no n) = absurd (not-accepted s.fault s.row (sym (found-says n) ∙ v))
+      go (no n) = absurd (not-accepted (fault_in s) (row_in s) (sym (found-says n) ∙ v))
         where
-          found-says : (s.fault ≡ 0 → ⊥) → verdict xs ≡ refused s.fault s.row
+          found-says : (fault_in s ≡ 0 → ⊥) → verdict xs ≡ refused (fault_in s) (row_in s)
           found-says m = says (accepted-some v) m
 
   table_is : verdict xs ≡ Accepted → Indexed xs t
@@ -149,7 +151,7 @@ module _ (xs t : List ℕ) (s : Scan) (S : Scanned xs (rows_in xs) t s) where
       let f : Fine xs (row_count xs) = rw c at (S.fine z) in
       rw (S.table z, c) (indexed xs f (accepted-show xs a).totals)
 
-  pub is-checked : (v : Verdict) → v ≡ judged xs t (rows_in xs) s.fault s.row s.blocks
+  pub is-checked : (v : Verdict) → v ≡ judged xs t (rows_in xs) (fault_in s) (row_in s) (blocks_in s)
       → IsChecked xs t v
   is-checked v e = record { said = e ∙ judged-law; table = λ a. table_is a }
 
@@ -157,6 +159,27 @@ module _ (xs t : List ℕ) (s : Scan) (S : Scanned xs (rows_in xs) t s) where
 pub pass_asks : (xs t : List ℕ) (n : ℕ) → n ≡ rows_in xs → t ≡ replicate index_size 0 → (n * row_size ≤ length xs) × (n ≤ max_rows) × (t ≡ replicate index_size 0)
 pass_asks xs t n e empty = let m = rows-many xs in (rw e m.0, rw e m.1, empty)
 
-pub checked_of : (xs t : List ℕ) (n : ℕ) (s : Scan) (v : Verdict) → n ≡ rows_in xs → Scanned xs n t s
-    → v ≡ judged xs t n s.fault s.row s.blocks → IsChecked xs t v
+pub checked_of : (xs t : List ℕ) (n : ℕ) (s : Result ℕ FaultyRow) (v : Verdict) → n ≡ rows_in xs → Scanned xs n t s
+    → v ≡ judged xs t n (fault_in s) (row_in s) (blocks_in s) → IsChecked xs t v
 checked_of xs t n s v e S j = is-checked xs t s (rw e at S) v (rw e at j)
+
+-- What is returned at each place.
+module _ (xs t : List ℕ) (n : ℕ) (some : n ≡ 0 → ⊥) (p : Result ℕ FaultyRow) (v : Verdict) where
+  pub judged_fault : (f : FaultyRow) (k : ℕ) → p ≡ Err f → k ≡ number f.fault → v ≡ refused k f.row → v ≡ judged xs t n (fault_in p) (row_in p) (blocks_in p)
+  unfolding judged
+  judged_fault f k e q z = rw e (eq_no _ _ _ _ _ some (eq_no _ _ _ _ _ (some_number f.fault) (z ∙ ap (λ (x : ℕ). refused x f.row) q)))
+
+  module _ (blocks : ℕ) (e : p ≡ Ok blocks) (ends : ℕ) (q : ends ≡ place_from (passes_at 9 xs t blocks) t 0 blocks) where
+    pub judged_ends : 0 < ends → v ≡ refused 9 ends → v ≡ judged xs t n (fault_in p) (row_in p) (blocks_in p)
+    unfolding judged
+    judged_ends h z = rw e (eq_no _ _ _ _ _ some (eq_yes _ _ _ _ _ refl (eq-no' _ _ _ _ _ _ q (λ w. omega arith) (z ∙ ap (refused 9) q))))
+
+    module _ (none : ends ≡ 0) (totals : ℕ) (q' : totals ≡ place_from (passes_at 10 xs t blocks) t 0 blocks) where
+      pub judged_totals : 0 < totals → v ≡ refused 10 totals → v ≡ judged xs t n (fault_in p) (row_in p) (blocks_in p)
+      unfolding judged
+      judged_totals h z =
+          rw e (eq_no _ _ _ _ _ some (eq_yes _ _ _ _ _ refl (eq-yes' _ _ _ _ _ _ q none (eq-no' _ _ _ _ _ _ q' (λ w. omega arith) (z ∙ ap (refused 10) q')))))
+
+      pub judged_fine : totals ≡ 0 → v ≡ Accepted → v ≡ judged xs t n (fault_in p) (row_in p) (blocks_in p)
+      unfolding judged
+      judged_fine h z = rw e (eq_no _ _ _ _ _ some (eq_yes _ _ _ _ _ refl (eq-yes' _ _ _ _ _ _ q none (eq-yes' _ _ _ _ _ _ q' h z))))

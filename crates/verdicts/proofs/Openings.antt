@@ -13,9 +13,8 @@ use Rattle.model.specs.Limits.{max_blocks, max_rows, max_total}
 use Rattle.model.specs.Rows.{Row, cell, row_at, rows_from, row_count, rows_of}
 use Rattle.model.specs.Rules.{fault}
 use Rattle.model.specs.Blocks.{Block, joins_of, own_of, total, add_row, add_rows, blocks_of}
-use Rattle.model.specs.Verdicts.{refused, opening_rows, check_blocks, may_stand, total_fits}
+use Rattle.model.specs.Verdicts.{refused, opening_rows, check_blocks, may_stand, total_fits, Accepted}
 use Rattle.model.specs.Behind.{opening_row}
-use Rattle.model.specs.declared.Verdict.TheVariants.{Accepted}
 use Rattle.basics.proofs.Choices.{eq_then, eq_else, lt_then, lt_else, true_then, true_else}
 use Rattle.shows.proofs.Accepted.{opening-length, other_length}
 use Rattle.shows.proofs.Passed.{faultless, Kind, opens, links, uses, kind-of}

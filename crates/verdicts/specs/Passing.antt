@@ -1,16 +1,17 @@
 -- What the pass over the rows does at each row, as the code does it. Rows are counted from 0 here.
-use Rattle.std.specs.Prelude.{ℕ, zero, suc, ◌+◌, ◌*◌, ◌/◌, ◌%◌, ◌≤◌, ◌<◌, ◌≡◌, Bool, true, false, List, [], length, get_or, set, replicate}
+use Rattle.std.specs.Prelude.{ℕ, zero, suc, ◌+◌, ◌*◌, ◌/◌, ◌%◌, ◌≤◌, ◌<◌, ◌≡◌, Bool, true, false, List, [], length, get_or, set, replicate, Result, Ok, Err}
 use Rattle.model.specs.Choice.{if_lt, if_eq, if_true}
 use Rattle.model.specs.Limits.{row_size, max_joins, max_own, max_rows, max_total}
 use Rattle.model.specs.Rows.{row_at, rows_from}
 use Rattle.model.specs.Rules.{Seen, start, fault, after}
 use Rattle.model.specs.Blocks.{Block, add_row}
-use Rattle.model.specs.Verdicts.{refused, check_rows, verdict}
-use Rattle.model.specs.declared.Verdict.{Verdict}
-use Rattle.model.specs.declared.Verdict.TheVariants.{Accepted}
+use Rattle.model.specs.Verdicts.{refused, check_rows, verdict, Verdict, Accepted}
 use Rattle.verdicts.specs.Index.{index_size, Indexed}
-use Rattle.verdicts.specs.declared.State.{State}
-use Rattle.verdicts.specs.declared.Scan.{Scan}
+use Rattle.rules.specs.Numbers.{number}
+use Rattle.rules.specs.declared.faults.State.{State}
+use Rattle.verdicts.specs.declared.FaultyRow.{FaultyRow}
+use Rattle.verdicts.specs.declared.BlockCheck.{BlockCheck}
+use Rattle.verdicts.specs.declared.BlockCheck.TheVariants.{Ends, Total}
 
 -- A total, or one more than the largest where it is too large.
 unfoldable pub capped : ℕ → ℕ
@@ -51,7 +52,16 @@ row_indexed t block kind label own r =
     (if_eq kind 1 (put_at (put_at t (block * 4 + 2) (r + 1)) (block * 4 + 1) (r + 1))
     (use_indexed (put_at t (block * 4 + 2) (r + 1)) (block * 4) label))
 
-unfoldable pub next_state : List ℕ → ℕ → State → State
+-- What is carried from row to row, in numbers, and the code's state as that.
+pub record Carried : Type 0 where
+  pub blocks : ℕ
+  pub cues : ℕ
+  pub kind : ℕ
+
+abbrev pub carried : State → Carried
+carried s = record { blocks = s.blocks; cues = s.cues; kind = s.kind }
+
+unfoldable pub next_state : List ℕ → ℕ → Carried → Carried
 next_state xs p s =
     if_eq (get_or xs (p + 1) 0) 0
     (record { blocks = s.blocks + 1; cues = cues_of (get_or xs (p + 3) 0) (get_or xs (p + 2) 0); kind = get_or xs (p + 1) 0 })
@@ -62,7 +72,7 @@ unfoldable pub seen_to : List ℕ → ℕ → Seen
 seen_to xs zero = start
 seen_to xs (suc r) = after (seen_to xs r) (row_at xs r)
 
-unfoldable pub state_to : List ℕ → ℕ → State
+unfoldable pub state_to : List ℕ → ℕ → Carried
 state_to xs zero = record { blocks = 0; cues = 0; kind = 0 }
 state_to xs (suc r) = next_state xs (r * row_size) (state_to xs r)
 
@@ -79,13 +89,26 @@ blocks_to xs (suc r) = add_row (blocks_to xs r) (row_at xs r)
 abbrev pub Fine : List ℕ → ℕ → Type 0
 Fine xs r = (q : ℕ) → q < r → fault (seen_to xs q) (row_at xs q) ≡ 0
 
+-- What the pass found, in numbers: its fault and that row, or 0; and how many blocks were opened.
+abbrev pub fault_in : Result ℕ FaultyRow → ℕ
+fault_in (Ok blocks) = 0
+fault_in (Err f) = number f.fault
+
+abbrev pub row_in : Result ℕ FaultyRow → ℕ
+row_in (Ok blocks) = 0
+row_in (Err f) = f.row
+
+abbrev pub blocks_in : Result ℕ FaultyRow → ℕ
+blocks_in (Ok blocks) = blocks
+blocks_in (Err f) = 0
+
 -- What the pass says of n rows.
-pub record Scanned (xs : List ℕ) (n : ℕ) (t : List ℕ) (r : Scan) : Type 0 where
-  pub found : (r.fault ≡ 0 → ⊥) → check_rows start 1 (rows_from xs 0 n) ≡ refused r.fault r.row
-  pub passed : r.fault ≡ 0 → check_rows start 1 (rows_from xs 0 n) ≡ Accepted
-  pub fine : r.fault ≡ 0 → Fine xs n
-  pub table : r.fault ≡ 0 → t ≡ table_to xs n
-  pub blocks : r.fault ≡ 0 → r.blocks ≡ (state_to xs n).blocks
+pub record Scanned (xs : List ℕ) (n : ℕ) (t : List ℕ) (r : Result ℕ FaultyRow) : Type 0 where
+  pub found : (fault_in r ≡ 0 → ⊥) → check_rows start 1 (rows_from xs 0 n) ≡ refused (fault_in r) (row_in r)
+  pub passed : fault_in r ≡ 0 → check_rows start 1 (rows_from xs 0 n) ≡ Accepted
+  pub fine : fault_in r ≡ 0 → Fine xs n
+  pub table : fault_in r ≡ 0 → t ≡ table_to xs n
+  pub blocks : fault_in r ≡ 0 → blocks_in r ≡ (state_to xs n).blocks
 
 -- Checks 9 and 10 of block k, by the table.
 unfoldable pub own_at : List ℕ → List ℕ → ℕ → ℕ
@@ -99,6 +122,10 @@ stands_at xs t blocks k =
 
 unfoldable pub fits_at : List ℕ → ℕ → Bool
 fits_at t k = if_lt max_total (get_or t (k * 4 + 3) 0) false true
+
+abbrev pub check_number : BlockCheck → ℕ
+check_number Ends = 9
+check_number Total = 10
 
 unfoldable pub passes_at : ℕ → List ℕ → List ℕ → ℕ → ℕ → Bool
 passes_at number xs t blocks k = if_eq number 9 (stands_at xs t blocks k) (fits_at t k)

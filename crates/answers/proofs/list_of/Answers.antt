@@ -7,8 +7,8 @@ returns-then-not-known c = list_no _ _ _ _ c.is_cue-known.ensures c.count.ensure
 
 pub find-place-requires : goal.find-place-requires
 find-place-requires c =
-    find_asks _ _ _ _ c.is_cue-known.ensures c.count.ensures _ c.requires c.if-not-known.false
+    find_asks _ _ _ _ c.is_cue-known.ensures c.count.ensures c.if-not-known.false
 
 pub returns : goal.returns
 returns c =
-    list_done _ _ _ _ c.is_cue-known.ensures c.count.ensures _ _ _ _ _ _ c.if-not-known.false c.find-place.ensures.0 c.list-listed.ensures
+    list_done _ _ _ _ c.is_cue-known.ensures c.count.ensures _ _ _ _ _ _ c.if-not-known.false c.find-place.ensures.0 c.list.ensures

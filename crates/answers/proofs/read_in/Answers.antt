@@ -5,18 +5,18 @@ use Rattle.blocks.proofs.Loaded.{loaded-show}
 use Rattle.answers.proofs.Answering.{read-room, read_done, rows_few}
 use Rattle.answers.proofs.read_in.Goals as goal
 
-pub returns-then-rows-numbers : goal.returns-then-rows-numbers
-returns-then-rows-numbers c = search (read-room, rules)
+pub returns-then-rows-show : goal.returns-then-rows-show
+returns-then-rows-show c = search (read-room, rules)
 
-pub narrow-many-requires : goal.narrow-many-requires
-narrow-many-requires c = omega (arith, rows_few _ c.requires.accepted)
+pub overflow_cast-many : goal.overflow_cast-many
+overflow_cast-many c = omega (arith, rows_few _ c.args.show.now.loaded.accepted)
 
-pub overflow_add-last : goal.overflow_add-last
-overflow_add-last c = omega (arith, c.last.ensures.1, (loaded-show c.requires).blocks)
+pub overflow_add-blocks : goal.overflow_add-blocks
+overflow_add-blocks c = omega (arith, c.last.ensures.1, (loaded-show c.args.show.now.loaded).blocks)
 
-pub narrow-blocks-requires : goal.narrow-blocks-requires
-narrow-blocks-requires c =
-    omega (arith, c.last.ensures.1, (loaded-show c.requires).blocks)
+pub overflow_cast-blocks : goal.overflow_cast-blocks
+overflow_cast-blocks c =
+    omega (arith, c.last.ensures.1, (loaded-show c.args.show.now.loaded).blocks)
 
 pub returns : goal.returns
 returns c = search (read_done, rules)

@@ -15,8 +15,8 @@ emit-requires c =
     let few = rows_few _ c.requires in
     (few.0, few.1, omega (arith, c.measure-size.ensures))
 
-pub narrow-requires : goal.narrow-requires
-narrow-requires c =
+pub overflow_cast-result : goal.overflow_cast-result
+overflow_cast-result c =
     omega (arith, text-few _ _ c.requires c.measure-size.ensures)
 
 pub returns : goal.returns

@@ -3,20 +3,20 @@ use mathlib.Core.Path.{refl}
 use Rattle.behind.proofs.Starting.{not_seen, starts, may_start}
 use Rattle.behind.proofs.behind.Goals as goal
 
-pub returns-then-c-eq0 : goal.returns-then-c-eq0
-returns-then-c-eq0 c =
-    let pre = c.requires in
-    not_seen pre.0 pre.1 _ c.descend-z.ensures _ _ _ c.seen-c.ensures _ pre.3 c.if-c-eq0.true refl
+pub returns-in_err-c : goal.returns-in_err-c
+returns-in_err-c c =
+    rw c.from_residual.ensures
+    (not_seen c.args.show.now.loaded c.requires.0 _ c.descend-z.ensures c.args.inward _ _ c.in_err-c.ensures c.requires.2 refl)
 
 pub walk-requires : goal.walk-requires
 walk-requires c =
     let pre = c.requires in
-    let p = c.pair_of-start.ensures in
-    (pre.0, may_start pre.0 pre.1 _ c.descend-z.ensures _ _ _ c.seen-c.ensures c.if-c-eq0.false _ p.0 p.1 p.2 c.levels.ensures pre.2)
+    let seen = c.in_ok-c.ensures in
+    let p = c.new-start.ensures in
+    may_start c.args.show.now.loaded pre.0 _ c.descend-z.ensures _ _ _ seen.1 seen.0 _ p.0 p.1 p.2 c.levels.ensures pre.1
 
 pub returns : goal.returns
 returns c =
-    let pre = c.requires in
-    let p = c.pair_of-start.ensures in
-    c.walk.ensures _ _
-    (starts pre.0 pre.1 _ c.descend-z.ensures _ _ _ c.seen-c.ensures c.if-c-eq0.false _ p.0 p.1 p.2)
+    let seen = c.in_ok-c.ensures in
+    let p = c.new-start.ensures in
+    c.walk.ensures _ _ (starts c.args.show.now.loaded c.requires.0 _ c.descend-z.ensures _ _ _ seen.1 seen.0 _ p.0 p.1 p.2)

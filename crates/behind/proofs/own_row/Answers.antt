@@ -1,25 +1,24 @@
 -- `own_row`: the answer from row r on is the answer.
-use borrow.Author.Rules.{rules}
 use native.Mathlib.Omega.{arith}
+use mathlib.Core.Path.{sym}
 use Rattle.behind.proofs.Seeing.{row-hit, row_from_is, row-to, row-none}
 use Rattle.behind.proofs.own_row.Goals as goal
-use Rattle.behind.proofs.own_row.Goals.{then-from-x+else-to-y, else-from-x}
+use Rattle.behind.proofs.own_row.Goals.{else-from-x-via-then-from-x+else-to-y, else-from-x-via-else-from-x}
 
 pub returns-then-to-y : goal.returns-then-to-y
-returns-then-to-y c =
-    let inv = c.loop-r.invariant in
-    row-hit _ _ _ _ _ c.loop-r-test.true _ _ _ c.from.ensures c.if-from-x.true c.to.ensures c.if-to-y.true inv.1
+returns-then-to-y c = (
+  λ e. omega arith,
+  sym (row-hit _ _ _ _ _ c.loop-r-test.true _ _ _ c.from.ensures c.if-from-x.true c.to.ensures c.if-to-y.true c.loop-r.invariant),
+)
 
 pub loop-r-preserved : goal.loop-r-preserved
 loop-r-preserved c =
-    let inv = c.loop-r.invariant in (
-      omega arith,
-      elim c.if-from-x.branch [
-        | then-from-x+else-to-y w ↦
-            row-to _ _ _ _ _ c.loop-r-test.true _ _ _ c.from.ensures w.if-from-x.true w.to.ensures w.if-to-y.false inv.1
-        | else-from-x w ↦ row_from_is _ _ _ _ _ c.loop-r-test.true _ _ c.from.ensures w.if-from-x.false inv.1
-      ],
-    )
+    let inv = c.loop-r.invariant in
+    elim c.else-from-x.branch [
+      | else-from-x-via-then-from-x+else-to-y w ↦
+          row-to _ _ _ _ _ c.loop-r-test.true _ _ _ c.from.ensures w.if-from-x.true w.to.ensures w.if-to-y.false inv
+      | else-from-x-via-else-from-x w ↦ row_from_is _ _ _ _ _ c.loop-r-test.true _ _ c.from.ensures w.if-from-x.false inv
+    ]
 
 pub returns : goal.returns
-returns c = search (row-none, rules)
+returns c = row-none _ _ _ _ _ _ c.loop-r-test.false c.loop-r.invariant

@@ -6,11 +6,11 @@ use Rattle.blocks.proofs.join_at.Goals as goal
 pub loop-i-init : goal.loop-i-init
 loop-i-init c = search (sought_begin, rules)
 
-pub returns-then-column-c : goal.returns-then-column-c
-returns-then-column-c c = search (join_at_stop, rules)
+pub returns-then-column-c-clause-value : goal.returns-then-column-c-clause-value
+returns-then-column-c-clause-value c = search (join_at_stop, rules)
 
 pub loop-i-preserved : goal.loop-i-preserved
 loop-i-preserved c = search (sought_on, rules)
 
-pub returns : goal.returns
-returns c = search (join_at_done, rules)
+pub returns-clause-value : goal.returns-clause-value
+returns-clause-value c = search (join_at_done, rules)

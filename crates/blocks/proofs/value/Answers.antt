@@ -11,13 +11,13 @@ pub overflow_add-result : goal.overflow_add-result
 unfolding row_count cell
 overflow_add-result c = search rules
 
-pub offset_bounds-xs-r : goal.offset_bounds-xs-r
+pub offset_bounds-rows-r : goal.offset_bounds-rows-r
 unfolding row_count cell
-offset_bounds-xs-r c = search rules
+offset_bounds-rows-r c = search rules
 
-pub bounds-xs-r : goal.bounds-xs-r
+pub bounds-rows-r : goal.bounds-rows-r
 unfolding row_count cell
-bounds-xs-r c = search rules
+bounds-rows-r c = search rules
 
 pub returns : goal.returns
 unfolding row_count cell

@@ -1,13 +1,13 @@
--- The length of a file, value by value. The loop's invariant: the bytes of the values before place i.
+-- The length of a file, value by value.
 use borrow.Author.Rules.{rules}
 use Rattle.codec.proofs.RowStores.{width_begin, width_turn, width_end}
 use Rattle.codec.proofs.measure.Goals as goal
 
-pub loop-i-init : goal.loop-i-init
-loop-i-init c = (search rules, search rules, search (width_begin, rules))
+pub loop-v-init : goal.loop-v-init
+loop-v-init c = (search rules, search (width_begin, rules))
 
-pub loop-i-preserved : goal.loop-i-preserved
-loop-i-preserved c = (search rules, search rules, search (width_turn, rules))
+pub loop-v-preserved : goal.loop-v-preserved
+loop-v-preserved c = (search rules, search (width_turn, rules))
 
 pub returns : goal.returns
 returns c = search (width_end, rules)

@@ -1,15 +1,13 @@
--- The lines of rows are stored row by row. The loop's invariant: what is left of them from row r on.
-use Prim.Native.Nat.{◌-◌, ◌≤◌}
+-- The lines of rows are stored row by row. The loop's invariant: what is left of them is the lines of the rows that are left.
 use mathlib.Core.Path.{◌≡◌}
-use lib.ListN.{length}
-use Rattle.model.specs.Rows.{rows_from, row_lines}
+use Rattle.model.specs.Limits.{row_size}
+use Rattle.model.specs.Rows.{rows_of, row_lines}
 use Rattle.codec.proofs.Stores.{Stored}
 use Rattle.codec.proofs.put_lines.Given as goal
 
-abbrev pub invariant-loop-r : goal.invariant-loop-r
-invariant-loop-r l =
-    (l.r ≤ l.n) × (length l.out ≡ length l.initial.out)
-    × Stored (row_lines (rows_from l.xs 0 l.n)) (row_lines (rows_from l.xs l.r (l.n - l.r))) l.initial.out l.from l.at l.out
-
-abbrev pub decreases-loop-r : goal.decreases-loop-r
-decreases-loop-r l = l.n - l.r
+abbrev pub invariant-loop-row : goal.invariant-loop-row
+invariant-loop-row l =
+    record {
+      size : l.row-iterator.size ≡ row_size;
+      stored : Stored (row_lines (rows_of l.rows)) (row_lines (rows_of l.row-iterator.rest.now)) l.initial.out 0 l.at l.out;
+    }

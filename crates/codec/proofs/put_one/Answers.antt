@@ -4,13 +4,9 @@ use Rattle.codec.specs.Writing.{one}
 use Rattle.codec.proofs.DigitStores.{puts_one}
 use Rattle.codec.proofs.put_one.Goals as goal
 
-pub bounds-out-at : goal.bounds-out-at
+pub bounds-out-0 : goal.bounds-out-0
 unfolding one
-bounds-out-at c = search rules
-
-pub overflow_add-result : goal.overflow_add-result
-unfolding one
-overflow_add-result c = search rules
+bounds-out-0 c = search rules
 
 pub returns : goal.returns
 returns c = search (puts_one, rules)

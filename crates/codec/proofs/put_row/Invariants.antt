@@ -1,15 +1,8 @@
--- A row's line is stored value by value. The loop's invariant: what is left of it from value c on.
-use Prim.Native.Nat.{◌-◌, ◌≤◌}
-use mathlib.Core.Path.{◌≡◌}
-use lib.ListN.{length}
+-- A row's line is stored value by value. The loop's invariant: what is left of it from the next value on.
 use Rattle.codec.specs.Writing.{row_text}
 use Rattle.codec.proofs.RowStores.{row_left}
 use Rattle.codec.proofs.Spills.{Spilled}
 use Rattle.codec.proofs.put_row.Given as goal
 
-abbrev pub invariant-loop-c : goal.invariant-loop-c
-invariant-loop-c l =
-    (l.c ≤ 10) × (length l.out ≡ length l.initial.out) × Spilled (row_text l.xs l.r) (row_left l.xs l.r l.c) l.initial.out l.from l.at l.out
-
-abbrev pub decreases-loop-c : goal.decreases-loop-c
-decreases-loop-c l = 10 - l.c
+abbrev pub invariant-loop-v : goal.invariant-loop-v
+invariant-loop-v l = Spilled (row_text l.row 0) (row_left l.row l.v-index) l.initial.out 0 l.at l.out

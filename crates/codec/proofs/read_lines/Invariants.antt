@@ -3,8 +3,8 @@ use Rattle.std.proofs.Common.{◌≡◌, ◌-◌, length}
 use Rattle.codec.proofs.Sofar.{Sofar}
 use Rattle.codec.proofs.read_lines.Given as goal
 
-abbrev pub invariant-loop-at : goal.invariant-loop-at
-invariant-loop-at l = record { same : l.r.file.now ≡ l.file; sofar : Sofar l.file l.initial.rows l.r.at l.n l.rows }
+abbrev pub invariant-loop-n : goal.invariant-loop-n
+invariant-loop-n l = record { same : l.reader.file.now ≡ l.file; sofar : Sofar l.file l.initial.rows l.reader.at l.n l.rows }
 
-abbrev pub decreases-loop-at : goal.decreases-loop-at
-decreases-loop-at l = length l.file - l.r.at
+abbrev pub decreases-loop-n : goal.decreases-loop-n
+decreases-loop-n l = length l.file - l.reader.at

@@ -1,10 +1,6 @@
 -- `descend`: the loop goes one level down each turn.
-use Prim.Native.Nat.{◌-◌, ◌≤◌}
 use Rattle.copies.specs.Copies.{CopyAt}
 use Rattle.copies.proofs.descend.Given as goal
 
 abbrev pub invariant-loop-l : goal.invariant-loop-l
-invariant-loop-l l = (l.l ≤ l.depth) × CopyAt l.xs l.t l.rows l.l l.z
-
-abbrev pub decreases-loop-l : goal.decreases-loop-l
-decreases-loop-l l = l.depth - l.l
+invariant-loop-l l = CopyAt l.show.rows.now l.show.index.now l.rows l.l l.z

@@ -1,13 +1,6 @@
--- `distance::keep_row` meets its contract. The invariant: the numbers of the cues passed are their
--- estimates.
-use Prim.Native.Nat.{◌-◌, ◌≤◌}
-use mathlib.Core.Path.{◌≡◌}
-use lib.ListN.{length}
+-- `distance::keep_row` meets its contract. The invariant: the estimates passed are kept.
 use Rattle.searches.specs.Joins.{RowKept}
 use Rattle.distance.proofs.keep_row.Given as goal
 
 abbrev pub invariant-loop-j : goal.invariant-loop-j
-invariant-loop-j l = (l.j ≤ l.m) × (length l.v ≡ length l.initial.v) × RowKept l.initial.v l.i l.d l.p l.j l.v
-
-abbrev pub decreases-loop-j : goal.decreases-loop-j
-decreases-loop-j l = l.m - l.j
+invariant-loop-j g l = let m = g.N.Number in RowKept (m.values l.initial.v) l.i (m.values l.e) 0 l.j (m.values l.v)

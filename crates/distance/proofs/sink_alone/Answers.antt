@@ -1,26 +1,13 @@
--- `distance::sink_alone` meets its contract. The invariant: the estimates tell the least at level l too, whatever cue they are
--- about that no copy below the first level has.
-use borrow.Author.Rules.{rules}
-use native.Mathlib.Omega.{arith}
-use Rattle.distance.proofs.Counting.{summaries-known}
-use Rattle.searches.proofs.Ways.{sinking_begin, sinking_uses, sinking_on, sinking_done}
+-- `distance::sink_alone` meets its contract. The invariant: the estimates tell the least at level l too, whatever cue they are about that no copy below the first level has.
+use Rattle.std.proofs.Common.{arith}
+use Rattle.searches.proofs.Ways.{sinking_begin, sinking_on, sinking_done}
 use Rattle.distance.proofs.sink_alone.Goals as goal
 
-pub loop-l-preserved : goal.loop-l-preserved
-loop-l-preserved c = (
-  search rules,
-  sinking_on c.loop-l.invariant.1 (omega arith) c.enter.ensures c.block_on.ensures.0
-      c.settle.ensures,
-)
-
 pub loop-l-init : goal.loop-l-init
-loop-l-init c = (search rules, search (sinking_begin, summaries-known, rules))
+loop-l-init g c = sinking_begin c.requires.0.table.known c.requires.0.found c.requires.1
 
-pub enter-requires : goal.enter-requires
-enter-requires c = (search rules, search (sinking_uses, rules), search rules)
-
-pub block_on-requires : goal.block_on-requires
-block_on-requires c = (search rules, search (sinking_uses, rules))
+pub loop-l-preserved : goal.loop-l-preserved
+loop-l-preserved g c = sinking_on c.loop-l.invariant (omega arith) c.enter.ensures c.block_on.ensures.0 c.settle.ensures
 
 pub returns : goal.returns
-returns c = search (sinking_done, rules)
+returns g c = sinking_done c.loop-l.invariant (omega arith)

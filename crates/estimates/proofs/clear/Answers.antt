@@ -1,14 +1,13 @@
--- `estimates::clear` meets its contract. The invariant: the cues passed have no estimate.
-use native.Mathlib.Omega.{arith}
-use borrow.Author.Rules.{rules}
-use Rattle.searches.proofs.Starts.{fill_begin, fill_on, started_blank}
+-- `estimates::clear` meets its contract.
+use Rattle.std.proofs.Common.{arith, ◌≡◌, ◌+◌, length, take}
+use lib.Seq.{length-take-le}
+use Rattle.searches.proofs.Starts.{started_blank}
+use Rattle.estimates.proofs.Numbers.{filled}
 use Rattle.estimates.proofs.clear.Goals as goal
 
-pub loop-c-init : goal.loop-c-init
-loop-c-init c = (search rules, search rules, fill_begin _ _)
-
-pub loop-c-preserved : goal.loop-c-preserved
-loop-c-preserved c = (search rules, search rules, fill_on c.loop-c.invariant.2 (omega arith))
-
 pub returns : goal.returns
-returns c = started_blank c.loop-c.invariant.2 (omega arith)
+returns g c =
+    let m = g.met.N.Number in
+    let n = c.args.n + 1 in
+    let size : length (take n c.args.d.now) ≡ n = length-take-le n c.args.d.now (omega arith) in
+    rw (c.fill.ensures.after (m.copied _).1, size, c.NONE.ensures, filled m.each n _ _, m.none) (started_blank _ _ n _ (omega arith))

@@ -1,21 +1,14 @@
--- `estimates::put_met` meets its contract. The invariant: the estimates of the cues passed are put
--- in.
-use borrow.Author.Rules.{rules}
-use Rattle.searches.proofs.Starts.{column-few, column-within, met-begin, met-on, met-done}
+-- `estimates::put_met` meets its contract. The invariant: the estimates of the cues passed are put in.
+use Rattle.std.proofs.Common.{rules, arith}
+use Rattle.searches.proofs.Starts.{met-begin, met-on}
 use Rattle.searches.proofs.Lowering.{fell_begin, fell_on}
+use Rattle.estimates.proofs.Numbers.{read}
 use Rattle.estimates.proofs.put_met.Goals as goal
 
 pub loop-i-init : goal.loop-i-init
-loop-i-init c = (search rules, search rules, met-begin _ _ _ _ _, fell_begin _)
-
-pub column-requires : goal.column-requires
-column-requires c = (search rules, search (column-few, rules))
-
-pub put-f-requires : goal.put-f-requires
-put-f-requires c = search (column-within, rules)
+loop-i-init g c = (met-begin _ _ _ _ _, fell_begin _)
 
 pub loop-i-preserved : goal.loop-i-preserved
-loop-i-preserved c = (search rules, search rules, search (met-on, rules), search (fell_on, rules))
-
-pub returns : goal.returns
-returns c = (search (met-done, rules), search rules)
+loop-i-preserved g c =
+    let k = read g.met.N.Number.each c.args.kept.now _ c.index-kept-i.result c.index-kept-i.is (search rules) in
+    (met-on _ _ _ _ _ c.loop-i.invariant.0 c.column.ensures c.wide.ensures.0 (rw k at c.put-fell.ensures.0) (omega arith), search (fell_on, rules))

@@ -6,11 +6,11 @@ use Rattle.lines.proofs.line_at.Goals as goal
 pub loop-c-init : goal.loop-c-init
 loop-c-init c = search (line_begin, rules)
 
-pub returns-in_default : goal.returns-in_default
-returns-in_default c = search (line_bad, rules)
+pub returns-in_err-v : goal.returns-in_err-v
+returns-in_err-v c = search (line_bad, rules)
 
 pub loop-c-preserved : goal.loop-c-preserved
-loop-c-preserved c = (search rules, search rules, search (line_turn, rules))
+loop-c-preserved c = (search rules, search (line_turn, rules))
 
 pub returns : goal.returns
 returns c = search (line_end, rules)

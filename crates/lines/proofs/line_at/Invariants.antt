@@ -1,5 +1,4 @@
 -- A line at a place. The loop's invariant: the line is the values in the row so far, and what is read for the ends that are left.
-use Prim.Native.Nat.{◌-◌, ◌≤◌}
 use mathlib.Core.Path.{◌≡◌}
 use lib.ListN.{length, take, drop}
 use Rattle.shows.specs.Files.{ends_of}
@@ -8,7 +7,4 @@ use Rattle.lines.proofs.line_at.Given as goal
 
 abbrev pub invariant-loop-c : goal.invariant-loop-c
 invariant-loop-c l =
-    (l.c ≤ l.n) × (length l.row ≡ l.n) × (line_at (ends_of l.n) l.text l.from ≡ behind (take l.c l.row) (line_at (drop l.c (ends_of l.n)) l.text l.at))
-
-abbrev pub decreases-loop-c : goal.decreases-loop-c
-decreases-loop-c l = l.n - l.c
+    (length l.row ≡ l.n) × (line_at (ends_of l.n) l.text l.from ≡ behind (take l.c l.row) (line_at (drop l.c (ends_of l.n)) l.text l.at))

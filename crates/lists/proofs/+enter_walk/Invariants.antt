@@ -1,7 +1,5 @@
 -- The walk of a copy and that of a use call each other; the block number falls.
-use Prim.Native.Nat.{◌+◌, ◌*◌, ◌-◌, ◌≤◌}
-use mathlib.Core.Path.{◌≡◌}
-use lib.ListN.{length}
+use Prim.Native.Nat.{◌+◌, ◌*◌}
 use Rattle.lists.specs.Walks.{UsesGoing}
 use Rattle.lists.proofs.+enter_walk.Given as goal
 
@@ -13,7 +11,4 @@ decreases-walk l = 2 * l.y.block + 1
 
 abbrev pub invariant-walk-loop-r : goal.invariant-walk-loop-r
 invariant-walk-loop-r l =
-    (l.rows.first ≤ l.r) × (l.r ≤ l.rows.end) × (length l.page ≡ length l.initial.page) × UsesGoing l.q l.xs l.t l.y l.initial.page l.w l.r l.b l.page l.g
-
-abbrev pub decreases-walk-loop-r : goal.decreases-walk-loop-r
-decreases-walk-loop-r l = l.rows.end - l.r
+    UsesGoing l.question.ask l.question.show.rows.now l.question.show.index.now l.y l.initial.page l.w l.r l.b l.page l.g

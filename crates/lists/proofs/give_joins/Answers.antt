@@ -3,14 +3,14 @@ use borrow.Author.Rules.{rules}
 use Rattle.lists.proofs.Joins.{joins-begin, joins-on, joins-done, next-falls}
 use Rattle.lists.proofs.give_joins.Goals as goal
 
-pub loop-q-init : goal.loop-q-init
-loop-q-init c = search (joins-begin, rules)
+pub loop-x-init : goal.loop-x-init
+loop-x-init c = search (joins-begin, rules)
 
-pub returns-then-x-eq0 : goal.returns-then-x-eq0
-returns-then-x-eq0 c = search (joins-done, rules) fits 20000
+pub loop-x-smaller : goal.loop-x-smaller
+loop-x-smaller c = next-falls _ _ _ _ _ c.in-Some.ensures (search rules)
 
-pub loop-q-smaller : goal.loop-q-smaller
-loop-q-smaller c = search (next-falls, rules)
+pub loop-x-preserved : goal.loop-x-preserved
+loop-x-preserved c = joins-on _ _ _ _ _ _ _ _ _ _ _ _ c.loop-x.invariant c.in-Some.ensures c.give-g.ensures
 
-pub loop-q-preserved : goal.loop-q-preserved
-loop-q-preserved c = search (joins-on, rules) fits 20000
+pub returns : goal.returns
+returns c = joins-done _ _ _ _ _ _ _ _ _ _ c.loop-x.invariant c.next_join.ensures c.in_default.is

@@ -9,7 +9,7 @@ use Rattle.lists.proofs.give_own.Given as goal
 
 abbrev pub invariant-loop-d : goal.invariant-loop-d
 invariant-loop-d l =
-    (1 ≤ l.d) × (l.d ≤ l.own + 1) × (l.g ≤ l.q.room + 1) × (length l.page ≡ length l.initial.page) × Gives l.q.room l.initial.page l.w (own_list l.q l.s (l.at + bits_at) l.base (l.d - 1)) l.page l.g
+    (1 ≤ l.d) × (l.d ≤ l.own + 1) × (l.g ≤ l.q.room + 1) × (length l.page ≡ length l.initial.page) × Gives l.q.room l.initial.page l.w (own_list l.q l.s bits_at l.base (l.d - 1)) l.page l.g
 
 abbrev pub decreases-loop-d : goal.decreases-loop-d
 decreases-loop-d l = l.own + 1 - l.d

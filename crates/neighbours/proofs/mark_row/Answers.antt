@@ -1,13 +1,10 @@
 -- `mark_row`: the loop marks by one column more each turn.
 use borrow.Author.Rules.{rules}
-use Rattle.neighbours.proofs.Marks.{row-begin, row_on, row_done, added-long}
+use Rattle.neighbours.proofs.Marks.{row-begin, row_done}
 use Rattle.neighbours.proofs.mark_row.Goals as goal
 
 pub loop-j-init : goal.loop-j-init
 loop-j-init c = search (row-begin, rules)
-
-pub loop-j-preserved : goal.loop-j-preserved
-loop-j-preserved c = search (row_on, added-long, rules)
 
 pub returns : goal.returns
 returns c = search (row_done, rules)

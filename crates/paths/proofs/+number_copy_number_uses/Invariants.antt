@@ -1,5 +1,5 @@
 -- `number_copy` and `number_uses` call each other, and the block number falls from a copy to the next.
-use Prim.Native.Nat.{◌+◌, ◌*◌, ◌-◌}
+use Prim.Native.Nat.{◌+◌, ◌*◌}
 use Rattle.paths.proofs.Numbers.{Steps}
 use Rattle.paths.proofs.+number_copy_number_uses.Given as goal
 
@@ -10,7 +10,4 @@ abbrev pub decreases-number_uses : goal.decreases-number_uses
 decreases-number_uses l = 2 * l.k
 
 abbrev pub invariant-number_uses-loop-r : goal.invariant-number_uses-loop-r
-invariant-number_uses-loop-r l = Steps l.xs l.t l.path l.k l.base l.done l.first l.end l.p l.at l.r l.b
-
-abbrev pub decreases-number_uses-loop-r : goal.decreases-number_uses-loop-r
-decreases-number_uses-loop-r l = l.at - l.r
+invariant-number_uses-loop-r l = Steps l.show.rows.now l.show.index.now l.k l.base l.first l.end l.p l.step l.at l.r l.b

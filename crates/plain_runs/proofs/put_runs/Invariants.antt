@@ -1,16 +1,8 @@
 -- The blocks are put one by one. The loop's invariant: what is left of them from block k on.
-use Prim.Native.Nat.{◌*◌, ◌-◌}
-use mathlib.Core.Path.{◌≡◌}
-use lib.ListN.{length}
-use Rattle.model.specs.Limits.{row_size, desk_blocks}
 use Rattle.model.specs.Desk.{built_in_numbers}
 use Rattle.codec.proofs.Stores.{Stored}
 use Rattle.plain_runs.proofs.Runs.{runs_left}
 use Rattle.plain_runs.proofs.put_runs.Given as goal
 
 abbrev pub invariant-loop-k : goal.invariant-loop-k
-invariant-loop-k l =
-    (length l.numbers ≡ length l.initial.numbers) × Stored built_in_numbers (runs_left l.k) l.initial.numbers 0 (l.n * row_size) l.numbers
-
-abbrev pub decreases-loop-k : goal.decreases-loop-k
-decreases-loop-k l = desk_blocks - l.k
+invariant-loop-k l = Stored built_in_numbers (runs_left l.k) l.initial.numbers 0 l.at l.numbers

@@ -1,12 +1,14 @@
 -- `quickest::search_in` meets its contract.
-use borrow.Author.Rules.{rules}
-use mathlib.Core.Path.{◌∙◌}
-use Rattle.quickest.proofs.Sums.{area-zeros}
+use Rattle.std.proofs.Common.{rules}
+use Rattle.searches.proofs.Ways.{own_room}
+use Rattle.quickest.proofs.Sums.{quickest-is, area-zeros}
 use Rattle.quickest.proofs.search_in.Goals as goal
+
+pub bounds-d-wide : goal.bounds-d-wide
+bounds-d-wide c = search (own_room, rules)
 
 pub returns : goal.returns
 returns c = (
-  search rules,
-  area-zeros c.sum_blocks.new.work _ c.put_zeros.ensures
-      (c.sum_blocks.auto.work ∙ c.requires.4),
+  rw c.wide.ensures.0 (quickest-is c.args.show.now.loaded c.args.prices.now.right c.requires.1 _ _ c.reach.ensures),
+  area-zeros c.sum_blocks.new.work _ (c.fill.ensures.after (λ y e. e)) (search rules),
 )

@@ -1,13 +1,8 @@
 -- `relax::lower_line` meets its contract. The invariant: the estimates passed are lowered.
-use Prim.Native.Nat.{◌-◌, ◌≤◌}
-use mathlib.Core.Path.{◌≡◌}
-use lib.ListN.{length}
-use Rattle.model.specs.Limits.{no_chain, summary_width}
 use Rattle.searches.specs.Lines.{Line}
 use Rattle.relax.proofs.lower_line.Given as goal
 
 abbrev pub invariant-loop-j : goal.invariant-loop-j
-invariant-loop-j l = (l.j ≤ summary_width) × (length l.e ≡ summary_width) × Line no_chain l.work l.q l.x l.initial.e l.j l.e
-
-abbrev pub decreases-loop-j : goal.decreases-loop-j
-decreases-loop-j l = summary_width - l.j
+invariant-loop-j g l =
+    let m = g.N.Number in
+    Line m.inf (m.values l.weights) 0 (m.value l.x) (m.values l.initial.e) l.j (m.values l.e)

@@ -1,14 +1,9 @@
--- `relax::lower_lines` meets its contract. The invariant: the estimates are lowered by the lines
--- passed.
-use Prim.Native.Nat.{◌-◌, ◌≤◌}
-use mathlib.Core.Path.{◌≡◌}
-use lib.ListN.{length}
-use Rattle.model.specs.Limits.{no_chain, summary_width}
+-- `relax::lower_lines` meets its contract. The invariant: the estimates are lowered by the lines passed.
+use Rattle.model.specs.Limits.{summary_width}
 use Rattle.searches.specs.Lines.{Lines}
 use Rattle.relax.proofs.lower_lines.Given as goal
 
 abbrev pub invariant-loop-i : goal.invariant-loop-i
-invariant-loop-i l = (l.i ≤ summary_width) × (length l.e ≡ summary_width) × Lines no_chain summary_width l.work l.q l.g l.initial.e l.i l.e
-
-abbrev pub decreases-loop-i : goal.decreases-loop-i
-decreases-loop-i l = summary_width - l.i
+invariant-loop-i g l =
+    let m = g.N.Number in
+    Lines m.inf summary_width (m.values l.weights) 0 (m.values l.g) (m.values l.initial.e) l.i (m.values l.e)

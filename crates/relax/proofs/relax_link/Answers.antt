@@ -1,10 +1,11 @@
 -- `relax::relax_link` meets its contract.
-use borrow.Author.Rules.{rules}
-use Rattle.searches.proofs.Edges.{link-note, link-one}
+use Rattle.std.proofs.Common.{arith}
+use Rattle.searches.proofs.Edges.{link-note, link-taken}
 use Rattle.relax.proofs.relax_link.Goals as goal
 
-pub returns-then-label-gt-MAX_FOLLOWED : goal.returns-then-label-gt-MAX_FOLLOWED
-returns-then-label-gt-MAX_FOLLOWED c = link-note _ _ _ c.label.ensures (search rules) (λ n w p. p.0)
+pub returns-then-not-followed : goal.returns-then-not-followed
+returns-then-not-followed g c = link-note _ _ _ c.label-label.ensures (omega arith) (g.met.P.Prices.followed _)
 
 pub returns : goal.returns
-returns c = search (link-one, rules)
+returns g c =
+    link-taken _ _ c.improve.ensures c.wide-u.ensures.0 c.from.ensures c.wide-v.ensures.0 c.to.ensures c.label-label.ensures c.of.ensures c.weight.ensures

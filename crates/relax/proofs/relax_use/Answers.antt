@@ -1,14 +1,10 @@
 -- `relax::relax_use` meets its contract.
-use borrow.Author.Rules.{rules}
-use Rattle.searches.proofs.Starts.{meets-as}
-use Rattle.searches.proofs.Edges.{mesh_loop, mesh_as}
+use Rattle.std.proofs.Common.{arith}
+use Rattle.searches.proofs.Edges.{mesh_loop, mesh_two, mesh_as}
 use Rattle.relax.proofs.relax_use.Goals as goal
 
-pub returns-then-m-lt2 : goal.returns-then-m-lt2
-returns-then-m-lt2 c = search (mesh_loop, rules)
+pub returns-in-0 : goal.returns-in-0
+returns-in-0 g c = mesh_loop _ _ _ _ _ _ (omega arith)
 
-pub relax_pair-requires : goal.relax_pair-requires
-relax_pair-requires c = (search (meets-as, rules), search rules)
-
-pub returns-then-m-eq2 : goal.returns-then-m-eq2
-returns-then-m-eq2 c = search (mesh_as, rules)
+pub returns-in-2 : goal.returns-in-2
+returns-in-2 g c = mesh_as _ _ _ _ (mesh_two _ _ _ _ c.relax_between.ensures) c.in-2.is

@@ -1,13 +1,8 @@
 -- `relax::relax_uses` meets its contract. The invariant: a round over the use rows passed.
-use Prim.Native.Nat.{◌-◌, ◌≤◌}
-use mathlib.Core.Path.{◌≡◌}
-use lib.ListN.{length}
 use Rattle.searches.proofs.Edges.{UsesOver}
 use Rattle.relax.proofs.relax_uses.Given as goal
 
 abbrev pub invariant-loop-r : goal.invariant-loop-r
-invariant-loop-r l =
-    (l.rows.first ≤ l.r) × (l.r ≤ l.rows.end) × (length l.d ≡ length l.initial.d) × UsesOver l.xs l.work l.rows.first l.r l.initial.d l.changed l.d
-
-abbrev pub decreases-loop-r : goal.decreases-loop-r
-decreases-loop-r l = l.rows.end - l.r
+invariant-loop-r g l =
+    let m = g.N.Number in
+    UsesOver l.show.rows.now (m.values l.work) l.initial.r l.r (m.values l.initial.d) l.changed (m.values l.d)

@@ -1,15 +1,13 @@
--- `relax::settle` meets its contract. The invariant: every change so far was by an edge that
--- improved an estimate. The measure: the sum of the estimates.
-use mathlib.Core.Path.{◌≡◌}
-use lib.ListN.{length}
+-- `relax::settle` meets its contract. The invariant: every change so far was by an edge that improved an estimate. The measure: the sum of the estimates.
 use Rattle.model.specs.Blocks.{blocks_of}
-use Rattle.distances.specs.Walks.{each-one}
 use Rattle.searches.specs.Rounds.{sum, Runs}
 use Rattle.searches.specs.Edges.{BlockEdge}
 use Rattle.relax.proofs.settle.Given as goal
 
-abbrev pub invariant-loop-more : goal.invariant-loop-more
-invariant-loop-more l = (length l.d ≡ length l.initial.d) × Runs (BlockEdge each-one (blocks_of l.xs) l.work l.k) l.initial.d l.d
+abbrev pub invariant-rounds : goal.invariant-rounds
+invariant-rounds g l =
+    let m = g.N.Number in
+    Runs (BlockEdge (g.P.Prices.price l.prices) (blocks_of l.show.rows.now) (m.values l.work) l.k) (m.values l.initial.d) (m.values l.d)
 
-abbrev pub decreases-loop-more : goal.decreases-loop-more
-decreases-loop-more l = sum l.d
+abbrev pub decreases-rounds : goal.decreases-rounds
+decreases-rounds g l = sum (g.N.Number.values l.d)

@@ -1,10 +1,8 @@
--- Numbers are copied one by one. The loop's invariant: those before place i are there.
+-- The numbers at the beginning are those of the other list, and the rest stays.
 use borrow.Author.Rules.{rules}
-use Rattle.rows.proofs.Copying.{copy-on, copy_done}
+use Rattle.model.specs.Lists.{overwrite}
 use Rattle.rows.proofs.copy.Goals as goal
 
-pub loop-i-preserved : goal.loop-i-preserved
-loop-i-preserved c = search (copy-on, rules)
-
 pub returns : goal.returns
-returns c = search (copy_done, rules)
+unfolding overwrite
+returns c = search rules

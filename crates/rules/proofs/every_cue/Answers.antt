@@ -1,19 +1,12 @@
--- `rules::every_cue` meets its contract.
-use borrow.Author.Rules.{rules}
-use Rattle.rules.proofs.Tests.{every-begin, every-stop, every-on, every-done, cue-low, cue-high, cue-yes}
+-- `rules::every_cue` meets its contract: the chain tests each number, as the rule does.
+use Rattle.std.proofs.Common.{rules, tests, ◌∙◌}
+use Rattle.std.proofs.lemmas.Iterator.{YieldsList-from_slice}
+use Rattle.std.proofs.lemmas.Iterator.Search.{all_from_yields_List}
+use Rattle.model.specs.Rules.{is_cue}
+use Rattle.rules.proofs.Tests.{every-all, cue-low, cue-high, cue-yes}
 use Rattle.rules.proofs.every_cue.Goals as goal
 
-pub loop-i-init : goal.loop-i-init
-loop-i-init c = search (every-begin, rules)
-
-pub returns-then-x-lt1 : goal.returns-then-x-lt1
-returns-then-x-lt1 c = search (every-stop, cue-low, rules)
-
-pub returns-then-cues-x : goal.returns-then-cues-x
-returns-then-cues-x c = search (every-stop, cue-high, rules)
-
-pub loop-i-preserved : goal.loop-i-preserved
-loop-i-preserved c = search (every-on, cue-yes, rules)
-
 pub returns : goal.returns
-returns c = search (every-done, rules)
+returns c =
+    all_from_yields_List (is_cue c.args.cues) _ _ _ c.all.ensures.ran (YieldsList-from_slice c.args.named.now cc) (λ x b q k. search (cue-low, cue-high, cue-yes, rules, tests))
+    ∙ every-all _ _

@@ -1,32 +1,30 @@
 -- `rules::link_fault` meets its contract: each return is a branch of the definition.
-use borrow.Author.Rules.{rules}
+use Rattle.std.proofs.Common.{rules}
 use Rattle.rules.specs.Faults.{link_fault}
 use Rattle.rules.proofs.Tests.{faults}
 use Rattle.rules.proofs.link_fault.Goals as goal
+use Rattle.rules.proofs.link_fault.Goals.{then-block-seen-via-then-block-seen, then-block-seen-via-else-block-seen+then-block-seen-2, then-block-seen-via-else-block-seen+else-block-seen-2+then-seen, then-label-lt1-via-then-label-lt1, then-label-lt1-via-else-label-lt1+then-label-gt-MAX_LABEL}
 
-pub returns-then-block-blocks : goal.returns-then-block-blocks
+pub returns-then-block-seen : goal.returns-then-block-seen
 unfolding link_fault
-returns-then-block-blocks c = search (faults, rules) depth 14
-
-pub returns-then-block-blocks-2 : goal.returns-then-block-blocks-2
-unfolding link_fault
-returns-then-block-blocks-2 c = search (faults, rules) depth 14
-
-pub returns-then-before-ge2 : goal.returns-then-before-ge2
-unfolding link_fault
-returns-then-before-ge2 c = search (faults, rules) depth 14
+returns-then-block-seen c =
+    elim c.then-block-seen.branch [
+      | then-block-seen-via-then-block-seen w ↦ search (faults, rules) depth 14
+      | then-block-seen-via-else-block-seen+then-block-seen-2 w ↦ search (faults, rules) depth 14
+      | then-block-seen-via-else-block-seen+else-block-seen-2+then-seen w ↦ search (faults, rules) depth 14
+    ]
 
 pub returns-then-label-lt1 : goal.returns-then-label-lt1
 unfolding link_fault
-returns-then-label-lt1 c = search (faults, rules) depth 14
+returns-then-label-lt1 c =
+    elim c.then-label-lt1.branch [
+      | then-label-lt1-via-then-label-lt1 w ↦ search (faults, rules) depth 14
+      | then-label-lt1-via-else-label-lt1+then-label-gt-MAX_LABEL w ↦ search (faults, rules) depth 14
+    ]
 
-pub returns-then-label-gt-MAX_LABEL : goal.returns-then-label-gt-MAX_LABEL
+pub returns-in_err-named_fault : goal.returns-in_err-named_fault
 unfolding link_fault
-returns-then-label-gt-MAX_LABEL c = search (faults, rules) depth 14
-
-pub returns-then-k-ne0 : goal.returns-then-k-ne0
-unfolding link_fault
-returns-then-k-ne0 c = search (faults, rules) depth 14
+returns-in_err-named_fault c = search (faults, rules) depth 14
 
 pub returns : goal.returns
 unfolding link_fault

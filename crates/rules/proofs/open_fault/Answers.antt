@@ -1,28 +1,30 @@
 -- `rules::open_fault` meets its contract: each return is a branch of the definition.
-use borrow.Author.Rules.{rules}
+use native.Mathlib.Omega.{arith}
+use Rattle.std.proofs.Common.{rules}
 use Rattle.rules.specs.Faults.{open_fault}
-use Rattle.rules.proofs.Tests.{faults}
+use Rattle.rules.proofs.Tests.{faults, columns-eight}
 use Rattle.rules.proofs.open_fault.Goals as goal
+use Rattle.rules.proofs.open_fault.Goals.{then-block-blocks-via-then-block-blocks, then-block-blocks-via-else-block-blocks+then-blocks-ge-MAX_BLOCKS, then-label-gt-MAX_JOINS-via-then-label-gt-MAX_JOINS, then-label-gt-MAX_JOINS-via-else-label-gt-MAX_JOINS+then-own-gt-MAX_OWN, then-label-gt-MAX_JOINS-via-else-label-gt-MAX_JOINS+else-own-gt-MAX_OWN+then-not-every_zero}
 
-pub returns-then-xs-p : goal.returns-then-xs-p
-unfolding open_fault
-returns-then-xs-p c = search (faults, rules) depth 14
+pub every_zero-requires : goal.every_zero-requires
+every_zero-requires c = columns-eight _ _ 1 0 _ c.columns.ensures (omega arith)
 
-pub returns-then-blocks-ge-MAX_BLOCKS : goal.returns-then-blocks-ge-MAX_BLOCKS
+pub returns-then-block-blocks : goal.returns-then-block-blocks
 unfolding open_fault
-returns-then-blocks-ge-MAX_BLOCKS c = search (faults, rules) depth 14
+returns-then-block-blocks c =
+    elim c.then-block-blocks.branch [
+      | then-block-blocks-via-then-block-blocks w ↦ search (faults, rules) depth 14
+      | then-block-blocks-via-else-block-blocks+then-blocks-ge-MAX_BLOCKS w ↦ search (faults, rules) depth 14
+    ]
 
-pub returns-then-xs-p-gt-MAX_JOINS : goal.returns-then-xs-p-gt-MAX_JOINS
+pub returns-then-label-gt-MAX_JOINS : goal.returns-then-label-gt-MAX_JOINS
 unfolding open_fault
-returns-then-xs-p-gt-MAX_JOINS c = search (faults, rules) depth 14
-
-pub returns-then-xs-p-gt-MAX_OWN : goal.returns-then-xs-p-gt-MAX_OWN
-unfolding open_fault
-returns-then-xs-p-gt-MAX_OWN c = search (faults, rules) depth 14
-
-pub returns-then-every_zero : goal.returns-then-every_zero
-unfolding open_fault
-returns-then-every_zero c = search (faults, rules) depth 14
+returns-then-label-gt-MAX_JOINS c =
+    elim c.then-label-gt-MAX_JOINS.branch [
+      | then-label-gt-MAX_JOINS-via-then-label-gt-MAX_JOINS w ↦ search (faults, rules) depth 14
+      | then-label-gt-MAX_JOINS-via-else-label-gt-MAX_JOINS+then-own-gt-MAX_OWN w ↦ search (faults, rules) depth 14
+      | then-label-gt-MAX_JOINS-via-else-label-gt-MAX_JOINS+else-own-gt-MAX_OWN+then-not-every_zero w ↦ search (faults, rules) depth 14
+    ]
 
 pub returns : goal.returns
 unfolding open_fault

@@ -1,24 +1,25 @@
 -- `rules::use_fault` meets its contract: each return is a branch of the definition.
-use borrow.Author.Rules.{rules}
+use Rattle.std.proofs.Common.{rules}
 use Rattle.rules.specs.Faults.{use_fault}
 use Rattle.rules.proofs.Tests.{faults}
 use Rattle.rules.proofs.use_fault.Goals as goal
+use Rattle.rules.proofs.use_fault.Goals.{then-block-seen-via-then-block-seen, then-block-seen-via-else-block-seen+then-block-seen-2}
 
-pub returns-then-block-blocks : goal.returns-then-block-blocks
+pub returns-then-block-seen : goal.returns-then-block-seen
 unfolding use_fault
-returns-then-block-blocks c = search (faults, rules) depth 14
+returns-then-block-seen c =
+    elim c.then-block-seen.branch [
+      | then-block-seen-via-then-block-seen w ↦ search (faults, rules) depth 14
+      | then-block-seen-via-else-block-seen+then-block-seen-2 w ↦ search (faults, rules) depth 14
+    ]
 
-pub returns-then-block-blocks-2 : goal.returns-then-block-blocks-2
+pub returns-then-label-block : goal.returns-then-label-block
 unfolding use_fault
-returns-then-block-blocks-2 c = search (faults, rules) depth 14
+returns-then-label-block c = search (faults, rules) depth 14
 
-pub returns-then-xs-p : goal.returns-then-xs-p
+pub returns-in_err-named_fault : goal.returns-in_err-named_fault
 unfolding use_fault
-returns-then-xs-p c = search (faults, rules) depth 14
-
-pub returns-then-k-ne0 : goal.returns-then-k-ne0
-unfolding use_fault
-returns-then-k-ne0 c = search (faults, rules) depth 14
+returns-in_err-named_fault c = search (faults, rules) depth 14
 
 pub returns : goal.returns
 unfolding use_fault

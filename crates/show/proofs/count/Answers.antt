@@ -1,19 +1,19 @@
--- `show::count` meets its contract.
+-- `show::count`: what is answered of a loaded show, and the refusal of rows that are none.
 use borrow.Author.Rules.{rules}
+use Rattle.std.proofs.lemmas.Result.{err_from_is_err_and}
 use Rattle.model.specs.Answers.{of_count}
 use Rattle.model.specs.Questions.{count_asked}
-use Rattle.loading.proofs.Checked.{loaded, asked_no}
+use Rattle.loading.proofs.Checked.{asked_no}
 use Rattle.show.proofs.Counting.{count_yes}
 use Rattle.show.proofs.count.Goals as goal
 
-pub count-requires : goal.count-requires
+pub returns : goal.returns
 unfolding of_count count_asked
-count-requires c = search (loaded, rules)
+returns c = search (count_yes, rules)
 
-pub returns-in-Accepted : goal.returns-in-Accepted
+pub returns-in_err-check : goal.returns-in_err-check
 unfolding of_count count_asked
-returns-in-Accepted c = search (count_yes, rules)
-
-pub returns-in-Refused : goal.returns-in-Refused
-unfolding of_count count_asked
-returns-in-Refused c = search (asked_no, rules)
+returns-in_err-check c =
+    let p = err_from_is_err_and c.from_residual.result c.from_residual.ensures.1 in
+    let e = c.in_err-check.was in
+    rw (p.1, p.2) (search (asked_no, rules))

@@ -1,19 +1,19 @@
--- `show::list` meets its contract.
+-- `show::list`: what is answered of a loaded show, and the refusal of rows that are none.
 use borrow.Author.Rules.{rules}
+use Rattle.std.proofs.lemmas.Result.{err_from_is_err_and}
 use Rattle.model.specs.Answers.{of_list}
 use Rattle.model.specs.Questions.{refuse}
 use Rattle.answers.specs.Asked.{list_asked}
-use Rattle.loading.proofs.Checked.{loaded, asked_yes, asked_no}
+use Rattle.loading.proofs.Checked.{asked_yes, asked_no}
 use Rattle.show.proofs.list.Goals as goal
 
-pub list_of-requires : goal.list_of-requires
+pub returns : goal.returns
 unfolding list_asked of_list refuse
-list_of-requires c = search (loaded, rules)
+returns c = search (asked_yes, rules)
 
-pub returns-in-Accepted : goal.returns-in-Accepted
+pub returns-in_err-check : goal.returns-in_err-check
 unfolding list_asked of_list refuse
-returns-in-Accepted c = search (asked_yes, rules)
-
-pub returns-in-Refused : goal.returns-in-Refused
-unfolding list_asked of_list refuse
-returns-in-Refused c = search (asked_no, rules)
+returns-in_err-check c =
+    let p = err_from_is_err_and c.from_residual.result c.from_residual.ensures.1 in
+    let e = c.in_err-check.was in
+    rw (p.1, p.2) (search (asked_no, rules))

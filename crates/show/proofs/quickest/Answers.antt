@@ -1,18 +1,18 @@
--- `show::quickest` meets its contract.
+-- `show::quickest`: what is answered of a loaded show, and the refusal of rows that are none.
 use borrow.Author.Rules.{rules}
+use Rattle.std.proofs.lemmas.Result.{err_from_is_err_and}
 use Rattle.model.specs.Questions.{quickest_asked}
-use Rattle.loading.proofs.Checked.{loaded, asked_yes}
+use Rattle.loading.proofs.Checked.{asked_yes}
 use Rattle.show.proofs.Timing.{quickest-no}
 use Rattle.show.proofs.quickest.Goals as goal
 
-pub quickest_in-requires : goal.quickest_in-requires
+pub returns : goal.returns
 unfolding quickest_asked
-quickest_in-requires c = search (loaded, rules)
+returns c = search (asked_yes, rules)
 
-pub returns-in-Accepted : goal.returns-in-Accepted
+pub returns-in_err-check : goal.returns-in_err-check
 unfolding quickest_asked
-returns-in-Accepted c = search (asked_yes, rules)
-
-pub returns-in-Refused : goal.returns-in-Refused
-unfolding quickest_asked
-returns-in-Refused c = search (quickest-no, rules)
+returns-in_err-check c =
+    let p = err_from_is_err_and c.from_residual.result c.from_residual.ensures.1 in
+    let e = c.in_err-check.was in
+    rw (p.1, p.2) (search (quickest-no, rules))

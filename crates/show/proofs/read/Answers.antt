@@ -1,22 +1,26 @@
 -- `show::read` meets its contract.
 use borrow.Author.Rules.{rules}
+use Rattle.std.proofs.lemmas.Result.{err_from_is_err_and}
 use Rattle.model.specs.Questions.{read_asked}
 use Rattle.loading.proofs.Outcomes.{rows-room, part-loaded}
 use Rattle.show.proofs.Reading.{read-loaded, read-unloaded}
 use Rattle.show.proofs.read.Goals as goal
 
-pub slice_bounds-read_in-end : goal.slice_bounds-read_in-end
+pub slice_bounds-show-end : goal.slice_bounds-show-end
 unfolding read_asked
-slice_bounds-read_in-end c = search (rows-room, rules)
+slice_bounds-show-end c = let e = c.in_ok-end.was in search (rows-room, rules)
 
-pub read_in-requires : goal.read_in-requires
+pub invariant_of-show : goal.invariant_of-show
 unfolding read_asked
-read_in-requires c = search (part-loaded, rules)
+invariant_of-show c = let e = c.in_ok-end.was in record { loaded = search (part-loaded, rules) }
 
-pub returns-in-Ready : goal.returns-in-Ready
+pub returns : goal.returns
 unfolding read_asked
-returns-in-Ready c = search (read-loaded, rules)
+returns c = let e = c.in_ok-end.was in search (read-loaded, rules)
 
-pub returns-in-Refused : goal.returns-in-Refused
+pub returns-in_err-end : goal.returns-in_err-end
 unfolding read_asked
-returns-in-Refused c = search (read-unloaded, rules)
+returns-in_err-end c =
+    let p = err_from_is_err_and c.from_residual.result c.from_residual.ensures.1 in
+    let e = c.in_err-end.was in
+    rw (p.1, p.2) (search (read-unloaded, rules))

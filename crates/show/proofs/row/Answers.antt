@@ -1,18 +1,18 @@
--- `show::row` meets its contract.
+-- `show::row`: what is answered of a loaded show, and the refusal of rows that are none.
 use borrow.Author.Rules.{rules}
+use Rattle.std.proofs.lemmas.Result.{err_from_is_err_and}
 use Rattle.model.specs.Answers.{of_row}
 use Rattle.model.specs.Questions.{refuse, row_asked}
-use Rattle.loading.proofs.Checked.{loaded, asked_yes, asked_no}
+use Rattle.loading.proofs.Checked.{asked_yes, asked_no}
 use Rattle.show.proofs.row.Goals as goal
 
-pub row_in-requires : goal.row_in-requires
+pub returns : goal.returns
 unfolding row_asked of_row refuse
-row_in-requires c = search (loaded, rules)
+returns c = search (asked_yes, rules)
 
-pub returns-in-Accepted : goal.returns-in-Accepted
+pub returns-in_err-check : goal.returns-in_err-check
 unfolding row_asked of_row refuse
-returns-in-Accepted c = search (asked_yes, rules)
-
-pub returns-in-Refused : goal.returns-in-Refused
-unfolding row_asked of_row refuse
-returns-in-Refused c = search (asked_no, rules)
+returns-in_err-check c =
+    let p = err_from_is_err_and c.from_residual.result c.from_residual.ensures.1 in
+    let e = c.in_err-check.was in
+    rw (p.1, p.2) (search (asked_no, rules))

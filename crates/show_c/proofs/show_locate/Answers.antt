@@ -1,24 +1,24 @@
 -- `show_c::show_locate` meets its contract.
 use borrow.Author.Rules.{rules}
 use mathlib.Core.Path.{refl}
+use Rattle.std.specs.Prelude.{Ok, Err}
 use Rattle.model.specs.Answers.{of_locate}
-use Rattle.model.specs.declared.LocateAnswer.TheVariants.{Found, Refused}
 use Rattle.show_c.proofs.Telling.{wrote_short, wrote, told-refused, told-value}
 use Rattle.show_c.proofs.show_locate.Goals as goal
 
 pub returns-then-given-lt-GIVEN_SIZE : goal.returns-then-given-lt-GIVEN_SIZE
 returns-then-given-lt-GIVEN_SIZE c = wrote_short _ _ _ _ _ (search rules) (search rules)
 
-pub returns-in-Found : goal.returns-in-Found
+pub returns-in-Ok : goal.returns-in-Ok
 unfolding of_locate
-returns-in-Found c =
+returns-in-Ok c =
     let asked = c.locate in
     wrote _ _ _ _ _ _ _ _ (search rules) asked.ensures
-    (told-value of_locate asked.result (Found _ _ _) _ _ _ _ c.tell_3.ensures refl (search rules))
+    (told-value of_locate asked.result (Ok _) _ _ _ _ c.tell.ensures refl (search rules))
 
-pub returns-in-Refused : goal.returns-in-Refused
+pub returns-in-Err : goal.returns-in-Err
 unfolding of_locate
-returns-in-Refused c =
+returns-in-Err c =
     let asked = c.locate in
     wrote _ _ _ _ _ _ _ _ (search rules) asked.ensures
-    (told-refused of_locate asked.result (Refused _) _ _ _ _ (search rules) c.refused.ensures (search rules) refl (search rules))
+    (told-refused of_locate asked.result (Err _) _ _ _ _ (search rules) c.refused.ensures (search rules) refl (search rules))

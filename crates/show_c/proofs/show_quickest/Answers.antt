@@ -1,8 +1,8 @@
 -- `show_c::show_quickest` meets its contract.
 use borrow.Author.Rules.{rules}
 use mathlib.Core.Path.{refl}
+use Rattle.std.specs.Prelude.{Ok, None}
 use Rattle.model.specs.Answers.{halves, of_quickest}
-use Rattle.model.specs.declared.QuickestAnswer.TheVariants.{None}
 use Rattle.show_c.proofs.Telling.{wrote_short, wrote, told-value, told-tenths, told-placed}
 use Rattle.show_c.proofs.show_quickest.Goals as goal
 
@@ -10,21 +10,21 @@ pub returns-then-given-lt-GIVEN_SIZE : goal.returns-then-given-lt-GIVEN_SIZE
 returns-then-given-lt-GIVEN_SIZE c = wrote_short _ _ _ _ _ (search rules) (search rules)
 
 -- t is the place behind the telling.
-pub returns-in-Tenths : goal.returns-in-Tenths
-returns-in-Tenths c =
+pub returns-in-Ok-Some : goal.returns-in-Ok-Some
+returns-in-Ok-Some c =
     let asked = c.quickest in
     wrote _ _ _ _ _ _ _ _ (search rules) asked.ensures
-    (told-tenths asked.result c.in-Tenths.n _ _ _ _ _ c.tell_3.ensures (search rules) (search rules) (search rules))
+    (told-tenths asked.result c.in-Ok-Some.n _ _ _ _ _ c.tell.ensures (search rules) (search rules) (search rules))
 
-pub returns-in-None : goal.returns-in-None
+pub returns-in-Ok-None : goal.returns-in-Ok-None
 unfolding of_quickest halves
-returns-in-None c =
+returns-in-Ok-None c =
     let asked = c.quickest in
     wrote _ _ _ _ _ _ _ _ (search rules) asked.ensures
-    (told-value of_quickest asked.result None _ _ _ _ c.tell_3-in-None.ensures refl (search rules))
+    (told-value of_quickest asked.result (Ok None) _ _ _ _ c.tell-in-Ok-None.ensures refl (search rules))
 
-pub returns-in-Refused : goal.returns-in-Refused
-returns-in-Refused c =
+pub returns-in-Err : goal.returns-in-Err
+returns-in-Err c =
     let asked = c.quickest in
     wrote _ _ _ _ _ _ _ _ (search rules) asked.ensures
-    (told-placed _ _ _ _ _ _ (search rules) c.refused_at.ensures (search rules))
+    (told-placed _ _ _ _ _ (search rules) c.refused_at.ensures (search rules))

@@ -4,14 +4,14 @@ use Rattle.basics.proofs.Choices.{ifs}
 use Rattle.values.specs.Fields.{ended_at}
 use Rattle.values.proofs.ended_at.Goals as goal
 
-pub returns-then-text-i : goal.returns-then-text-i
+pub returns-in_err-get : goal.returns-in_err-get
 unfolding ended_at
-returns-then-text-i c = search (ifs, rules) depth 8
+returns-in_err-get c = search (ifs, rules) depth 8
 
-pub returns-else-text-i : goal.returns-else-text-i
+pub returns-then-branch-end : goal.returns-then-branch-end
 unfolding ended_at
-returns-else-text-i c = search (ifs, rules) depth 8
+returns-then-branch-end c = search (ifs, rules) depth 8
 
-pub returns-else-i-text : goal.returns-else-i-text
+pub returns : goal.returns
 unfolding ended_at
-returns-else-i-text c = search (ifs, rules) depth 8
+returns c = search (ifs, rules) depth 8

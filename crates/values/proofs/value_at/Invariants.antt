@@ -4,13 +4,13 @@ use mathlib.Core.Path.{◌≡◌}
 use lib.ListN.{length, drop}
 use Rattle.model.specs.Limits.{max_digits}
 use Rattle.model.specs.Values.{run}
-use Rattle.values.specs.Fields.{figure_at, value_at}
+use Rattle.values.specs.Fields.{value_at}
 use Rattle.values.proofs.Fields.{value_rest, tens}
 use Rattle.values.proofs.value_at.Given as goal
 
 abbrev pub invariant-loop-d : goal.invariant-loop-d
 invariant-loop-d l =
-    (l.at + l.n ≤ length l.text) × (l.n ≤ max_digits) × (l.v < tens l.n) × (l.d ≡ figure_at l.text (l.at + l.n))
+    (l.at + l.n ≤ length l.text) × (l.n ≤ max_digits) × (l.v < tens l.n)
     × (value_at l.text l.end l.at ≡ value_rest l.text l.end l.at l.n l.v (run (drop (l.at + l.n) l.text)))
 
 abbrev pub decreases-loop-d : goal.decreases-loop-d

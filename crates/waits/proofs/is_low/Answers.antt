@@ -4,10 +4,6 @@ use Rattle.basics.proofs.Choices.{ifs}
 use Rattle.waits.specs.Passing.{is_low}
 use Rattle.waits.proofs.is_low.Goals as goal
 
-pub returns-then-before-label : goal.returns-then-before-label
-unfolding is_low
-returns-then-before-label c = search (ifs, rules) depth 8
-
 pub returns : goal.returns
 unfolding is_low
 returns c = search (ifs, rules) depth 8

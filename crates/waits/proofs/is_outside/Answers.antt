@@ -4,14 +4,10 @@ use Rattle.model.specs.Waits.{is_outside}
 use Rattle.basics.proofs.Choices.{ifs}
 use Rattle.waits.proofs.is_outside.Goals as goal
 
-pub returns-then-label-lt1 : goal.returns-then-label-lt1
-unfolding is_outside
-returns-then-label-lt1 c = search (ifs, rules) depth 8
-
 pub returns-then-label-gt-MAX_FOLLOWED : goal.returns-then-label-gt-MAX_FOLLOWED
 unfolding is_outside
 returns-then-label-gt-MAX_FOLLOWED c = search (ifs, rules) depth 8
 
-pub returns : goal.returns
+pub returns-else-label-gt-MAX_FOLLOWED : goal.returns-else-label-gt-MAX_FOLLOWED
 unfolding is_outside
-returns c = search (ifs, rules) depth 8
+returns-else-label-gt-MAX_FOLLOWED c = search (ifs, rules) depth 8

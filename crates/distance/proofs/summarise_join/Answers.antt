@@ -1,7 +1,0 @@
--- `distance::summarise_join` meets its contract.
-use borrow.Author.Rules.{rules}
-use Rattle.distance.proofs.Summaries.{join_filled}
-use Rattle.distance.proofs.summarise_join.Goals as goal
-
-pub returns : goal.returns
-returns c = search (join_filled, rules)

@@ -1,0 +1,2 @@
+-- Laws of lists of numbers.
+pub mod Numbers

@@ -1,0 +1,7 @@
+-- The eight columns of the row before are those at its place.
+use native.Mathlib.Omega.{arith}
+use Rattle.rules.proofs.Tests.{columns-part}
+use Rattle.rules.proofs.Row.columns_before.Goals as goal
+
+pub returns : goal.returns
+returns c = columns-part _ _ _ c.args.self.whole.1 (omega arith)
