@@ -57,11 +57,17 @@ impl Wanted {
     }
 
     // Writing gives the file without the zeros that pad its values, if it is not refused.
-    fn is_written(&self, rows: &[u32], plain: &[u8]) -> bool {
+    fn is_written(&self, shown: &Shown) -> bool {
+        let mut plain = [0u8; BYTES];
+        let size = text::unpad(shown.file(), &mut plain).min(BYTES);
         let mut list = [7u8; BYTES];
         let out = &mut list[..self.size.min(BYTES)];
-        let content = if self.is_refusal() { b"" } else { plain };
-        asking::write(rows, out) == self.answer && holds(out, content, 7)
+        let content = if self.is_refusal() {
+            b""
+        } else {
+            &plain[..size]
+        };
+        asking::write(shown.rows(), out) == self.answer && holds(out, content, 7)
     }
 
     // The quickest way between two cues under a wait file clears its work area, if it is not refused.
@@ -107,10 +113,7 @@ pub fn is_right(
     let wanted = Wanted::new(case);
     match Question::from(case.question) {
         Question::Quickest => is_timed(alloc, case, shown),
-        Question::Write => {
-            let plain = text::unpadded(alloc, shown.file())?;
-            Ok(wanted.is_written(shown.rows(), plain.as_slice()))
-        }
+        Question::Write => Ok(wanted.is_written(shown)),
         question => {
             let given: Vec<u32> = Numbers::new(case.given).take(GIVEN).collect(alloc)?;
             let reads = question == Question::Read && !wanted.is_refusal();

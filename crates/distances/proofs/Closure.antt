@@ -6,10 +6,9 @@ use native.Mathlib.Omega.{arith}
 use mathlib.Core.Path.{◌≡◌, refl, sym, ◌∙◌, ap}
 use mathlib.Core.List.{List, Memᴰ}
 use lib.ListN.{length, get_or, length-map}
-use Rattle.model.specs.Blocks.{Link, Block, joins_of, total}
+use Rattle.model.specs.Blocks.{Link, joins_of, total}
 use Rattle.model.specs.Unfolding.{cue_at, renamed, links}
 use Rattle.model.specs.Lists.{range}
-use Rattle.model.specs.Summaries.{block_links}
 use Rattle.shows.specs.WellFormed.{Cue, GoodLink, GoodUse}
 use Rattle.distances.specs.Walks.{Walk, stop, step, Price, Linked}
 use Rattle.distances.proofs.Walks.{next, lone, walk_map, walk_carry, walk_lighter, walk_append, reweigh, edges, weighs_at_most}
@@ -23,11 +22,7 @@ use Rattle.shows.proofs.BlockAt.{Lower}
 use Rattle.shows.proofs.Locality.{link-part, part-clear, number-apart, meets-apart}
 use Rattle.distances.proofs.Contraction.{Crossing, local, across, contracted, from-edge, own}
 use Rattle.distances.proofs.Images.{lower, lifted}
-use Rattle.distances.specs.Tells.{Join, met_by, Local, by-link, by-use, Tells}
-
--- A walk of weight w from join i to join j of block k alone.
-abbrev pub JoinWalk : Price → List Block → ℕ → ℕ → ℕ → ℕ → Type 0
-JoinWalk price bs k i j w = Walk (Linked price (block_links bs k)) (total bs k + j) (total bs k + i) w
+use Rattle.distances.specs.Tells.{Join, met_by, Local, by-link, by-use, JoinWalk, ExactTable, Tells}
 
 module _ (price : Price) {z : Copy} (g : Sound z) where
   -- A part's join i has the number of the cue that it meets.
@@ -139,11 +134,6 @@ module _ (price : Price) {z : Copy} (g : Sound z) where
   pub of-local : {a c n : ℕ} → Walk (Local price (JoinWalk price z.blocks) z.blocks z.block) c a n
       → Walk (Linked price (all-links z)) (number z c) (number z a) n
   of-local x = walk_carry (number z) of-edge x
-
--- A table that knows the least weight between any two joins of the blocks below limit: nothing in it is wrong, and no row is lighter.
-pub record ExactTable (price : Price) (bs : List Block) (limit : ℕ) (table : ℕ → ℕ → ℕ → ℕ → Type 0) : Type 0 where
-  pub sound : (k i j w : ℕ) → k < limit → Join bs k i → Join bs k j → table k i j w → JoinWalk price bs k i j w
-  pub covers : (k i j w : ℕ) → k < limit → Join bs k i → Join bs k j → JoinWalk price bs k i j w → (x : ℕ) × table k i j x × (x ≤ w)
 
 -- No edge improves an estimate; then no walk does.
 abbrev pub Stable : (ℕ → ℕ → ℕ → Type 0) → (ℕ → ℕ) → Type 0

@@ -17,8 +17,8 @@ use Rattle.shows.proofs.Ranges.{number-own, part-use, cue_at-own, cue_at-join}
 use Rattle.shows.proofs.BlockAt.{Lower}
 use Rattle.shows.proofs.Locality.{not-inside, part-total, Under, itself, part_of, under_sound, link-under}
 use Rattle.distances.proofs.Contraction.{Through, leave, enter, region}
-use Rattle.distances.specs.Tells.{Join, met_by, Local, Tells, FromPart}
-use Rattle.distances.proofs.Closure.{join_at, ExactTable, Estimates, Covered, estimates-told, At, at-covers}
+use Rattle.distances.specs.Tells.{Join, met_by, Local, ExactTable, Tells, FromPart}
+use Rattle.distances.proofs.Closure.{join_at, Estimates, Covered, estimates-told, At, at-covers}
 
 -- The number of join i of a copy is that of the cue it meets.
 pub join_number : (z : Copy) (i : ℕ) → 1 ≤ i → number z (z.block.own + i) ≡ get_or z.met (i - 1) 0

@@ -16,9 +16,9 @@ use Rattle.shows.proofs.Ranges.{cue_at-join}
 use Rattle.shows.proofs.BlockAt.{joins_of-at, lower-at}
 use Rattle.shows.proofs.Locality.{alone_copy, alone_sound, alone_links_at}
 use Rattle.distances.specs.Walks.{Price}
-use Rattle.distances.specs.Tells.{Join, Local, InTable, Tells, Knows}
+use Rattle.distances.specs.Tells.{Join, Local, InTable, JoinWalk, ExactTable, Tells, Knows}
 use Rattle.distances.proofs.Fewest.{block-ends}
-use Rattle.distances.proofs.Closure.{ExactTable, JoinWalk, Estimates, At, at_told, told_none}
+use Rattle.distances.proofs.Closure.{Estimates, At, at_told, told_none}
 
 module _ (bs : List Block) (good : Good bs) where
   -- The number of join i of block k alone.
@@ -43,6 +43,15 @@ module _ (bs : List Block) (good : Good bs) where
     where
       cue : (n : ℕ) → Join bs k n → Cue (block_at bs k) ((block_at bs k).own + n)
       cue n h = omega (arith, h, joins_of-at bs k)
+
+  -- An exact table tells the least weights, whatever links weigh.
+  pub exact-knows : {price : Price} {inf : ℕ} {tab : ℕ → ℕ → ℕ → ℕ} {limit : ℕ} → ExactTable price bs limit (InTable inf tab)
+      → Knows price inf bs tab limit
+  exact-knows exact k i j h hi hj =
+      record {
+        reached = λ l. exact.sound k i j _ h hi hj (refl, l);
+        least = λ n w. (let (x, e, l) = exact.covers k i j n h hi hj w in omega (arith, e.0, l));
+      }
 
   -- Where links weigh at most most, and no walk that repeats no cue comes to inf, a table that tells the least weights is exact.
   module _ (price : Price) (inf most : ℕ) (tab : ℕ → ℕ → ℕ → ℕ) (light : (label w : ℕ) → price label w → w ≤ most) where

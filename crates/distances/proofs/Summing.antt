@@ -15,8 +15,8 @@ use Rattle.distances.specs.Demand.{Summarised}
 use Rattle.distances.specs.Walks.{each-one}
 use Rattle.distances.proofs.Chains.{chain-walk, walk_chain}
 use Rattle.distances.proofs.Fewest.{Starts, fewest-shortest, show_ends, block-ends, summary-has, summary-right}
-use Rattle.distances.specs.Tells.{Join, Local, Tells, InTable, distance}
-use Rattle.distances.proofs.Closure.{ExactTable, Estimates, At}
+use Rattle.distances.specs.Tells.{Join, Local, Tells, InTable, ExactTable, distance}
+use Rattle.distances.proofs.Closure.{Estimates, At}
 use Rattle.distances.proofs.Lightest.{told-far, told-lost, least-only, shortest_lightest, told-lightest}
 use Rattle.distances.proofs.Knowing.{told-exact, estimates-tells}
 

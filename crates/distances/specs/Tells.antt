@@ -31,6 +31,15 @@ FromPart bs u e a x = (i : ℕ) × Join bs u.block i × (met_by u i ≡ a) × (x
 abbrev pub InTable : ℕ → (ℕ → ℕ → ℕ → ℕ) → ℕ → ℕ → ℕ → ℕ → Type 0
 InTable inf tab k i j w = (tab k i j ≡ w) × (w < inf)
 
+-- A walk of weight w from join i to join j of block k alone.
+abbrev pub JoinWalk : Price → List Block → ℕ → ℕ → ℕ → ℕ → Type 0
+JoinWalk price bs k i j w = Walk (Linked price (block_links bs k)) (total bs k + j) (total bs k + i) w
+
+-- A table that knows the least weight between any two joins of the blocks below limit: nothing in it is wrong, and no row is lighter.
+pub record ExactTable (price : Price) (bs : List Block) (limit : ℕ) (table : ℕ → ℕ → ℕ → ℕ → Type 0) : Type 0 where
+  pub sound : (k i j w : ℕ) → k < limit → Join bs k i → Join bs k j → table k i j w → JoinWalk price bs k i j w
+  pub covers : (k i j w : ℕ) → k < limit → Join bs k i → Join bs k j → JoinWalk price bs k i j w → (x : ℕ) × table k i j x × (x ≤ w)
+
 -- x is the least weight of a walk from s to t, if that is below inf; else no walk is lighter than x.
 pub record Tells (price : Price) (E : List Link) (inf s t x : ℕ) : Type 0 where
   pub reached : x < inf → Walk (Linked price E) t s x

@@ -16,14 +16,14 @@ use blocks::{JOINS, Show, column, from, to, used, wide};
 use model::limits::MAX_BLOCKS;
 
 // A level for each two joins of a block, and of all blocks.
-const PAIRS: usize = JOINS * JOINS;
+pub const PAIRS: usize = JOINS * JOINS;
 
-const TABLE: usize = PAIRS * MAX_BLOCKS as usize;
+pub const TABLE: usize = PAIRS * MAX_BLOCKS as usize;
 
 // Levels from join to join, for each block; 0 is none.
 #[derive(Drop)]
 pub struct Table {
-    levels: [u8; TABLE],
+    pub levels: [u8; TABLE],
 }
 
 // A block and how many own cues it has: the numbers of its joins follow.

@@ -20,10 +20,9 @@ use Rattle.shows.specs.Accepted.{Show}
 use Rattle.shows.proofs.AtBlock.{joins-small}
 use Rattle.shows.proofs.BlockAt.{own_of_at}
 use Rattle.shows.proofs.Accepted.{cues-fit}
-use Rattle.distances.specs.Tells.{Join, Tells, Knows, told, InTable}
+use Rattle.distances.specs.Tells.{Join, Tells, Knows, told, InTable, ExactTable}
 use Rattle.distances.specs.Quickest.{priced, no_sum}
 use Rattle.distances.proofs.Fewest.{Starts, show_ends}
-use Rattle.distances.proofs.Closure.{ExactTable}
 use Rattle.distances.proofs.Lightest.{least-only, told-lightest}
 use Rattle.distances.proofs.Knowing.{estimates-tells, told-exact}
 use Rattle.distances.proofs.Quickest.{quickest-lightest}

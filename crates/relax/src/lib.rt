@@ -28,6 +28,10 @@ use model::limits::{MAX_FOLLOWED, SUMMARY_SIZE, SUMMARY_WIDTH};
 pub trait Prices {
     ghost price: { Self → Price };
 
+    // How often a round goes through the uses of a block from the last to the first: where its number has all these bits, the first being 0; every second one
+    // unless it is said. Each promise here holds whatever they are.
+    const BACKWARD: u32 = 1;
+
     fn weight(&self, label: u32) -> u32
         requires { label ≤ max_followed }
         ensures { Weighs (price self.now) label result };
@@ -41,6 +45,10 @@ pub struct Steps;
 
 impl Prices for Steps {
     ghost price = { λ _. each-one };
+
+    // One round in thirty-two: with none of them a chain of uses in a bad order costs a round for each cue; with every second one, a chain that goes up in many runs
+    // takes twice the rounds (docs/DECISIONS.md).
+    const BACKWARD: u32 = 31;
 
     fn weight(&self, _label: u32) -> u32 {
         1
@@ -71,7 +79,7 @@ fn lower_line<N: Number>(weights: &[N; SUMMARY_WIDTH], x: N, e: &mut [N; SUMMARY
     ensures { Line N.inf (N.values weights.now) 0 (N.value x) (N.values e.old) summary_width (N.values e.new) }
 {
     for j in 0..SUMMARY_WIDTH {
-        e[j] = e[j].lowered(x, weights[j]);
+        e[j] = e[j].lowered_in_line(x, weights[j]);
     }
 }
 
@@ -277,11 +285,12 @@ enum Order {
 }
 
 impl Order {
-    // The other order. Each promise here holds in either.
-    fn turned(self) -> Order {
-        match self {
-            Order::Forward => Order::Backward,
-            Order::Backward => Order::Forward,
+    // The order of a round, by its number. Each promise here holds in either.
+    fn of<P: Prices>(round: u32) -> Order {
+        if round & P::BACKWARD == P::BACKWARD {
+            Order::Backward
+        } else {
+            Order::Forward
         }
     }
 }
@@ -320,9 +329,8 @@ fn relax_block<N: Number, P: Prices>(
     a | c
 }
 
-// Estimates of block k until a whole round changes nothing. Every second round goes through the uses
-// from the last to the first: in one direction only, uses in a bad order would cost a round for each
-// cue.
+// Estimates of block k until a whole round changes nothing. Some rounds go through the uses from the
+// last to the first: in one direction only, uses in a bad order would cost a round for each cue.
 // Kept: a `while` and no `for`: how many rounds there are is what the loop finds out. It ends since the sum of the estimates falls.
 pub fn settle<N: Number, P: Prices>(
     show: &Show,
@@ -335,8 +343,10 @@ pub fn settle<N: Number, P: Prices>(
     ensures { SettledOver (BlockEdge (P.price prices.now) (blocks_of show.now.rows.now) (N.values work.now) k) (N.values d.old) (N.values d.new) }
 {
     let mut order = Order::Forward;
+    let mut round = 0u32;
     'rounds: while relax_block(show, prices, work, k, order, d) {
-        order = order.turned();
+        round = round.wrapping_add(1);
+        order = Order::of::<P>(round);
     }
 }
 

@@ -11,14 +11,10 @@ use lib.Bits.{bit_or, or_add_and, and_le_l, and_le_r}
 use Rattle.std.proofs.lemmas.List.{take_more, drop_more, take_all, drop_all, take-append-drop, length-take-le}
 use borrow.Author.Tests.{eq-eqb, ne_eqb}
 use Rattle.std.specs.List.{list_all, list_any}
-use Rattle.std.specs.Ordering.{partial_ordering_then, is_some_and, is_lt, nat_cmp}
-use Rattle.std.specs.Cmp.Lexicographic.{slice_partial_cmp}
-use Rattle.std.specs.Prelude.{Option, Some, Result, Ok, Err}
-use Rattle.std.specs.declared.cmp.Ordering.{Ordering}
-use Rattle.std.specs.declared.cmp.Ordering.TheVariants.{Less, Equal, Greater}
+use Rattle.std.specs.Prelude.{Result, Ok, Err}
 use Rattle.model.specs.Choice.{if_lt, if_eq, if_true}
 use Rattle.model.specs.Rules.{every, is_cue, is_zero, differs, distinct, is_below}
-use Rattle.basics.proofs.Choices.{lt_then, lt_else, eq_then, eq_else, true_then, true_else, true_yes, true_no, ifs}
+use Rattle.basics.proofs.Choices.{lt_then, lt_else, eq_then, eq_else, true_then, true_else, true_yes, true_no, lt_bool, ifs}
 use Rattle.rules.specs.Cells.{cells, key_below}
 use Rattle.rules.specs.Faults.{named_fault, or_else}
 use Rattle.rules.specs.Numbers.{said, number, kind_number, KindGiven}
@@ -262,29 +258,34 @@ module _ (l : List ℕ) where
   pub distinct-done : (i : ℕ) → length l ≤ i → distinct (take i l) ≡ true → true ≡ distinct l
   distinct-done i h e = sym (ap distinct (sym (take_all i l h)) ∙ e)
 
--- The order of two keys: the library's order of pairs of columns and a label.
-pub below : (x y : List ℕ) (a b : ℕ) → length x ≡ length y
-    → is_some_and is_lt (partial_ordering_then (slice_partial_cmp (λ v w. Some (nat_cmp v w)) x y) (Some (nat_cmp a b))) ≡ is_below (x ++ (a ∷ [])) (y ++ (b ∷ []))
-unfolding is_below if_lt if_eq
-below [] [] a b e = go (ltb a b) (eqb a b)
-  where
-    go : (t u : Bool) → is_some_and is_lt (Some (cond t Less (cond u Equal Greater))) ≡ cond t true (cond u false false)
-    go true u = refl
-    go false true = refl
-    go false false = refl
-below [] (w ∷ y) a b e = absurd (omega arith)
-below (v ∷ x) [] a b e = absurd (omega arith)
-below (v ∷ x) (w ∷ y) a b e = go (below x y a b (omega arith)) (ltb v w) (eqb v w)
-  where
-    rest : Option Ordering
-    rest = slice_partial_cmp (λ v w. Some (nat_cmp v w)) x y
+-- The order of two keys, of columns and a label: what is left of both, the first i columns taken off, says it, as long as these are the same.
+module _ (x y : List ℕ) (a b : ℕ) where
+  abbrev pub KeyRest : ℕ → Type 0
+  KeyRest i = is_below (x ++ (a ∷ [])) (y ++ (b ∷ [])) ≡ is_below (drop i x ++ (a ∷ [])) (drop i y ++ (b ∷ []))
 
-    go : is_some_and is_lt (partial_ordering_then rest (Some (nat_cmp a b))) ≡ is_below (x ++ (a ∷ [])) (y ++ (b ∷ [])) → (t u : Bool)
-        → is_some_and is_lt (partial_ordering_then (partial_ordering_then (Some (cond t Less (cond u Equal Greater))) rest) (Some (nat_cmp a b)))
-        ≡ cond t true (cond u (is_below (x ++ (a ∷ [])) (y ++ (b ∷ []))) false)
-    go h true u = refl
-    go h false true = h
-    go h false false = refl
+  key_turn : length x ≡ length y → (i : ℕ) → KeyRest i → i < length x
+      → is_below (x ++ (a ∷ [])) (y ++ (b ∷ []))
+      ≡ if_lt (get_or x i 0) (get_or y i 0) true
+      (if_eq (get_or x i 0) (get_or y i 0) (is_below (drop (i + 1) x ++ (a ∷ [])) (drop (i + 1) y ++ (b ∷ []))) false)
+  unfolding is_below
+  key_turn e i k h = k ∙ rw (drop_more x i 0 h, drop_more y i 0 (omega (arith, e, h))) refl
+
+  pub key_found : length x ≡ length y → (i : ℕ) → KeyRest i → i < length x → (get_or x i 0 ≡ get_or y i 0 → ⊥) → ltb (get_or x i 0) (get_or y i 0) ≡ is_below (x ++ (a ∷ [])) (y ++ (b ∷ []))
+  key_found e i k h n = lt_bool _ _ ∙ sym (key_turn e i k h ∙ ap (if_lt (get_or x i 0) (get_or y i 0) true) (eq_else _ _ _ _ n))
+
+  pub key_on : length x ≡ length y → (i : ℕ) → KeyRest i → i < length x → get_or x i 0 ≡ get_or y i 0 → KeyRest (i + 1)
+  key_on e i k h q = key_turn e i k h ∙ lt_else _ _ _ _ (omega (arith, q)) ∙ eq_then _ _ _ _ q
+
+  eq_last : if_eq a b false false ≡ false
+  eq_last = go (ℕ_discrete a b)
+    where
+      go : Dec (a ≡ b) → if_eq a b false false ≡ false
+      go (yes p) = eq_then _ _ _ _ p
+      go (no n) = eq_else _ _ _ _ n
+
+  pub key_done : length x ≡ length y → (i : ℕ) → KeyRest i → length x ≤ i → ltb a b ≡ is_below (x ++ (a ∷ [])) (y ++ (b ∷ []))
+  unfolding is_below
+  key_done e i k h = lt_bool a b ∙ sym (k ∙ rw (drop_all i x h, drop_all i y (omega (arith, e, h))) (ap (if_lt a b true) eq_last))
 
 -- The columns of a link or a use: what the code finds of them, check by check.
 module _ (xs : List ℕ) (p many cues : ℕ) (l : List ℕ) (e : l ≡ cells xs (p + 3) 8) (h : many ≤ 8) where

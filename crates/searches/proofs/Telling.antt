@@ -13,8 +13,8 @@ use Rattle.shows.proofs.Ranges.{part-use}
 use Rattle.shows.proofs.BlockAt.{joins_of-at}
 use Rattle.shows.proofs.Locality.{sound-lower, Under, under_sound, part_of}
 use Rattle.distances.specs.Walks.{Price}
-use Rattle.distances.specs.Tells.{Join, met_by, InTable, FromPart}
-use Rattle.distances.proofs.Closure.{ExactTable, Covered, at_told, At}
+use Rattle.distances.specs.Tells.{Join, met_by, InTable, ExactTable, FromPart}
+use Rattle.distances.proofs.Closure.{Covered, at_told, At}
 use Rattle.distances.proofs.Detours.{part_join, PartTold, up_told, BeginsFor, begins-at, begins-part, JoinsTold, down_told}
 use Rattle.verdicts.specs.Index.{use_at}
 use Rattle.blocks.specs.declared.Place.{Place}

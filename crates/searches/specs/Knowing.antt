@@ -3,8 +3,7 @@ use Rattle.std.specs.Prelude.{ℕ, ◌*◌, ◌≤◌, List, length}
 use Rattle.model.specs.Limits.{summary_size}
 use Rattle.model.specs.Blocks.{blocks_of}
 use Rattle.distances.specs.Walks.{Price}
-use Rattle.distances.specs.Tells.{InTable}
-use Rattle.distances.proofs.Closure.{ExactTable}
+use Rattle.distances.specs.Tells.{InTable, ExactTable}
 use Rattle.blocks.specs.Loaded.{Loaded}
 use Rattle.blocks.specs.Places.{Found}
 use Rattle.blocks.specs.declared.Place.{Place}

@@ -11,6 +11,6 @@ pub loop-j-preserved : goal.loop-j-preserved
 loop-j-preserved g c =
     let m = g.met.N.Number.each in
     let here : c.loop-j.j < length (g.N.Number.values c.loop-j.e) = omega (arith, count m c.loop-j.e) in
-    rw (stored m c.loop-j.e c.loop-j.j c.lowered.result)
-    (line_on _ _ _ _ _ _ _ _ _ c.loop-j.invariant c.lowered.ensures (held m c.loop-j.e _ _ (search rules))
+    rw (stored m c.loop-j.e c.loop-j.j c.lowered_in_line.result)
+    (line_on _ _ _ _ _ _ _ _ _ c.loop-j.invariant c.lowered_in_line.ensures (held m c.loop-j.e _ _ (search rules))
     (held m c.args.weights.now _ _ (search rules)) here)
