@@ -24,13 +24,22 @@ use blocks::Show;
 use estimates::{ESTIMATES, Number, clear, gather, improve, put, put_met};
 use model::limits::{MAX_FOLLOWED, SUMMARY_SIZE, SUMMARY_WIDTH};
 
+// Of rounds, the first being 0, every second one: those whose number has all these bits.
+const EVERY_SECOND: u32 = 1;
+
 // What the links that are followed weigh, by their labels.
 pub trait Prices {
     ghost price: { Self → Price };
 
-    // How often a round goes through the uses of a block from the last to the first: where its number has all these bits, the first being 0; every second one
-    // unless it is said. Each promise here holds whatever they are.
-    const BACKWARD: u32 = 1;
+    // How often a round goes through the uses of a block from the last to the first: where its number has all these bits. Each promise here holds whatever they
+    // are, so that the trait promises nothing of them.
+    // Kept: a function and no constant: of a trait that has one there is no `&dyn Prices`.
+    fn backward() -> u32
+    where
+        Self: Sized,
+    {
+        EVERY_SECOND
+    }
 
     fn weight(&self, label: u32) -> u32
         requires { label ≤ max_followed }
@@ -43,12 +52,20 @@ pub trait Prices {
 #[derive(Clone, Copy)]
 pub struct Steps;
 
+impl Steps {
+    // One round in thirty-two: with none of them a chain of uses in a bad order costs a round for each cue; with every second one, a chain that goes up in
+    // many runs takes twice the rounds (docs/DECISIONS.md).
+    pub const BACKWARD: u32 = 31;
+}
+
 impl Prices for Steps {
     ghost price = { λ _. each-one };
 
-    // One round in thirty-two: with none of them a chain of uses in a bad order costs a round for each cue; with every second one, a chain that goes up in many runs
-    // takes twice the rounds (docs/DECISIONS.md).
-    const BACKWARD: u32 = 31;
+    fn backward() -> u32
+        ensures { result ≡ 31 }
+    {
+        Steps::BACKWARD
+    }
 
     fn weight(&self, _label: u32) -> u32 {
         1
@@ -64,8 +81,19 @@ pub struct Waits<'a> {
     ghost right: { AreWaits waits.now },
 }
 
+impl<'a> Waits<'a> {
+    // Every second round: a show of 1,024 rows that was made against one direction took nearly three times as long without (docs/DECISIONS.md).
+    pub const BACKWARD: u32 = EVERY_SECOND;
+}
+
 impl<'a> Prices for Waits<'a> {
     ghost price = { λ p. priced p.waits.now };
+
+    fn backward() -> u32
+        ensures { result ≡ 1 }
+    {
+        Waits::BACKWARD
+    }
 
     fn weight(&self, label: u32) -> u32 {
         self.waits[blocks::wide(label)]
@@ -287,7 +315,7 @@ enum Order {
 impl Order {
     // The order of a round, by its number. Each promise here holds in either.
     fn of<P: Prices>(round: u32) -> Order {
-        if round & P::BACKWARD == P::BACKWARD {
+        if round & P::backward() == P::backward() {
             Order::Backward
         } else {
             Order::Forward
@@ -375,4 +403,43 @@ pub fn from_cue<N: Number, P: Prices>(
     clear_block(show, k, d);
     put(d, c, N::of(0));
     settle(show, prices, work, k, d);
+}
+
+#[cfg(test)]
+mod tests {
+    use super::*;
+
+    // Prices that say nothing of rounds.
+    struct Bare;
+
+    impl Prices for Bare {
+        ghost price = { λ _. each-one };
+
+        fn weight(&self, _label: u32) -> u32 {
+            Steps.weight(0)
+        }
+
+        ghost followed = { λ _ _ _ h. h.0 };
+    }
+
+    // What a link weighs by prices of whatever type.
+    fn weigh(prices: &dyn Prices, label: u32) -> u32
+        requires { label ≤ max_followed }
+        ensures { Weighs (price prices.now) label result }
+    {
+        prices.weight(label)
+    }
+
+    #[test]
+    fn weighs_by_dyn(rt: HostRuntime) {
+        assert_eq!(rt; weigh(&Steps, 7), 1);
+        assert_eq!(rt; weigh(&Bare, MAX_FOLLOWED), 1);
+    }
+
+    #[test]
+    fn rounds_backward(rt: HostRuntime) {
+        assert_eq!(rt; (Steps::backward(), Steps::BACKWARD), (31, 31));
+        assert_eq!(rt; (Waits::backward(), Waits::BACKWARD), (1, 1));
+        assert_eq!(rt; Bare::backward(), 1);
+    }
 }
